@@ -1,0 +1,5 @@
+pub mod Tokens
+pub mod Spelling
+pub mod NamedTree
+pub mod Grammar
+pub mod Sections

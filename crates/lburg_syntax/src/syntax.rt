@@ -1,0 +1,18 @@
+use crate::declaration::Declaration;
+use crate::rule_line::RuleLine;
+
+/// The lines of a description in order, with names as they are written.
+#[derive(Debug, Drop)]
+pub struct Syntax<'a> {
+    pub declarations: Vec<Declaration<'a>>,
+    pub rules: Vec<RuleLine<'a>>,
+}
+
+/// Why a text or line was not read.
+#[derive(Clone, Copy, Debug, PartialEq, Eq)]
+pub enum SyntaxError {
+    /// It doesn't follow the grammar.
+    BadText,
+    /// An allocation was refused.
+    Memory,
+}
