@@ -10,7 +10,7 @@ use Rattle.lburg_syntax.specs.declared.declaration.Declaration.TheVariants as de
 use Rattle.lburg_syntax.specs.declared.declaration.NamedNumber.{NamedNumber}
 use Rattle.lburg_syntax.specs.Tokens.{Tok, Word, Number, Template, Keyword, Mark}
 use Rattle.lburg_syntax.specs.Spelling.{Spells}
-use Rattle.lburg_syntax.specs.NamedTree.{MNamed, named_of, tree_then, names_in}
+use Rattle.lburg_syntax.specs.NamedTree.{MNamed, named_of, tree_then, names_in, height}
 
 pub record MRule : Type 0 where
   pub left : List ℕ
@@ -57,6 +57,10 @@ declaration_tokens (Declares ts) = Keyword (codes "term") ∷ terminal_tokens ts
 
 abbrev pub IsDeclaration : List Tok → MDeclaration → Type 0
 IsDeclaration tokens d = tokens ≡ declaration_tokens d
+
+-- a tree of the tail, in which no parenthesis opens while 499 are open
+abbrev pub IsTree : List Tok → MNamed → Type 0
+IsTree tokens t = (tokens ≡ tree_then t []) × (height t ≤ 500)
 
 -- A line is blank, or its tokens are those of one value.
 abbrev pub IsLine : {V : Type 0} → (List Tok → V → Type 0) → List ℕ → Option V → Type 0

@@ -1,5 +1,5 @@
 -- tree = name [ "(" tree [ "," tree ] ")" ]
-use Rattle.std.specs.Prelude.{ℕ, ◌+◌, List, [], ◌∷◌}
+use Rattle.std.specs.Prelude.{ℕ, ◌+◌, max, List, [], ◌∷◌}
 use Rattle.lburg_syntax.specs.declared.token.Sign.TheVariants.{Open, Close, Comma}
 use Rattle.lburg_syntax.specs.declared.named_tree.NamedTree.{NamedTree, Leaf, Unary', Binary'}
 use Rattle.lburg_syntax.specs.Tokens.{Tok, Word, Mark}
@@ -26,3 +26,9 @@ abbrev pub names_in : MNamed → ℕ
 names_in (Alone n) = 1
 names_in (Over n a) = names_in a + 1
 names_in (Both n a b) = names_in a + names_in b + 1
+
+-- how many names stand on the longest way down
+abbrev pub height : MNamed → ℕ
+height (Alone n) = 1
+height (Over n a) = height a + 1
+height (Both n a b) = max (height a) (height b) + 1
