@@ -1,0 +1,10 @@
+pub mod Tree
+pub mod Pattern
+pub mod Description
+pub mod DescriptionText
+pub mod TailText
+pub mod Derivation
+pub mod Best
+pub mod CoverText
+pub mod Shape
+pub mod Coding

@@ -1,0 +1,65 @@
+ghost use Rattle.std.specs.Prelude.{◌≡◌};
+ghost use Rattle.lburg_grammar.specs.Description.{MDescription, IsDescription};
+
+use crate::rule::Rule;
+use crate::terminal::Terminal;
+use lcc_base::{Bytes, Items};
+use std::marker::Model;
+
+/// A description: terminals, nonterminals, a start symbol and rules. It keeps the language's
+/// rules and limits.
+#[derive(Debug, Drop)]
+pub struct Description {
+    terminals: Items<Terminal>,
+    nonterminals: Items<Bytes>,
+    start: u16,
+    rules: Items<Rule>,
+}
+
+impl Model for Description {
+    ghost use Rattle.lburg_grammar.specs.Description.{MDescription, IsDescription};
+    ghost use Rattle.lburg_grammar.specs.contracts.pattern.Pattern as pattern;
+    ghost use Rattle.std.specs.Coded.{codes};
+
+    ghost Value = { MDescription };
+
+    ghost coded = { Prim.hlevel (codes, pattern.the_row.coded) };
+
+    ghost view = { λ d. record { terminals = d.terminals; nonterminals = d.nonterminals; start = d.start; rules = d.rules } };
+
+    ghost invariant = { λ d. IsDescription (record { terminals = d.terminals; nonterminals = d.nonterminals; start = d.start; rules = d.rules }) };
+}
+
+impl Description {
+    /// The terminals in the order of their declarations.
+    pub fn terminals(&self) -> &[Terminal]
+        ensures value { result.now ≡ self.now.terminals }
+        ensures is { IsDescription self.now }
+    {
+        self.terminals.as_slice()
+    }
+
+    /// The names of the nonterminals in the order of their first rules.
+    pub fn nonterminals(&self) -> &[Bytes]
+        ensures value { result.now ≡ self.now.nonterminals }
+        ensures is { IsDescription self.now }
+    {
+        self.nonterminals.as_slice()
+    }
+
+    /// The start symbol's place among the nonterminals, from 0.
+    pub fn start(&self) -> u16
+        ensures value { result ≡ self.now.start }
+        ensures is { IsDescription self.now }
+    {
+        self.start
+    }
+
+    /// The rules in order; the first has the number 1.
+    pub fn rules(&self) -> &[Rule]
+        ensures value { result.now ≡ self.now.rules }
+        ensures is { IsDescription self.now }
+    {
+        self.rules.as_slice()
+    }
+}
