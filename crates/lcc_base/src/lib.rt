@@ -1,10 +1,35 @@
-//! What every crate of the compiler stands on: lists, sources and sinks, and the arithmetic of words.
+//! What every crate of the compiler stands on: lists, sources and sinks, the arithmetic of words
+//! and a counter of steps.
 #![tactic(auto)]
 
 mod bytes;
+mod count_sink;
+mod failed;
+mod full_source;
 mod items;
+mod mem_sink;
+mod mem_source;
 mod memory;
 
+mod sink;
+mod source;
+mod standard;
+
+
+
+
 pub use bytes::Bytes;
+pub use count_sink::CountSink;
+pub use failed::Failed;
+pub use full_source::FullSource;
 pub use items::Items;
+pub use mem_sink::MemSink;
+pub use mem_source::MemSource;
 pub use memory::Memory;
+
+pub use sink::Sink;
+pub use source::Source;
+pub use standard::{StdSink, StdSource};
+
+
+

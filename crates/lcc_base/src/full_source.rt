@@ -1,0 +1,59 @@
+ghost use Rattle.std.specs.Prelude.{◌≡◌, ℕ, ◌≤◌, List, take, drop, length, min, Some, IsOk, vec_len};
+ghost use Rattle.std.specs.Io.{ReadsAtMost};
+ghost use Rattle.std.specs.Io.KnownBytes.{ReadConsumes};
+ghost use Rattle.lcc_base.specs.Faults.{HasCause};
+
+use crate::{Failed, Source};
+use std::marker::Model;
+
+/// A source over bytes in memory, which contracts see as the bytes that are left. It never fails.
+#[derive(Drop)]
+pub struct FullSource {
+    bytes: Vec<u8>,
+    place: usize,
+}
+
+impl Model for FullSource {
+    ghost Value = { List ℕ };
+
+    ghost view = { λ s. drop s.place s.bytes.items };
+
+    ghost invariant = { λ s. s.place ≤ vec_len s.bytes };
+}
+
+impl FullSource {
+    /// A source of these bytes. It takes no memory.
+    pub fn new(bytes: Vec<u8>) -> Self
+        ensures { result ≡ bytes.items }
+    {
+        FullSource { bytes, place: 0 }
+    }
+}
+
+impl Source for FullSource {
+    ghost left = { λ s. Some s };
+
+    ghost faults = { λ _. 0 };
+
+    /// As `Source::read`, without a failure.
+    fn read(&mut self, into: &mut [u8]) -> Result<usize, Failed>
+        ensures bound { ReadsAtMost result into.new }
+        ensures bytes { ReadConsumes (Some self.old) (Some self.new) result into.new }
+        ensures cause { HasCause 0 0 result }
+        ensures answers { IsOk result }
+    {
+        let n = copy_front(&self.bytes[self.place..], into);
+        self.place += n;
+        Ok(n)
+    }
+}
+
+/// Copies as many bytes as there are and fit, and gives how many.
+pub(crate) fn copy_front(from: &[u8], into: &mut [u8]) -> usize
+    ensures count { result ≡ min (length from.now) (length into.old) }
+    ensures front { take result into.new ≡ take result from.now }
+{
+    let n = from.len().min(into.len());
+    into[..n].copy_from_slice(&from[..n]);
+    n
+}
