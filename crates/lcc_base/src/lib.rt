@@ -10,13 +10,10 @@ mod items;
 mod mem_sink;
 mod mem_source;
 mod memory;
-
 mod sink;
 mod source;
 mod standard;
-
-
-
+mod whole;
 
 pub use bytes::Bytes;
 pub use count_sink::CountSink;
@@ -26,10 +23,7 @@ pub use items::Items;
 pub use mem_sink::MemSink;
 pub use mem_source::MemSource;
 pub use memory::Memory;
-
 pub use sink::Sink;
 pub use source::Source;
 pub use standard::{StdSink, StdSource};
-
-
-
+pub use whole::{ReadEnd, read_all, write_all};
