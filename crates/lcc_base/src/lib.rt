@@ -15,6 +15,8 @@ mod sink;
 mod source;
 mod standard;
 mod steps;
+#[cfg(test)]
+mod tests;
 mod whole;
 mod words;
 
