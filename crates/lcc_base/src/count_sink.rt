@@ -1,4 +1,4 @@
-ghost use Rattle.std.specs.Prelude.{◌≡◌, ℕ, ◌+◌, ◌-◌, ◌^◌, ◌<◌, length, min, None, IfOk};
+ghost use Rattle.std.specs.Prelude.{◌≡◌, ℕ, ◌+◌, ◌-◌, ◌^◌, ◌<◌, ◌≤◌, length, min, None, IfOk, IsOkAnd};
 ghost use Rattle.std.specs.Io.{WritesAtMost};
 ghost use Rattle.std.specs.Io.KnownBytes.{WriteAppends};
 ghost use Rattle.lcc_base.specs.Faults.{HasCause};
@@ -54,7 +54,9 @@ impl Sink for CountSink {
         ensures some { 0 < length piece.now → IfOk result (λ n. 0 < n) }
         ensures bytes { WriteAppends None None result piece.now }
         ensures cause { HasCause 0 0 result }
-        ensures whole { IfOk result (λ n. n ≡ length piece.now) }
+        ensures capped { 0 ≤ 2 ^ 64 - 1 }
+
+        ensures whole { IsOkAnd result (λ n. n ≡ length piece.now) }
         ensures counted { self.new ≡ min (self.old + length piece.now) (2 ^ 64 - 1) }
     {
         self.count = self.count.saturating_add(piece.len() as u64);

@@ -1,4 +1,4 @@
-ghost use Rattle.std.specs.Prelude.{◌≡◌, ℕ, ◌≤◌, List, take, drop, length, min, Some, IsOk, vec_len};
+ghost use Rattle.std.specs.Prelude.{◌≡◌, ℕ, ◌-◌, ◌^◌, ◌≤◌, List, take, drop, length, min, Some, vec_len, IsOkAnd};
 ghost use Rattle.std.specs.Io.{ReadsAtMost};
 ghost use Rattle.std.specs.Io.KnownBytes.{ReadConsumes};
 ghost use Rattle.lcc_base.specs.Faults.{HasCause};
@@ -35,12 +35,13 @@ impl Source for FullSource {
 
     ghost faults = { λ _. 0 };
 
-    /// As `Source::read`, without a failure.
+    /// As `Source::read`, without a failure; it gives as many bytes as there are and fit.
     fn read(&mut self, into: &mut [u8]) -> Result<usize, Failed>
         ensures bound { ReadsAtMost result into.new }
         ensures bytes { ReadConsumes (Some self.old) (Some self.new) result into.new }
         ensures cause { HasCause 0 0 result }
-        ensures answers { IsOk result }
+        ensures capped { 0 ≤ 2 ^ 64 - 1 }
+        ensures most { IsOkAnd result (λ n. n ≡ min (length self.old) (length into.old)) }
     {
         let n = copy_front(&self.bytes[self.place..], into);
         self.place += n;

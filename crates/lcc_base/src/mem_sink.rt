@@ -1,4 +1,4 @@
-ghost use Rattle.std.specs.Prelude.{◌≡◌, ℕ, ◌+◌, ◌-◌, ◌^◌, ◌<◌, [], length, min, Some, IfOk, IsErr, MatchResult, Contains};
+ghost use Rattle.std.specs.Prelude.{◌≡◌, ℕ, ◌+◌, ◌-◌, ◌^◌, ◌<◌, ◌≤◌, [], length, min, Some, IfOk, IsErr, MatchResult, Contains};
 ghost use Rattle.std.specs.Io.{WritesAtMost};
 ghost use Rattle.std.specs.Io.KnownBytes.{WriteAppends};
 ghost use Rattle.lcc_base.specs.Faults.{HasCause};
@@ -17,11 +17,14 @@ pub struct MemSink {
 }
 
 impl Model for MemSink {
+    ghost use Rattle.std.specs.Prelude.{◌-◌, ◌^◌, ◌≤◌};
     ghost use Rattle.lcc_base.specs.MemSinkState.{MemSinkState};
 
     ghost Value = { MemSinkState };
 
     ghost view = { λ s. record { taken = s.bytes.items; writes = s.writes; failing = s.failing.items; faults = s.faults } };
+
+    ghost invariant = { λ s. s.faults ≤ 2 ^ 64 - 1 };
 }
 
 impl MemSink {
@@ -58,6 +61,8 @@ impl Sink for MemSink {
         ensures some { 0 < length piece.now → IfOk result (λ n. 0 < n) }
         ensures bytes { WriteAppends (Some self.old.taken) (Some self.new.taken) result piece.now }
         ensures cause { HasCause self.old.faults self.new.faults result }
+        ensures capped { self.new.faults ≤ 2 ^ 64 - 1 }
+
         ensures whole { IfOk result (λ n. n ≡ length piece.now) }
         ensures number { self.new.writes ≡ min (self.old.writes + 1) (2 ^ 64 - 1) }
         ensures fails { Contains self.old.failing self.new.writes → IsErr result }

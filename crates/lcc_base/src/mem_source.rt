@@ -1,4 +1,4 @@
-ghost use Rattle.std.specs.Prelude.{◌≡◌, ℕ, ◌+◌, ◌-◌, ◌^◌, ◌↔◌, min, Some, IsErr, MatchResult, Contains};
+ghost use Rattle.std.specs.Prelude.{◌≡◌, ℕ, ◌+◌, ◌-◌, ◌^◌, ◌≤◌, ◌↔◌, length, min, Some, IfOk, IsErr, MatchResult, Contains};
 ghost use Rattle.std.specs.Io.{ReadsAtMost};
 ghost use Rattle.std.specs.Io.KnownBytes.{ReadConsumes};
 ghost use Rattle.lcc_base.specs.Faults.{HasCause};
@@ -18,14 +18,14 @@ pub struct MemSource {
 }
 
 impl Model for MemSource {
-    ghost use Rattle.std.specs.Prelude.{◌≤◌, drop, vec_len};
+    ghost use Rattle.std.specs.Prelude.{◌-◌, ◌^◌, ◌≤◌, drop, vec_len};
     ghost use Rattle.lcc_base.specs.MemSourceState.{MemSourceState};
 
     ghost Value = { MemSourceState };
 
     ghost view = { λ s. record { left = drop s.place s.bytes.items; reads = s.reads; failing = s.failing.items; faults = s.faults } };
 
-    ghost invariant = { λ s. s.place ≤ vec_len s.bytes };
+    ghost invariant = { λ s. (s.place ≤ vec_len s.bytes) × (s.faults ≤ 2 ^ 64 - 1) };
 }
 
 impl MemSource {
@@ -49,11 +49,14 @@ impl Source for MemSource {
 
     ghost faults = { λ s. s.faults };
 
-    /// As `Source::read`. A call is numbered one above the last, up to 2^64 - 1.
+    /// As `Source::read`; it gives as many bytes as there are and fit. A call is numbered one above the last, up to 2^64 - 1.
     fn read(&mut self, into: &mut [u8]) -> Result<usize, Failed>
         ensures bound { ReadsAtMost result into.new }
         ensures bytes { ReadConsumes (Some self.old.left) (Some self.new.left) result into.new }
         ensures cause { HasCause self.old.faults self.new.faults result }
+        ensures capped { self.new.faults ≤ 2 ^ 64 - 1 }
+
+        ensures most { IfOk result (λ n. n ≡ min (length self.old.left) (length into.old)) }
         ensures number { self.new.reads ≡ min (self.old.reads + 1) (2 ^ 64 - 1) }
         ensures exact { IsErr result ↔ Contains self.old.failing self.new.reads }
         ensures failing { self.new.failing ≡ self.old.failing }

@@ -1,5 +1,5 @@
-ghost use Rattle.std.specs.Prelude.{◌≡◌, ◌⊎◌, length};
-ghost use Rattle.lcc_base.specs.NumberIn.{number_of, number_in};
+ghost use Rattle.std.specs.Prelude.{◌≡◌, ◌<◌, ◌⊎◌, length, All};
+ghost use Rattle.lcc_base.specs.NumberIn.{number_in};
 
 /// The order of a number's bytes in memory.
 #[derive(Clone, Copy, Debug, PartialEq, Eq)]
@@ -12,7 +12,9 @@ pub enum Order {
 
 /// The four bytes of a number, in this order.
 pub fn split(order: Order, n: u32) -> [u8; 4]
-    ensures { number_in order result ≡ n }
+    ensures number { number_in order result ≡ n }
+    ensures four { length result ≡ 4 }
+    ensures bytes { All (λ byte. byte < 256) result }
 {
     match order {
         Order::Big => n.to_be_bytes(),

@@ -1,4 +1,4 @@
-ghost use Rattle.std.specs.Prelude.{◌≡◌, ℕ, ◌+◌, ◌-◌, ◌^◌, ◌<◌, length, min, None, IfOk, MatchResult};
+ghost use Rattle.std.specs.Prelude.{◌≡◌, ℕ, ◌+◌, ◌-◌, ◌^◌, ◌<◌, ◌≤◌, length, min, None, IfOk, MatchResult};
 ghost use Rattle.std.specs.Io.{ReadsAtMost, WritesAtMost};
 ghost use Rattle.std.specs.Io.KnownBytes.{ReadConsumes, WriteAppends};
 ghost use Rattle.lcc_base.specs.Faults.{HasCause};
@@ -19,6 +19,8 @@ impl<R: Read + Drop> Model for StdSource<R> {
     ghost Value = { ℕ };
 
     ghost view = { λ s. s.faults };
+
+    ghost invariant = { λ s. s.faults ≤ 2 ^ 64 - 1 };
 }
 
 impl<R: Read + Drop> StdSource<R> {
@@ -40,6 +42,8 @@ impl<R: Read + Drop> Source for StdSource<R> {
         ensures bound { ReadsAtMost result into.new }
         ensures bytes { ReadConsumes None None result into.new }
         ensures cause { HasCause self.old self.new result }
+        ensures capped { self.new ≤ 2 ^ 64 - 1 }
+
         ensures counted { MatchResult result (λ _. self.new ≡ self.old) (λ _. self.new ≡ min (self.old + 1) (2 ^ 64 - 1)) }
     {
         match self.reader.read(into) {
@@ -64,6 +68,8 @@ impl<W: Write + Drop> Model for StdSink<W> {
     ghost Value = { ℕ };
 
     ghost view = { λ s. s.faults };
+
+    ghost invariant = { λ s. s.faults ≤ 2 ^ 64 - 1 };
 }
 
 impl<W: Write + Drop> StdSink<W> {
@@ -87,6 +93,8 @@ impl<W: Write + Drop> Sink for StdSink<W> {
         ensures some { 0 < length piece.now → IfOk result (λ n. 0 < n) }
         ensures bytes { WriteAppends None None result piece.now }
         ensures cause { HasCause self.old self.new result }
+        ensures capped { self.new ≤ 2 ^ 64 - 1 }
+
         ensures counted { MatchResult result (λ _. self.new ≡ self.old) (λ _. self.new ≡ min (self.old + 1) (2 ^ 64 - 1)) }
     {
         match self.writer.write(piece) {
