@@ -19,7 +19,10 @@ fn writes_a_writer_of_std(rt: HostRuntime) -> Result<(), Fail> {
     let mut room = [0u8; 4];
     assert_eq!(rt; write_all(&mut StdSink::new(&mut room[..]), b"nop"), Ok(()));
     assert_eq!(rt; room, [b'n', b'o', b'p', 0]);
-    assert_eq!(rt; write_all(&mut StdSink::new(&mut room[..]), b"abcde"), Err(Failed));
+    assert_eq!(rt;
+        write_all(&mut StdSink::new(&mut room[..]), b"abcde"),
+        Err(Failed)
+    );
     Ok(())
 }
 
