@@ -6,6 +6,19 @@ use std::sync::ledger::{Blank, Ledger};
 use std::test::Fail;
 
 #[test]
+fn lists_grow(rt: HostRuntime) -> Result<(), Fail> {
+    let mut bytes = Bytes::copied(rt.alloc(), b"ab")?;
+    bytes.push(b'c')?;
+    bytes.extend(b"de")?;
+    assert_eq!(rt; bytes.as_slice(), b"abcde".as_slice());
+    let mut items = Items::new(rt.alloc());
+    items.push(7)?;
+    items.push(9)?;
+    assert_eq!(rt; items.as_slice(), [7, 9].as_slice());
+    Ok(())
+}
+
+#[test]
 fn reads_a_reader_of_std(rt: HostRuntime) -> Result<(), Fail> {
     let text = b"int x;";
     let mut source = StdSource::new(&text[..]);

@@ -1,41 +1,13 @@
-ghost use Rattle.std.specs.Prelude.{◌≡◌, ◌≤◌, length, IfOk, OnOk, OnErr, IsErrOf};
+ghost use Rattle.std.specs.Prelude.{◌≤◌, length, IfOk, OnOk, OnErr, IsErrOf};
 ghost use Rattle.std.specs.Io.KnownBytes.{Consumes, IsAtEnd, Appends};
-ghost use Rattle.lcc_base.specs.declared.whole.ReadEnd.TheVariants.{Failed, Memory};
 ghost use Rattle.lcc_base.specs.Faults.{Rose, HasCause};
 ghost use Rattle.lcc_base.specs.Taken.{TookAtMost, TookMore, TookPrefix};
 
-use crate::{Bytes, Sink, Source, failed};
-use std::alloc::{AllocError, Global};
+use crate::{Bytes, Failed, ReadEnd, Sink, Source};
+use std::alloc::Global;
 
 /// How many bytes one read asks for at most.
 const PIECE: usize = 4096;
-
-/// Why a whole read ended without the bytes.
-#[derive(Clone, Copy, Debug, PartialEq, Eq)]
-pub enum ReadEnd {
-    /// A read failed: the source's count of faults rose.
-    Failed,
-    /// More bytes came than the limit, before any fault.
-    TooLong,
-    /// An allocation was refused.
-    Memory,
-}
-
-impl From<AllocError> for ReadEnd {
-    ghost from_gives = { λ _ e. e ≡ Memory };
-
-    fn from(_: AllocError) -> Self {
-        ReadEnd::Memory
-    }
-}
-
-impl From<failed::Failed> for ReadEnd {
-    ghost from_gives = { λ _ e. e ≡ Failed };
-
-    fn from(_: failed::Failed) -> Self {
-        ReadEnd::Failed
-    }
-}
 
 /// All bytes that the source had left, at most `limit`. After an error what was read is dropped,
 /// and the source has left what comes after it.
@@ -69,7 +41,7 @@ pub fn read_all<S: Source>(alloc: Global, source: &mut S, limit: usize) -> Resul
 
 /// Hands all bytes to the sink, in order, each time all that it has not taken yet. After an error
 /// the sink took some first ones of them. It takes no memory.
-pub fn write_all<K: Sink>(sink: &mut K, bytes: &[u8]) -> Result<(), failed::Failed>
+pub fn write_all<K: Sink>(sink: &mut K, bytes: &[u8]) -> Result<(), Failed>
     ensures all { OnOk result (Appends (K.taken sink.old) (K.taken sink.new) bytes.now) }
     ensures prefix { OnErr result (TookPrefix (K.taken sink.old) (K.taken sink.new) bytes.now) }
     ensures cause { HasCause (K.faults sink.old) (K.faults sink.new) result }
