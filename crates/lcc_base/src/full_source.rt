@@ -1,8 +1,9 @@
-ghost use Rattle.std.specs.Prelude.{◌≡◌, ℕ, ◌-◌, ◌^◌, ◌≤◌, List, take, drop, length, min, Some, vec_len, IsOkAnd};
+ghost use Rattle.std.specs.Prelude.{◌≡◌, ℕ, ◌-◌, ◌^◌, ◌≤◌, List, drop, length, min, Some, vec_len, IsOkAnd};
 ghost use Rattle.std.specs.Io.{ReadsAtMost};
 ghost use Rattle.std.specs.Io.KnownBytes.{ReadConsumes};
 ghost use Rattle.lcc_base.specs.Faults.{HasCause};
 
+use crate::copy::copy_front;
 use crate::{Failed, Source};
 use std::marker::Model;
 
@@ -47,14 +48,4 @@ impl Source for FullSource {
         self.place += n;
         Ok(n)
     }
-}
-
-/// Copies as many bytes as there are and fit, and gives how many.
-pub(crate) fn copy_front(from: &[u8], into: &mut [u8]) -> usize
-    ensures count { result ≡ min (length from.now) (length into.old) }
-    ensures front { take result into.new ≡ take result from.now }
-{
-    let n = from.len().min(into.len());
-    into[..n].copy_from_slice(&from[..n]);
-    n
 }

@@ -3,6 +3,7 @@
 #![tactic(auto)]
 
 mod bytes;
+mod copy;
 mod count_sink;
 mod failed;
 mod full_source;

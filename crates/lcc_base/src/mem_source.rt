@@ -3,7 +3,7 @@ ghost use Rattle.std.specs.Io.{ReadsAtMost};
 ghost use Rattle.std.specs.Io.KnownBytes.{ReadConsumes};
 ghost use Rattle.lcc_base.specs.Faults.{HasCause};
 
-use crate::full_source::copy_front;
+use crate::copy::copy_front;
 use crate::{Failed, Source};
 use std::marker::Model;
 
