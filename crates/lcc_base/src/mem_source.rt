@@ -49,7 +49,8 @@ impl Source for MemSource {
 
     ghost faults = { λ s. s.faults };
 
-    /// As `Source::read`; it gives as many bytes as there are and fit. A call is numbered one above the last, up to 2^64 - 1.
+    /// As `Source::read`; it gives as many bytes as there are and fit. A call is numbered one above
+    /// the last, up to 2^64 - 1.
     fn read(&mut self, into: &mut [u8]) -> Result<usize, Failed>
         ensures bound { ReadsAtMost result into.new }
         ensures bytes { ReadConsumes (Some self.old.left) (Some self.new.left) result into.new }

@@ -10,8 +10,8 @@ pub fn wrap32(n: i64) -> i32
     (n.rem_euclid(1 << 32) as u32).cast_signed()
 }
 
-/// The quotient of C's `/`, rounded toward zero. `None` exactly where `b` is 0, or `a` is -2^31 and
-/// `b` is -1.
+/// The quotient of C's `/`, rounded toward zero (C99, 6.5.5). `None` exactly where `b` is 0, or `a`
+/// is -2^31 and `b` is -1.
 pub fn sdiv(a: i32, b: i32) -> Option<i32>
     ensures undefined { IsNone result ↔ ((b ≡ pos 0) ⊎ ((a ≡ negsuc 2147483647) × (b ≡ negsuc 0))) }
     ensures quotient { IfSome result (λ q. q ≡ int_div a b) }
@@ -19,8 +19,8 @@ pub fn sdiv(a: i32, b: i32) -> Option<i32>
     a.checked_div(b)
 }
 
-/// The remainder of C's `%`, with the sign of `a`. `None` exactly where `b` is 0, or `a` is -2^31
-/// and `b` is -1.
+/// The remainder of C's `%`, with the sign of `a` (C99, 6.5.5). `None` exactly where `b` is 0, or
+/// `a` is -2^31 and `b` is -1.
 pub fn srem(a: i32, b: i32) -> Option<i32>
     ensures undefined { IsNone result ↔ ((b ≡ pos 0) ⊎ ((a ≡ negsuc 2147483647) × (b ≡ negsuc 0))) }
     ensures remainder { IfSome result (λ r. r ≡ int_rem a b) }
