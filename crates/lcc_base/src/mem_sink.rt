@@ -1,4 +1,4 @@
-ghost use Rattle.std.specs.Prelude.{◌≡◌, ℕ, ◌+◌, ◌-◌, ◌^◌, ◌<◌, ◌≤◌, [], length, min, Some, IfOk, IsErr, MatchResult, Contains};
+ghost use Rattle.std.specs.Prelude.{◌≡◌, ◌+◌, ◌-◌, ◌^◌, ◌<◌, ◌≤◌, [], length, min, Some, IfOk, IsErr, MatchResult, Contains};
 ghost use Rattle.std.specs.Io.{WritesAtMost};
 ghost use Rattle.std.specs.Io.KnownBytes.{WriteAppends};
 ghost use Rattle.lcc_base.specs.Faults.{HasCause};
@@ -7,7 +7,8 @@ use crate::{Failed, Sink};
 use std::alloc::Global;
 use std::marker::Model;
 
-/// A sink in memory, whose n-th write fails where n is in a list. A growth that is refused fails too.
+/// A sink in memory, whose n-th write fails where n is in a list. A growth that is refused fails
+/// too.
 #[derive(Drop)]
 pub struct MemSink {
     bytes: Vec<u8>,

@@ -1,4 +1,4 @@
-ghost use Rattle.std.specs.Prelude.{◌≡◌, ◌^◌, ◌⊎◌, ◌↔◌, pos, negsuc, IsNone, IfSome, SomeIff};
+ghost use Rattle.std.specs.Prelude.{◌≡◌, ◌^◌, ◌⊎◌, ◌↔◌, pos, negsuc, IsNone, IfSome};
 ghost use Rattle.std.specs.Int.{w32, int_wrap, int_rem_euclid};
 ghost use Rattle.std.specs.Int.RustNames.{int_div, int_rem};
 
