@@ -1,0 +1,31 @@
+ghost use Rattle.std.specs.Prelude.{◌≡◌};
+ghost use Rattle.lcc_base.specs.declared.read_end.ReadEnd.TheVariants.{Failed, Memory};
+
+use std::alloc::AllocError;
+
+/// Why a whole read ended without the bytes.
+#[derive(Clone, Copy, Debug, PartialEq, Eq)]
+pub enum ReadEnd {
+    /// A read failed: the source's count of faults rose.
+    Failed,
+    /// More bytes came than the limit, before any fault.
+    TooLong,
+    /// An allocation was refused.
+    Memory,
+}
+
+impl From<AllocError> for ReadEnd {
+    ghost from_gives = { λ _ e. e ≡ Memory };
+
+    fn from(_: AllocError) -> Self {
+        ReadEnd::Memory
+    }
+}
+
+impl From<crate::Failed> for ReadEnd {
+    ghost from_gives = { λ _ e. e ≡ Failed };
+
+    fn from(_: crate::Failed) -> Self {
+        ReadEnd::Failed
+    }
+}
