@@ -1,3 +1,4 @@
 pub mod Classes
 pub mod Lines
 pub mod Decimal
+pub mod Names

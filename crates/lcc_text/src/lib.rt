@@ -2,5 +2,13 @@
 #![tactic(auto)]
 
 mod class;
+mod decimal;
+mod line;
+mod names;
+mod run;
 
 pub use class::{Class, is_in};
+pub use decimal::decimal_value;
+pub use line::next_line;
+pub use names::{find, place};
+pub use run::run_len;

@@ -1,0 +1,5 @@
+pub mod Runs
+pub mod FirstLine
+pub mod Decimals
+pub mod Keys
+pub mod Places
