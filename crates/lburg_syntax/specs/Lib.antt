@@ -3,3 +3,6 @@ pub mod Spelling
 pub mod NamedTree
 pub mod Grammar
 pub mod Sections
+pub mod Stops
+pub mod Nesting
+pub mod Readings

@@ -1,5 +1,5 @@
 -- tree = name [ "(" tree [ "," tree ] ")" ]
-use Rattle.std.specs.Prelude.{ℕ, ◌+◌, max, List, [], ◌∷◌}
+use Rattle.std.specs.Prelude.{ℕ, ◌+◌, max, List, ◌∷◌}
 use Rattle.lburg_syntax.specs.declared.token.Sign.TheVariants.{Open, Close, Comma}
 use Rattle.lburg_syntax.specs.declared.named_tree.NamedTree.{NamedTree, Leaf, Unary', Binary'}
 use Rattle.lburg_syntax.specs.Tokens.{Tok, Word, Mark}

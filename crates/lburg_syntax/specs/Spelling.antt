@@ -24,3 +24,7 @@ abbrev pub Spells : List Tok → List ℕ → Type 0
 Spells [] bytes = AllIn Blank bytes
 Spells (t ∷ ts) bytes =
     (gap behind : List ℕ) × AllIn Blank gap × Starts behind × (bytes ≡ gap ++ behind) × (((rest : List ℕ) × IsNext behind t rest × Spells ts rest) ⊎ ((t ≡ Wrong) × (ts ≡ []) × NoToken behind))
+
+-- what stands behind the blanks
+abbrev pub SkipsBlanks : List ℕ → List ℕ → Type 0
+SkipsBlanks bytes behind = (gap : List ℕ) × AllIn Blank gap × (bytes ≡ gap ++ behind)

@@ -1,6 +1,6 @@
 -- The tokens of a line, and the bytes of each.
 -- Source: C. W. Fraser and D. R. Hanson, A Retargetable C Compiler, chapter 14 (lburg's input).
-use Rattle.std.specs.Prelude.{◌≡◌, ℕ, List, [], ◌∷◌, ◌++◌, map}
+use Rattle.std.specs.Prelude.{ℕ, List, [], ◌∷◌, ◌++◌, map}
 use Rattle.lcc_text.specs.declared.class.Class.TheVariants.{Letter, Digit, Name, Text}
 use Rattle.lcc_text.specs.Classes.{AllIn, StartsIn}
 use Rattle.lburg_syntax.specs.declared.token.Sign.{Sign}

@@ -1,0 +1,12 @@
+pub mod FirstBytes
+pub mod Next
+pub mod Blanks
+pub mod Once
+pub mod Trees
+pub mod Depths
+pub mod Rules
+pub mod Declarations
+pub mod Places
+pub mod Lines
+pub mod Exact
+pub mod Marks
