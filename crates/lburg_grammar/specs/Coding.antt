@@ -1,6 +1,6 @@
 -- A tree as a list that gives it back: its nodes, operands first.
-use Rattle.std.specs.Prelude.{◌≡◌, ℕ, zero, suc, Option, Some, None, ℤ, List, [], ◌∷◌, ◌++◌, refl}
-use Rattle.std.proofs.Common.{sym, ap, ◌∙◌, append_assoc}
+use Rattle.std.specs.Prelude.{◌≡◌, ℕ, zero, suc, Option, None, ℤ, List, [], ◌∷◌, refl}
+use Rattle.std.proofs.Common.{ap, ◌∙◌}
 use Rattle.std.specs.Coded.{Coded, code_by, coded×, coded_ℕ, coded_ℤ, coded_list, coded_option}
 use Rattle.lburg_grammar.specs.Tree.{MTree, TLeaf, TOne, TTwo}
 

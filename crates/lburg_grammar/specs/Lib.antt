@@ -6,5 +6,12 @@ pub mod TailText
 pub mod Derivation
 pub mod Best
 pub mod CoverText
+pub mod SameParts
 pub mod Shape
 pub mod Coding
+pub mod DeclaredTerminals
+pub mod FirstUses
+pub mod Places
+pub mod Uses
+pub mod TreeLines
+pub mod DerivationOf

@@ -1,5 +1,5 @@
 -- Patterns, and where they fit.
-use Rattle.std.specs.Prelude.{◌≡◌, ℕ, ◌+◌, ◌==◌, Bool, Option, Some, None, ℤ, List, [], ◌∷◌, ◌++◌, if◌then◌else◌}
+use Rattle.std.specs.Prelude.{ℕ, ◌+◌, ◌==◌, Option, Some, None, List, [], ◌∷◌, ◌++◌, if◌then◌else◌}
 use Rattle.lburg_grammar.specs.declared.pattern.Pattern.{Pattern}
 use Rattle.lburg_grammar.specs.declared.pattern.Pattern.{Nonterminal, Leaf, Unary', Binary'}
 use Rattle.lburg_grammar.specs.Tree.{MTree, TLeaf, TOne, TTwo}

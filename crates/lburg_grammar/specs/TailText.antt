@@ -1,5 +1,5 @@
 -- The trees of a text's tail, one a line. No tree has a constant.
-use Rattle.std.specs.Prelude.{◌≡◌, ◌≤◌, ◌⊎◌, ℕ, Option, Some, None, ℤ, List, [], ◌∷◌}
+use Rattle.std.specs.Prelude.{◌≡◌, ◌≤◌, ◌⊎◌, ℕ, Some, None, List, [], ◌∷◌}
 use Rattle.lburg_syntax.specs.NamedTree.{MNamed, Alone, Over, Both}
 use Rattle.lburg_syntax.specs.Grammar.{IsTree, AreLines}
 use Rattle.lburg_syntax.specs.Sections.{tail_lines}

@@ -31,6 +31,24 @@ impl Model for Description {
 }
 
 impl Description {
+    /// The description of these parts, without an allocation.
+    pub(crate) fn of_parts(
+        terminals: Vec<Terminal>,
+        nonterminals: Vec<Bytes>,
+        start: u16,
+        rules: Vec<Rule>,
+    ) -> Self
+        requires { IsDescription (record { terminals = terminals.items; nonterminals = nonterminals.items; start = start; rules = rules.items }) }
+        ensures { result ≡ record { terminals = terminals.items; nonterminals = nonterminals.items; start = start; rules = rules.items } }
+    {
+        Description {
+            terminals: Items::from_vec(terminals),
+            nonterminals: Items::from_vec(nonterminals),
+            start,
+            rules: Items::from_vec(rules),
+        }
+    }
+
     /// The terminals in the order of their declarations.
     pub fn terminals(&self) -> &[Terminal]
         ensures value { result.now ≡ self.now.terminals }

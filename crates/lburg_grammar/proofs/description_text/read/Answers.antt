@@ -1,0 +1,16 @@
+use Rattle.std.proofs.Common.{map}
+use Rattle.lburg_syntax.specs.Grammar.{rule_of}
+use Rattle.lburg_syntax.specs.Sections.{rule_lines}
+use Rattle.lburg_grammar.proofs.OneMeaning.{one_read}
+use Rattle.lburg_grammar.proofs.Sizes.{small_rules}
+use Rattle.lburg_grammar.proofs.description_text.read.Goals as goal
+
+pub resolved-requires : goal.resolved-requires
+resolved-requires c = record {
+  small = rw c.as_slice-in-Ok.ensures.value (small_rules (rule_lines c.args.text.now) (map rule_of c.in-Ok.syntax.rules.items) c.in-Ok.ensures.found.rules);
+}
+
+pub returns-in-Ok-clause-one : goal.returns-in-Ok-clause-one
+returns-in-Ok-clause-one c = λ d is.
+    (let same = c.in-Ok.ensures.read is.syntax is.spelled in
+    one_read c.resolved.result _ is.syntax d (rw (c.as_slice.ensures.value, c.as_slice-in-Ok.ensures.value) same) c.resolved.ensures.found is.means)
