@@ -1,0 +1,14 @@
+pub mod Rows
+pub mod Totals
+pub mod Closure
+pub mod Finish
+pub mod Least
+pub mod Follows
+pub mod Greatest
+pub mod Visits
+pub mod Roots
+pub mod StepBounds
+pub mod Erased
+pub mod Cover
+pub mod Collected
+pub mod Room

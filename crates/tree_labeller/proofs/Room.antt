@@ -1,0 +1,61 @@
+-- What room for a tree gives.
+use Rattle.std.proofs.Common.{◌≡◌, ℕ, ◌+◌, ◌*◌, ◌<◌, ◌≤◌, ◌^◌, length, arith}
+use Rattle.lburg_grammar.specs.Tree.{MTree, TLeaf, TOne, TTwo, nodes}
+use Rattle.lburg_grammar.specs.Pattern.{MPattern, PHole, PLeaf, POne, PTwo, pattern_of}
+use Rattle.lburg_grammar.specs.Description.{MDescription, IsDescription, FitsIn}
+use Rattle.tree_labeller.specs.Labelled.{area, HolesBelow}
+use Rattle.tree_labeller.specs.AreRules.{AreRules}
+use Rattle.tree_labeller.proofs.Totals.{nodes_pos}
+
+area_is : (w : ℕ) (t : MTree) → area w t ≡ w * nodes t
+area_is w (TLeaf op v) = omega arith
+area_is w (TOne op v a) = let e = area_is w a in grow w (area w a) (nodes a) e
+  where
+    grow : (w x n : ℕ) → x ≡ w * n → x + w ≡ w * (n + 1)
+    grow w x n e = grind arith
+area_is w (TTwo op v a b) = let e = area_is w a in let f = area_is w b in grow w (area w a) (area w b) (nodes a) (nodes b) e f
+  where
+    grow : (w x y n m : ℕ) → x ≡ w * n → y ≡ w * m → x + y + w ≡ w * (n + m + 1)
+    grow w x y n m e f = grind arith
+
+more : (w a b : ℕ) → a ≤ b → a * w ≤ b * w
+more w a b h = grind arith
+
+at_least : (w n : ℕ) → 1 ≤ w → n ≤ n * w
+at_least w n h = grind arith
+
+at_least_width : (w n : ℕ) → 1 ≤ n → w ≤ n * w
+at_least_width w n h = grind arith
+
+product : (w k : ℕ) → (w + 1) * k ≡ k * w + k
+product w k = grind arith
+
+-- a tree that there is room for has no large sums
+pub small_area : (w n : ℕ) (t : MTree) → n * w < 2 ^ 32 → 1 ≤ w → nodes t ≤ n → area (w + 1) t ≤ 2 ^ 46
+small_area w n t h one l =
+    let k = nodes t in
+    let e = area_is (w + 1) t in
+    let p = product w k in
+    let a = more w k n l in
+    let b = at_least w n one in
+    omega arith
+
+-- nor has a row many cells
+pub narrow_rows : (w n : ℕ) (t : MTree) → n * w < 2 ^ 32 → nodes t ≤ n → w ≤ 2 ^ 46
+narrow_rows w n t h l = let a = nodes_pos t in let b = at_least_width w n (omega arith) in omega arith
+
+holes_below : (d : MDescription) (w : ℕ) (p : MPattern) → length d.nonterminals ≤ w → FitsIn d p → HolesBelow w p
+holes_below d w (PHole n) h f = omega arith
+holes_below d w (PLeaf op) h f = tt
+holes_below d w (POne op p) h f = holes_below d w p h f.1
+holes_below d w (PTwo op p q) h f = (holes_below d w p h f.1.0, holes_below d w q h f.1.1)
+
+-- a description's rules are what the labeller needs
+pub are_rules : (d : MDescription) (w : ℕ) → IsDescription d → length d.nonterminals ≤ w → w ≤ 2 ^ 46 → AreRules d.rules w
+are_rules d w is wide narrow = record {
+  lefts = λ i r e. let l = (is.rules i r e).left in omega arith;
+  holes = λ i r e. holes_below d w (pattern_of r.pattern) wide (is.rules i r e).fits;
+  few = let l = is.rule_limit in omega arith;
+  narrow = narrow;
+  cheap = λ i r e. let l = (is.rules i r e).cost in omega arith;
+}

@@ -1,0 +1,33 @@
+use Rattle.std.proofs.Common.{List, length, sym, ap, subst, arith}
+use Rattle.lburg_grammar.specs.declared.rule.Rule.{Rule}
+use Rattle.lburg_grammar.specs.Description.{MDescription}
+use Rattle.tree_labeller.specs.MCells.{MCells}
+use Rattle.tree_labeller.specs.AreRules.{AreRules}
+use Rattle.tree_labeller.proofs.Room.{are_rules, small_area, narrow_rows}
+use Rattle.tree_labeller.proofs.labeller.label.Goals as goal
+
+pub label_at-requires-clause-are : goal.label_at-requires-clause-are
+label_at-requires-clause-are g c =
+    let w = c.cells.inside.width in
+    let d = c.description.result.now in
+    let tree = g.N.TreeNode.tree c.args.tree.now in
+    let wide = ap (λ (k : MCells). k.nonterminals) c.cells.view_is in
+    let many = ap (λ (k : MCells). length k.rows) c.cells.view_is in
+    let names = ap (λ (z : MDescription). length z.nonterminals) c.description.ensures in
+    let room = c.requires.nodes in
+    let enough = c.requires.nonterminals in
+    let F : List Rule → Type 0 = λ rs. AreRules rs w in
+    subst F (sym c.rules.ensures.value)
+    (are_rules d w c.rules.ensures.is (omega arith) (narrow_rows w (length c.cells.inside.rows.items) tree c.cells.invariant.small (omega arith)))
+
+pub label_at-requires-clause-small : goal.label_at-requires-clause-small
+label_at-requires-clause-small g c =
+    let w = c.cells.inside.width in
+    let tree = g.N.TreeNode.tree c.args.tree.now in
+    let wide = ap (λ (k : MCells). k.nonterminals) c.cells.view_is in
+    let many = ap (λ (k : MCells). length k.rows) c.cells.view_is in
+    let names = ap (λ (z : MDescription). length z.nonterminals) c.description.ensures in
+    let room = c.requires.nodes in
+    let enough = c.requires.nonterminals in
+    let start = c.rules.ensures.is.start in
+    small_area w (length c.cells.inside.rows.items) tree c.cells.invariant.small (omega arith) (omega arith)

@@ -1,0 +1,62 @@
+-- Derivations as families over the nonterminal and the tree, for proofs by recursion on both.
+use Rattle.std.specs.Prelude.{◌≡◌, ℕ, ◌+◌, ◌<◌, ◌⊎◌, Option, Some, ℤ, List, [], ◌∷◌, ◌++◌, slice_get}
+use Rattle.lburg_grammar.specs.Best.{Earlier}
+use Rattle.lburg_grammar.specs.Tree.{MTree, TLeaf, TOne, TTwo}
+use Rattle.lburg_grammar.specs.Pattern.{MPattern, PHole, PLeaf, POne, PTwo, pattern_of}
+use Rattle.lburg_grammar.specs.declared.rule.Rule.{Rule}
+
+mutual
+  -- a derivation of the nonterminal n at the tree t: a rule, and parts for its pattern
+  pub data Derivation (d : List Rule) : ℕ → MTree → Type 0 where
+    Uses : {n : ℕ} {t : MTree} (i : ℕ) (r : Rule) → slice_get d i ≡ Some r → r.left ≡ n → Parts d (pattern_of r.pattern) t → Derivation d n t
+
+  -- the pattern fits the tree, with a derivation of each of its nonterminals at the subtree that it meets
+  pub data Parts (d : List Rule) : MPattern → MTree → Type 0 where
+    AtHole : {n : ℕ} {t : MTree} → Derivation d n t → Parts d (PHole n) t
+    AtLeaf : {op : ℕ} {v : Option ℤ} → Parts d (PLeaf op) (TLeaf op v)
+    AtOne : {op : ℕ} {v : Option ℤ} {p : MPattern} {a : MTree} → Parts d p a → Parts d (POne op p) (TOne op v a)
+    AtTwo : {op : ℕ} {v : Option ℤ} {p q : MPattern} {a b : MTree} → Parts d p a → Parts d q b → Parts d (PTwo op p q) (TTwo op v a b)
+
+-- the rules' costs, added up
+abbrev mutual
+  pub cost : {d : List Rule} {n : ℕ} {t : MTree} → Derivation d n t → ℕ
+  cost (Uses i r at left parts) = r.cost + costs parts
+
+  pub costs : {d : List Rule} {p : MPattern} {t : MTree} → Parts d p t → ℕ
+  costs (AtHole e) = cost e
+  costs AtLeaf = 0
+  costs (AtOne x) = costs x
+  costs (AtTwo x y) = costs x + costs y
+
+-- how many rules are used
+abbrev mutual
+  pub count : {d : List Rule} {n : ℕ} {t : MTree} → Derivation d n t → ℕ
+  count (Uses i r at left parts) = 1 + counts parts
+
+  pub counts : {d : List Rule} {p : MPattern} {t : MTree} → Parts d p t → ℕ
+  counts (AtHole e) = count e
+  counts AtLeaf = 0
+  counts (AtOne x) = counts x
+  counts (AtTwo x y) = counts x + counts y
+
+-- the rules' numbers, the whole's before its parts'
+abbrev mutual
+  pub numbers : {d : List Rule} {n : ℕ} {t : MTree} → Derivation d n t → List ℕ
+  numbers (Uses i r at left parts) = (i + 1) ∷ numbers_in parts
+
+  pub numbers_in : {d : List Rule} {p : MPattern} {t : MTree} → Parts d p t → List ℕ
+  numbers_in (AtHole e) = numbers e
+  numbers_in AtLeaf = []
+  numbers_in (AtOne x) = numbers_in x
+  numbers_in (AtTwo x y) = numbers_in x ++ numbers_in y
+
+-- smaller by cost, at equal cost by count, and at equal count by the first difference of the numbers
+pub data Less : (cost count : ℕ) (numbers : List ℕ) (cost' count' : ℕ) (numbers' : List ℕ) → Type 0 where
+  ByCost : {k m : ℕ} {xs : List ℕ} {k' m' : ℕ} {xs' : List ℕ} → k < k' → Less k m xs k' m' xs'
+  ByCount : {k m : ℕ} {xs : List ℕ} {k' m' : ℕ} {xs' : List ℕ} → k ≡ k' → m < m' → Less k m xs k' m' xs'
+  ByRules : {k m : ℕ} {xs : List ℕ} {k' m' : ℕ} {xs' : List ℕ} → k ≡ k' → m ≡ m' → Earlier xs xs' → Less k m xs k' m' xs'
+
+-- each other derivation is greater
+abbrev pub IsBest : {d : List Rule} {n : ℕ} {t : MTree} → Derivation d n t → Type 0
+IsBest {d} {n} {t} e =
+    (other : Derivation d n t) → (numbers e ≡ numbers other) ⊎ Less (cost e) (count e) (numbers e) (cost other) (count other) (numbers other)

@@ -1,0 +1,12 @@
+pub mod Row
+pub mod Indexed
+pub mod Labelled
+pub mod Runs
+pub mod Reduced
+pub mod ChainRules
+pub mod Root
+pub mod AreRules
+pub mod IsIndex
+pub mod MCells
+pub mod IsLabelled
+pub mod IsCells

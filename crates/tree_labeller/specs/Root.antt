@@ -1,0 +1,36 @@
+-- What stands at a pattern's root, and the places of the rules with one root.
+use Rattle.std.specs.Prelude.{◌≡◌, ℕ, ◌<◌, ◌≤◌, Option, None, Some, List, [], length, slice_get}
+use Rattle.tree_labeller.specs.declared.places.Root.{Root}
+use Rattle.tree_labeller.specs.declared.places.Root.TheVariants.{Chain, Operator}
+use Rattle.lburg_grammar.specs.declared.rule.Rule.{Rule}
+use Rattle.lburg_grammar.specs.Pattern.{MPattern, PHole, PLeaf, POne, PTwo, pattern_of}
+use Rattle.tree_labeller.specs.ChainRules.{chain_rules}
+
+abbrev pub root_of : MPattern → Root
+root_of (PHole n) = Chain n
+root_of (PLeaf op) = Operator op
+root_of (POne op p) = Operator op
+root_of (PTwo op p q) = Operator op
+
+-- how many rules can have a root
+abbrev pub most_with : Root → List Rule → ℕ
+most_with (Chain n) rules = chain_rules rules
+most_with (Operator op) rules = length rules
+
+-- these are the places of the rules with this root
+pub record ArePlaces (rules : List Rule) (root : Root) (places : List ℕ) : Type 0 where
+  pub only : (k i : ℕ) → slice_get places k ≡ Some i → (r : Rule) × (slice_get rules i ≡ Some r) × (root_of (pattern_of r.pattern) ≡ root)
+  pub all : (i : ℕ) (r : Rule) → slice_get rules i ≡ Some r → root_of (pattern_of r.pattern) ≡ root → (k : ℕ) × (slice_get places k ≡ Some i)
+  pub few : length places ≤ most_with root rules
+
+abbrev pub items_of : Option (List ℕ) → List ℕ
+items_of None = []
+items_of (Some places) = places
+
+abbrev pub places_in : List (List ℕ) → ℕ → List ℕ
+places_in lists n = items_of (slice_get lists n)
+
+-- the lists of the first roots of a kind
+pub record AreLists (rules : List Rule) (kind : ℕ → Root) (count : ℕ) (lists : List (List ℕ)) : Type 0 where
+  pub many : length lists ≡ count
+  pub each : (n : ℕ) → n < count → ArePlaces rules (kind n) (places_in lists n)

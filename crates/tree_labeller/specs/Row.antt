@@ -1,0 +1,102 @@
+-- Rows of cells, and their closing under the chain rules.
+use Rattle.std.specs.Prelude.{◌≡◌, ℕ, ◌+◌, ◌*◌, ◌<◌, ◌≤◌, ◌⊎◌, true, false, Option, Some, None, List, [], ◌∷◌, length, slice_get, slice_set, slice_index_or, cond}
+use Rattle.tree_labeller.specs.declared.cells.Cell.{Cell}
+use Rattle.lburg_grammar.specs.declared.pattern.Pattern.{Nonterminal}
+use Rattle.lburg_grammar.specs.declared.rule.Rule.{Rule}
+
+abbrev pub Leq : ℕ → ℕ → ℕ → ℕ → Type 0
+Leq k m k' m' = (k ≤ k') × (k ≡ k' → m ≤ m')
+
+abbrev pub Leq3 : ℕ → ℕ → ℕ → ℕ → ℕ → ℕ → Type 0
+Leq3 k m r k' m' r' = (k ≤ k') × (k ≡ k' → m ≤ m') × (k ≡ k' → m ≡ m' → r ≤ r')
+
+-- the cell of a nonterminal
+abbrev pub CellAt : List (Option Cell) → ℕ → Cell → Type 0
+CellAt row n c = slice_index_or row n None ≡ Some c
+
+-- the new cell is stored where it is less than the old one
+pub data Relaxed (row : List (Option Cell)) (n : ℕ) (new : Cell) : List (Option Cell) → Type 0 where
+  Taken : ((b : Cell) → CellAt row n b → Leq3 b.cost b.count b.rule new.cost new.count new.rule → ⊥) → Relaxed row n new (slice_set row n (Some new))
+  Left : (b : Cell) → CellAt row n b → Leq3 b.cost b.count b.rule new.cost new.count new.rule → Relaxed row n new row
+
+-- the least of the cells that are not done, if there is one
+abbrev pub LeastOpen : List (Option Cell) → Option (ℕ × Cell) → Type 0
+LeastOpen row None = (m : ℕ) (b : Cell) → CellAt row m b → b.done ≡ true
+LeastOpen row (Some (n, c)) = CellAt row n c × (c.done ≡ false) × ((m : ℕ) (b : Cell) → CellAt row m b → b.done ≡ false → Leq c.cost c.count b.cost b.count)
+
+-- the rule of this place is a chain rule from m
+abbrev pub IsChain : List Rule → ℕ → ℕ → Rule → Type 0
+IsChain rules i m r = (slice_get rules i ≡ Some r) × (r.pattern ≡ Nonterminal m)
+
+-- what the rule of place i makes of a cell
+abbrev pub made_from : Cell → ℕ → Rule → Cell
+made_from from i r = record { cost = from.cost + r.cost; count = from.count + 1; rule = i + 1; done = false }
+
+abbrev pub Beats : List (Option Cell) → ℕ → Cell → Type 0
+Beats row n new = (b : Cell) → CellAt row n b → Leq3 b.cost b.count b.rule new.cost new.count new.rule → ⊥
+
+-- each place
+abbrev pub Everywhere : ℕ → Type 0
+Everywhere i = Unit {0}
+
+-- among the first k of these places
+abbrev pub Among : List ℕ → ℕ → ℕ → Type 0
+Among places k i = (j : ℕ) × (j < k) × (slice_get places j ≡ Some i)
+
+-- the rules of these places were tried on the cell of m
+pub record Spread (rules : List Rule) (m : ℕ) (from : Cell) (old row : List (Option Cell)) (tried : ℕ → Type 0) : Type 0 where
+  pub same_length : length row ≡ length old
+  pub lower : (n : ℕ) (b : Cell) → CellAt old n b → (c : Cell) × CellAt row n c × Leq3 c.cost c.count c.rule b.cost b.count b.rule
+  pub made : (n : ℕ) (c : Cell) → CellAt row n c → CellAt old n c ⊎ ((j : ℕ) × (r : Rule) × IsChain rules j m r × (r.left ≡ n) × (c ≡ made_from from j r) × Beats old n c)
+  pub closed : (j : ℕ) (r : Rule) → tried j → IsChain rules j m r → let new = made_from from j r in (c : Cell) × CellAt row r.left c × Leq3 c.cost c.count c.rule new.cost new.count new.rule
+
+-- an open cell that is less than what was found, which is what comes back
+abbrev pub IsBetter : List (Option Cell) → ℕ → Option (ℕ × Cell) → Option Cell → Type 0
+IsBetter row n None None = (b : Cell) → CellAt row n b → b.done ≡ true
+IsBetter row n (Some (m, best)) None = (b : Cell) → CellAt row n b → b.done ≡ false → Leq best.cost best.count b.cost b.count
+IsBetter row n None (Some c) = CellAt row n c × (c.done ≡ false)
+IsBetter row n (Some (m, best)) (Some c) = CellAt row n c × (c.done ≡ false) × Leq c.cost c.count best.cost best.count
+
+abbrev pub LeastUpto : List (Option Cell) → ℕ → Option (ℕ × Cell) → Type 0
+LeastUpto row k None = (m : ℕ) (b : Cell) → m < k → CellAt row m b → b.done ≡ true
+LeastUpto row k (Some (n, c)) = CellAt row n c × (c.done ≡ false) × ((m : ℕ) (b : Cell) → m < k → CellAt row m b → b.done ≡ false → Leq c.cost c.count b.cost b.count)
+
+abbrev pub done_weight : Option Cell → ℕ
+done_weight None = 0
+done_weight (Some c) = cond c.done 1 0
+
+-- how many cells are done
+abbrev pub dones : List (Option Cell) → ℕ
+dones [] = 0
+dones (x ∷ xs) = done_weight x + dones xs
+
+-- the cell has these numbers
+abbrev pub Same : Cell → Cell → Type 0
+Same a b = (a.cost ≡ b.cost) × (a.count ≡ b.count) × (a.rule ≡ b.rule)
+
+-- a chain rule makes the cell n of a cell of the row
+pub record FromChain (rules : List Rule) (row : List (Option Cell)) (n : ℕ) (c : Cell) : Type 0 where
+  pub place : ℕ
+  pub rule : Rule
+  pub from : ℕ
+  pub cell : Cell
+  pub chain : IsChain rules place from rule
+  pub left : rule.left ≡ n
+  pub at : CellAt row from cell
+  pub same : Same c (made_from cell place rule)
+
+-- no rule costs more than 2 ^ 15, and no cell more than that for each rule of its derivation
+abbrev pub AreCheap : List Rule → Type 0
+AreCheap rules = (i : ℕ) (r : Rule) → slice_get rules i ≡ Some r → r.cost ≤ 32768
+
+abbrev pub IsCheap : List (Option Cell) → Type 0
+IsCheap row = (n : ℕ) (c : Cell) → CellAt row n c → c.cost ≤ 32768 * c.count
+
+-- the row, with the chain rules' cells: none is larger than it was, each is an old one or comes of a chain rule, and no chain rule makes a smaller one
+pub record Closed (rules : List Rule) (old row : List (Option Cell)) : Type 0 where
+  pub same_length : length row ≡ length old
+  pub lower : (n : ℕ) (b : Cell) → CellAt old n b → (c : Cell) × CellAt row n c × Leq3 c.cost c.count c.rule b.cost b.count b.rule
+  pub made : (n : ℕ) (c : Cell) → CellAt row n c → ((b : Cell) × CellAt old n b × Same c b) ⊎ FromChain rules row n c
+  pub closed : (j : ℕ) (r : Rule) (m : ℕ) (b : Cell) → IsChain rules j m r → CellAt row m b → let new = made_from b j r in (c : Cell) × CellAt row r.left c × Leq3 c.cost c.count c.rule new.cost new.count new.rule
+  pub many : (base : ℕ) → ((n : ℕ) (b : Cell) → CellAt old n b → b.count ≤ base) → (n : ℕ) (c : Cell) → CellAt row n c → c.count ≤ base + length old
+  pub cheap : AreCheap rules → IsCheap old → IsCheap row
