@@ -1,0 +1,10 @@
+pub mod Room
+pub mod Cutting
+pub mod Earlier
+pub mod Order
+pub mod InOrder
+pub mod Parts
+pub mod Small
+pub mod Sets
+pub mod Search
+pub mod Whole

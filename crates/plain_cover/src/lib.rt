@@ -1,0 +1,9 @@
+//! The best cover of a tree, found by trying every derivation.
+#![tactic(auto)]
+
+mod plain;
+
+pub use plain::{Found, plain_best};
+
+#[cfg(test)]
+mod tests;
