@@ -1,0 +1,73 @@
+ghost use Rattle.std.specs.Prelude.{◌≡◌, ◌<◌, ◌≤◌, ◌⊎◌, ℕ, List, Some, map, string_bytes, length};
+ghost use Rattle.lcc_base.specs.Faults.{Rose};
+ghost use Rattle.lburg_grammar.specs.Tree.{MTree};
+ghost use Rattle.lburg_grammar.specs.Description.{MDescription};
+ghost use Rattle.lburg_grammar.specs.DescriptionText.{IsText};
+ghost use Rattle.lburg_grammar.specs.TailText.{IsTail};
+ghost use Rattle.lcc_top.specs.Words.{AreAccepted};
+ghost use Rattle.lcc_top.specs.Cover.{IsBadText};
+ghost use Rattle.lcc_top.specs.Call.{Call, IsCaused, IsReported, IsFree, NoFault};
+ghost use Rattle.lcc_top.specs.Headline.{CoverHeadline};
+ghost use Rattle.lcc_top.specs.declared.outcome.Outcome.{Outcome};
+
+use crate::outcome::status;
+use crate::report::write_line;
+use crate::status::Status;
+use crate::work::run;
+use lcc_base::{Failed, Sink, Source};
+use std::alloc::Global;
+
+/// All the work of the program: does what the words behind the program's name ask, with the
+/// input, the output and the report that it is given.
+///
+/// It knows one command so far. `lburg cover` reads a description with trees in its tail, at most
+/// 16,777,216 bytes, and writes a line for each tree: its least-cost derivation from the start
+/// symbol, or that it has none. Nothing is written before all memory is taken. The report takes
+/// one line that tells how the call ended, or nothing.
+pub fn top<S: Source, K: Sink, E: Sink>(
+    alloc: Global,
+    words: &[String],
+    input: &mut S,
+    output: &mut K,
+    report: &mut E,
+) -> Status
+    // Each answer has its cause, and the report its line.
+    ensures caused { let call : Call = record {
+      words = map string_bytes words.now;
+      left = S.left input.old;
+      left_after = S.left input.new;
+      read_faults = S.faults input.old;
+      read_faults_after = S.faults input.new;
+      taken = K.taken output.old;
+      taken_after = K.taken output.new;
+      write_faults = K.faults output.old;
+      write_faults_after = K.faults output.new;
+    } in (outcome : Outcome) × IsCaused call outcome × IsReported (E.taken report.old) (E.taken report.new) (E.faults report.old) (E.faults report.new) outcome result }
+
+    // The headline of `lburg cover`, where the input tells what it had left.
+    ensures cover_headline { (bytes : List ℕ) → S.left input.old ≡ Some bytes → (result ≡ Status.Ok) ⊎ (result ≡ Status.NoCover)
+        → CoverHeadline bytes (K.taken output.old) (K.taken output.new) (E.taken report.old) (E.taken report.new) result }
+
+    // Only a rising count of faults gives an answer of reading or writing.
+    ensures read_fault { result ≡ Status.ReadFault → Rose (S.faults input.old) (S.faults input.new) }
+    ensures write_fault { result ≡ Status.WriteFault → Rose (K.faults output.old) (K.faults output.new) ⊎ Rose (E.faults report.old) (E.faults report.new) }
+
+    // The other refusals come wherever they have to, unless memory was wanted or a write failed.
+    ensures wrong_words { (AreAccepted (map string_bytes words.now) → ⊥) → (result ≡ Status.Usage) ⊎ IsFree result }
+    ensures too_long { (bytes : List ℕ) → AreAccepted (map string_bytes words.now) → S.left input.old ≡ Some bytes → 16777216 < length bytes
+        → NoFault (S.faults input.old) (S.faults input.new) → (result ≡ Status.InputTooLong) ⊎ IsFree result }
+    ensures bad_text { (bytes : List ℕ) → AreAccepted (map string_bytes words.now) → S.left input.old ≡ Some bytes → length bytes ≤ 16777216
+        → IsBadText bytes → NoFault (S.faults input.old) (S.faults input.new) → (result ≡ Status.BadText) ⊎ IsFree result }
+
+    // What is accepted is covered, unless memory was wanted or a stream failed.
+    ensures complete { (bytes : List ℕ) (d : MDescription) (trees : List MTree) → AreAccepted (map string_bytes words.now)
+        → S.left input.old ≡ Some bytes → length bytes ≤ 16777216 → IsText d bytes → IsTail d trees bytes
+        → NoFault (S.faults input.old) (S.faults input.new) → NoFault (K.faults output.old) (K.faults output.new) → NoFault (E.faults report.old) (E.faults report.new)
+        → (result ≡ Status.Ok) ⊎ (result ≡ Status.NoCover) ⊎ (result ≡ Status.Memory) }
+{
+    let outcome = run(alloc, words, input, output);
+    match write_line(report, outcome) {
+        Ok(()) => status(outcome),
+        Err(Failed) => Status::WriteFault,
+    }
+}

@@ -1,0 +1,17 @@
+//! The one call that does all the work of the program.
+#![tactic(auto)]
+
+mod calling;
+mod cover;
+mod outcome;
+mod printer;
+mod report;
+mod status;
+mod words;
+mod work;
+
+pub use calling::top;
+pub use status::Status;
+
+#[cfg(test)]
+mod tests;

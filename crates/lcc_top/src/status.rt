@@ -1,0 +1,42 @@
+ghost use Rattle.std.specs.Prelude.{◌≡◌};
+
+/// How a call of `top` ended.
+#[derive(Clone, Copy, Debug, PartialEq, Eq)]
+pub enum Status {
+    /// The command did all its work.
+    Ok,
+    /// The words are no command.
+    Usage,
+    /// A read of the input failed.
+    ReadFault,
+    /// A write of the output or of the report failed.
+    WriteFault,
+    /// An allocation was refused.
+    Memory,
+    /// The input has more than 16,777,216 bytes.
+    InputTooLong,
+    /// The input isn't of the command's form.
+    BadText,
+    /// A tree has no derivation from the start symbol.
+    NoCover,
+}
+
+impl Status {
+    ghost use Rattle.lcc_top.specs.Status.{number_of};
+
+    /// The program's exit status.
+    pub fn number(self) -> u8
+        ensures { result ≡ number_of self }
+    {
+        match self {
+            Status::Ok => 0,
+            Status::Usage => 1,
+            Status::ReadFault => 2,
+            Status::WriteFault => 3,
+            Status::Memory => 4,
+            Status::InputTooLong => 5,
+            Status::BadText => 6,
+            Status::NoCover => 9,
+        }
+    }
+}

@@ -1,0 +1,196 @@
+use crate::{Status, top};
+use lcc_base::{CountSink, FullSource, MemSink, MemSource};
+use std::alloc::{AllocError, Global};
+use std::test::Fail;
+
+const EIGHT_RULES: &str = "%start stmt
+%term ASGNI=1 ADDRLP=2 CNSTI=3 ADDI=4 INDIRI=5
+%%
+stmt: ASGNI(addr,reg) \"\" 1
+addr: ADDRLP \"\" 0
+reg: addr \"\" 1
+reg: CNSTI \"\" 1
+con: CNSTI \"\" 0
+reg: ADDI(reg,con) \"\" 1
+reg: ADDI(reg,reg) \"\" 1
+reg: INDIRI(addr) \"\" 1
+";
+
+fn cover_words(alloc: Global) -> Result<Vec<String>, AllocError> {
+    vec![in alloc;
+        String::from_str(alloc, "lburg")?,
+        String::from_str(alloc, "cover")?,
+    ]
+}
+
+/// What a call gave: its status, and what output and report took.
+#[derive(Drop)]
+struct Ran {
+    status: Status,
+    output: Vec<u8>,
+    report: Vec<u8>,
+}
+
+/// Covers the text behind the eight rules, with reads and writes of these numbers failing.
+fn cover(
+    alloc: Global,
+    text: &str,
+    tail: &str,
+    reads: &[u64],
+    writes: &[u64],
+) -> Result<Ran, AllocError> {
+    let mut bytes = text.as_bytes().to_vec(alloc)?;
+    bytes.extend_from_slice(tail.as_bytes())?;
+    let mut input = MemSource::new(bytes, reads.to_vec(alloc)?);
+    let mut output = MemSink::new(alloc, writes.to_vec(alloc)?);
+    let mut report = MemSink::new(alloc, Vec::new(alloc));
+    let status = top(
+        alloc,
+        &cover_words(alloc)?,
+        &mut input,
+        &mut output,
+        &mut report,
+    );
+    Ok(Ran {
+        status,
+        output: output.taken().to_vec(alloc)?,
+        report: report.taken().to_vec(alloc)?,
+    })
+}
+
+#[test]
+fn covers(rt: HostRuntime) -> Result<(), Fail> {
+    let alloc = rt.alloc();
+    let rows = [
+        (
+            EIGHT_RULES,
+            "%%\nASGNI(ADDRLP,ADDI(INDIRI(ADDRLP),CNSTI))\n",
+            Status::Ok,
+            "1: cost 3: 1 2 6 8 2 5\n",
+            "",
+        ),
+        (
+            EIGHT_RULES,
+            "%%\nADDRLP\n",
+            Status::NoCover,
+            "1: no cover\n",
+            "no cover: 1\n",
+        ),
+        (
+            "%term T=1\n%%\na: b \"\"\nb: a \"\"\na: T \"\" 5\nb: T \"\" 5\n",
+            "%%\nT",
+            Status::Ok,
+            "1: cost 5: 3\n",
+            "",
+        ),
+        (
+            "%term A=1 B=2\n%%\ns: A(t) \"\" 20000\nt: B \"\" 20000\n",
+            "%%\nA(B)\n",
+            Status::Ok,
+            "1: cost 40000: 1 2\n",
+            "",
+        ),
+        (EIGHT_RULES, "%%\n", Status::Ok, "", ""),
+        (EIGHT_RULES, "", Status::Ok, "", ""),
+        (
+            EIGHT_RULES,
+            "%%\nADDRLP\n\nASGNI(ADDRLP,CNSTI)\nCNSTI",
+            Status::NoCover,
+            "1: no cover\n2: cost 2: 1 2 4\n3: no cover\n",
+            "no cover: 2\n",
+        ),
+        ("", "", Status::BadText, "", "bad text\n"),
+        (
+            EIGHT_RULES,
+            "%%\nADDRLP(CNSTI)\n",
+            Status::BadText,
+            "",
+            "bad text\n",
+        ),
+    ];
+    for (text, tail, status, output, report) in rows {
+        let ran = cover(alloc, text, tail, &[], &[])?;
+        assert_eq!(rt; ran.status, status);
+        assert_eq!(rt; ran.output.as_slice(), output.as_bytes());
+        assert_eq!(rt; ran.report.as_slice(), report.as_bytes());
+    }
+    Ok(())
+}
+
+#[test]
+fn streams_fail(rt: HostRuntime) -> Result<(), Fail> {
+    let alloc = rt.alloc();
+    let tail = "%%\nASGNI(ADDRLP,CNSTI)\n";
+    let unread = cover(alloc, EIGHT_RULES, tail, &[1], &[])?;
+    assert_eq!(rt; unread.status, Status::ReadFault);
+    assert_eq!(rt; unread.output.len(), 0);
+    let broken = cover(alloc, EIGHT_RULES, tail, &[2], &[])?;
+    assert_eq!(rt; broken.status, Status::ReadFault);
+    let unwritten = cover(alloc, EIGHT_RULES, tail, &[], &[1])?;
+    assert_eq!(rt; unwritten.status, Status::WriteFault);
+    assert_eq!(rt; unwritten.output.len(), 0);
+    assert_eq!(rt; unwritten.report.len(), 0);
+    Ok(())
+}
+
+#[test]
+fn words_are_wrong(rt: HostRuntime) -> Result<(), Fail> {
+    let alloc = rt.alloc();
+    let words = vec![in alloc;
+        String::from_str(alloc, "lburg")?,
+        String::from_str(alloc, "tables")?,
+    ]?;
+    let mut report = MemSink::new(alloc, Vec::new(alloc));
+    let status = top(
+        alloc,
+        &words,
+        &mut FullSource::new(Vec::new(alloc)),
+        &mut CountSink::new(),
+        &mut report,
+    );
+    assert_eq!(rt; status, Status::Usage);
+    assert_eq!(rt; report.taken(), b"lcc: wrong words\n".as_slice());
+    Ok(())
+}
+
+#[test]
+fn input_is_too_long(rt: HostRuntime) -> Result<(), Fail> {
+    let alloc = rt.alloc();
+    let mut input = FullSource::new(vec![in alloc; b' '; 16_777_217]?);
+    let mut output = CountSink::new();
+    let mut report = MemSink::new(alloc, Vec::new(alloc));
+    let status = top(
+        alloc,
+        &cover_words(alloc)?,
+        &mut input,
+        &mut output,
+        &mut report,
+    );
+    assert_eq!(rt; status, Status::InputTooLong);
+    assert_eq!(rt; status.number(), 5);
+    assert_eq!(rt; output.count(), 0);
+    assert_eq!(rt; report.taken(), b"input too long\n".as_slice());
+    Ok(())
+}
+
+#[test]
+fn ten_thousand_trees(rt: HostRuntime) -> Result<(), Fail> {
+    let alloc = rt.alloc();
+    let mut bytes = b"%term A=1\n%%\ns: A \"\" 7\n%%\n".to_vec(alloc)?;
+    for _ in 0..10_000 {
+        bytes.extend_from_slice(b"A\n")?;
+    }
+    let mut output = CountSink::new();
+    let mut report = MemSink::new(alloc, Vec::new(alloc));
+    let status = top(
+        alloc,
+        &cover_words(alloc)?,
+        &mut FullSource::new(bytes),
+        &mut output,
+        &mut report,
+    );
+    assert_eq!(rt; status, Status::Ok);
+    // 9 lines of 13 bytes, 90 of 14, 900 of 15, 9,000 of 16 and one of 17.
+    assert_eq!(rt; output.count(), 158_894);
+    Ok(())
+}
