@@ -17,10 +17,10 @@ reg: INDIRI(addr) \"\" 1
 ";
 
 fn cover_words(alloc: Global) -> Result<Vec<String>, AllocError> {
-    vec![in alloc;
-        String::from_str(alloc, "lburg")?,
-        String::from_str(alloc, "cover")?,
-    ]
+    let mut words = Vec::new(alloc);
+    words.push(String::from_str(alloc, "lburg")?)?;
+    words.push(String::from_str(alloc, "cover")?)?;
+    Ok(words)
 }
 
 /// What a call gave: its status, and what output and report took.
