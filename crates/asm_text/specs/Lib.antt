@@ -1,0 +1,13 @@
+pub mod Classes
+pub mod Program
+pub mod Tokens
+pub mod Spelling
+pub mod Instructions
+pub mod AssemblyText
+pub mod Operands
+pub mod Words
+pub mod Labels
+pub mod Fitting
+pub mod Printable
+pub mod Printed
+pub mod IsProgram
