@@ -1,0 +1,5 @@
+pub mod Lost
+pub mod Words
+pub mod Accesses
+pub mod Named
+pub mod Steps

@@ -1,0 +1,9 @@
+pub mod Addresses
+pub mod Memory
+pub mod State
+pub mod StepTable
+pub mod Run
+pub mod Acted
+pub mod Did
+pub mod Resolved
+pub mod Stepped
