@@ -1,7 +1,8 @@
 -- Which status a call has, by what its input is.
-use Rattle.std.proofs.Common.{◌≡◌, ℕ, ◌+◌, ◌<◌, ◌≤◌, ◌⊎◌, inl, inr, List, [], ◌∷◌, ◌++◌, length, refl, sym, ap, subst, ◌∙◌, append-nil, length-append, arith, None, Some}
+use Rattle.std.proofs.Common.{◌≡◌, ℕ, ◌+◌, ◌≤◌, ◌⊎◌, inl, inr, List, [], ◌++◌, length, refl, sym, ap, subst, ◌∙◌, append-nil, length-append, arith, None, Some}
 use Rattle.std.specs.declared.option.Option.{Option}
-use Rattle.std.specs.Io.KnownBytes.{Consumes, IsAtEnd}
+use Rattle.std.specs.Prelude.{Result, Ok}
+use Rattle.std.specs.Io.KnownBytes.{Appends, Consumes, IsAtEnd}
 use Rattle.lcc_base.specs.Taken.{TookMore}
 use Rattle.lburg_grammar.specs.Tree.{MTree}
 use Rattle.lburg_grammar.specs.Description.{MDescription}
@@ -11,10 +12,18 @@ use Rattle.lcc_top.specs.declared.outcome.Outcome.{Outcome}
 use Rattle.lcc_top.specs.declared.outcome.Outcome.TheVariants as outcome
 use Rattle.lcc_top.specs.declared.status.Status.{Status}
 use Rattle.lcc_top.specs.declared.status.Status.TheVariants as status
-use Rattle.lcc_top.specs.Outcome.{status_of}
-use Rattle.lcc_top.specs.Words.{AreAccepted}
+use Rattle.lcc_top.specs.Outcome.{status_of, line_of}
+use Rattle.asm_text.specs.declared.program.Program.{Program}
+use Rattle.asm_text.specs.declared.asm_fault.AsmFault.{AsmFault}
+use Rattle.asm_text.specs.AssemblyText.{IsAssembly}
+use Rattle.asm_text.proofs.Exact.{program_read}
+use Rattle.lcc_base.specs.declared.order.Order.TheVariants.{Big}
+use Rattle.mips_machine.specs.Run.{HasMain, mrun}
+use Rattle.lcc_top.specs.Words.{AreCover, AreSimrun, AreAccepted}
+use Rattle.lcc_top.specs.Simulation.{IsBadAssembly, IsIdle, IsOutcome}
+use Rattle.lcc_top.specs.Headline.{IsAnswer, CoverHeadline, IsRunStatus, RunHeadline}
 use Rattle.lcc_top.specs.Cover.{IsCover, IsBadText}
-use Rattle.lcc_top.specs.Call.{Call, ReadAll, Covered, IsCaused, IsFree, NoFault}
+use Rattle.lcc_top.specs.Call.{Call, ReadAll, Covered, Simulated, WriteFailed, IsCaused, IsFree, NoFault}
 
 -- what was read to the end is what was left
 the_input : (left after : Option (List ℕ)) (input bytes : List ℕ) → Consumes left after input → IsAtEnd after → left ≡ Some bytes → input ≡ bytes
@@ -42,15 +51,54 @@ not_bad call input bytes text n all is cover bad =
     let Bad : List ℕ → Type 0 = λ l. IsBadText l in
     subst Bad (sym (read_input call input bytes all is)) bad cover.description cover.trees cover.is_text cover.is_tail
 
-pub bad_or_free : (call : Call) (o : Outcome) (bytes : List ℕ) → IsCaused call o → AreAccepted call.words → call.left ≡ Some bytes → length bytes ≤ 16777216 → IsBadText bytes → NoFault call.read_faults call.read_faults_after → (status_of o ≡ status.BadText) ⊎ IsFree (status_of o)
-bad_or_free call outcome.Covered bytes h accepted is small bad fine = absurd (not_bad call h.input bytes h.text 0 h.read is h.cover bad)
-bad_or_free call (outcome.NoCover n) bytes (h, some) accepted is small bad fine = absurd (not_bad call h.input bytes h.text n h.read is h.cover bad)
-bad_or_free call outcome.Usage bytes h accepted is small bad fine = absurd (h.refused accepted)
-bad_or_free call outcome.ReadFault bytes h accepted is small bad fine = absurd (fine h.fault)
-bad_or_free call outcome.WriteFault bytes h accepted is small bad fine = inr (inr refl)
-bad_or_free call outcome.Memory bytes h accepted is small bad fine = inr (inl refl)
-bad_or_free call outcome.InputTooLong bytes h accepted is small bad fine = absurd (not_more call.left call.left_after bytes is small h.took)
-bad_or_free call outcome.BadText bytes h accepted is small bad fine = inl refl
+-- words aren't those of both commands
+not_both : (words : List (List ℕ)) → AreCover words → AreSimrun words → ⊥
+not_both words cover simrun = let sizes : 2 ≡ 3 = ap length (sym cover ∙ simrun) in absurd (omega (arith, sizes))
+
+-- a text is one program's
+same_program : (text : List ℕ) (p q : Program) → IsAssembly text p → IsAssembly text q → p ≡ q
+same_program text p q is also =
+    let one : Result Program AsmFault = Ok p in
+    program_read text one q is also
+
+-- the program of the input, in the words of what was left
+this_program : (call : Call) (input bytes : List ℕ) (p q : Program) → ReadAll call input → call.left ≡ Some bytes → IsAssembly input p → IsAssembly bytes q → p ≡ q
+this_program call input bytes p q all is mine its =
+    let Text : List ℕ → Type 0 = λ l. IsAssembly l p in
+    same_program bytes p q (subst Text (read_input call input bytes all is) mine) its
+
+-- an input that nothing is done on
+abbrev Useless : Call → List ℕ → Type 0
+Useless call bytes = (AreCover call.words × IsBadText bytes) ⊎ (AreSimrun call.words × IsIdle bytes)
+
+accepted_of : (call : Call) (bytes : List ℕ) → Useless call bytes → AreAccepted call.words
+accepted_of call bytes (inl h) = inl h.0
+accepted_of call bytes (inr h) = inr h.0
+
+no_cover_of : (call : Call) (input bytes text : List ℕ) (n : ℕ) → AreCover call.words → ReadAll call input → call.left ≡ Some bytes → IsCover input text n → Useless call bytes → ⊥
+no_cover_of call input bytes text n words all is cover (inl h) = not_bad call input bytes text n all is cover h.1
+no_cover_of call input bytes text n words all is cover (inr h) = not_both call.words words h.0
+
+no_run_of : (call : Call) (o : Outcome) (bytes : List ℕ) → Simulated call o → call.left ≡ Some bytes → Useless call bytes → ⊥
+no_run_of call o bytes h is (inl k) = not_both call.words k.0 h.accepted
+no_run_of call o bytes h is (inr k) =
+    let Text : List ℕ → Type 0 = λ l. IsAssembly l h.program in
+    k.1 h.program h.main (subst Text (read_input call h.input bytes h.read is) h.is_assembly) h.has_main
+
+pub bad_or_free : (call : Call) (o : Outcome) (bytes : List ℕ) → IsCaused call o → Useless call bytes → call.left ≡ Some bytes → length bytes ≤ 16777216 → NoFault call.read_faults call.read_faults_after → (status_of o ≡ status.BadText) ⊎ IsFree (status_of o)
+bad_or_free call outcome.Covered bytes h useless is small fine = absurd (no_cover_of call h.input bytes h.text 0 h.accepted h.read is h.cover useless)
+bad_or_free call (outcome.NoCover n) bytes (h, some) useless is small fine = absurd (no_cover_of call h.input bytes h.text n h.accepted h.read is h.cover useless)
+bad_or_free call (outcome.Exited s) bytes h useless is small fine = absurd (no_run_of call (outcome.Exited s) bytes h is useless)
+bad_or_free call (outcome.Stuck cause pc step) bytes h useless is small fine = absurd (no_run_of call (outcome.Stuck cause pc step) bytes h is useless)
+bad_or_free call (outcome.StackOut pc step) bytes h useless is small fine = absurd (no_run_of call (outcome.StackOut pc step) bytes h is useless)
+bad_or_free call (outcome.OutOfSteps n) bytes h useless is small fine = absurd (no_run_of call (outcome.OutOfSteps n) bytes h is useless)
+bad_or_free call outcome.NoMain bytes h useless is small fine = inl refl
+bad_or_free call outcome.Usage bytes h useless is small fine = absurd (h.refused (accepted_of call bytes useless))
+bad_or_free call outcome.ReadFault bytes h useless is small fine = absurd (fine h.fault)
+bad_or_free call outcome.WriteFault bytes h useless is small fine = inr (inr refl)
+bad_or_free call outcome.Memory bytes h useless is small fine = inr (inl refl)
+bad_or_free call outcome.InputTooLong bytes h useless is small fine = absurd (not_more call.left call.left_after bytes is small h.took)
+bad_or_free call outcome.BadText bytes h useless is small fine = inl refl
 
 -- a bad text isn't accepted
 not_accepted : (call : Call) (input bytes : List ℕ) (d : MDescription) (trees : List MTree) → ReadAll call input → call.left ≡ Some bytes → IsBadText input → IsText d bytes → IsTail d trees bytes → ⊥
@@ -58,12 +106,108 @@ not_accepted call input bytes d trees all is bad text tail =
     let Bad : List ℕ → Type 0 = λ l. IsBadText l in
     subst Bad (read_input call input bytes all is) bad d trees text tail
 
-pub covered_or_memory : (call : Call) (o : Outcome) (bytes : List ℕ) (d : MDescription) (trees : List MTree) → IsCaused call o → AreAccepted call.words → call.left ≡ Some bytes → length bytes ≤ 16777216 → IsText d bytes → IsTail d trees bytes → NoFault call.read_faults call.read_faults_after → NoFault call.write_faults call.write_faults_after → (status_of o ≡ status.Ok) ⊎ (status_of o ≡ status.NoCover) ⊎ (status_of o ≡ status.Memory)
-covered_or_memory call outcome.Covered bytes d trees h accepted is small text tail fine sound = inl refl
-covered_or_memory call (outcome.NoCover n) bytes d trees h accepted is small text tail fine sound = inr (inl refl)
-covered_or_memory call outcome.Usage bytes d trees h accepted is small text tail fine sound = absurd (h.refused accepted)
-covered_or_memory call outcome.ReadFault bytes d trees h accepted is small text tail fine sound = absurd (fine h.fault)
-covered_or_memory call outcome.WriteFault bytes d trees h accepted is small text tail fine sound = absurd (sound h.fault)
-covered_or_memory call outcome.Memory bytes d trees h accepted is small text tail fine sound = inr (inr refl)
-covered_or_memory call outcome.InputTooLong bytes d trees h accepted is small text tail fine sound = absurd (not_more call.left call.left_after bytes is small h.took)
-covered_or_memory call outcome.BadText bytes d trees h accepted is small text tail fine sound = absurd (not_accepted call h.input bytes d trees h.read is h.bad text tail)
+no_bad_cover : (call : Call) (input bytes : List ℕ) (d : MDescription) (trees : List MTree) → AreCover call.words → ReadAll call input → call.left ≡ Some bytes → IsText d bytes → IsTail d trees bytes → (AreCover call.words × IsBadText input) ⊎ (AreSimrun call.words × IsBadAssembly input) → ⊥
+no_bad_cover call input bytes d trees words all is text tail (inl h) = not_accepted call input bytes d trees all is h.1 text tail
+no_bad_cover call input bytes d trees words all is text tail (inr h) = not_both call.words words h.0
+
+no_fault_of : (call : Call) → WriteFailed call ⊎ Simulated call outcome.WriteFault → NoFault call.write_faults call.write_faults_after → ⊥
+no_fault_of call (inl h) sound = sound h.fault
+no_fault_of call (inr h) sound = sound h.ran.0
+
+pub covered_or_memory : (call : Call) (o : Outcome) (bytes : List ℕ) (d : MDescription) (trees : List MTree) → IsCaused call o → AreCover call.words → call.left ≡ Some bytes → length bytes ≤ 16777216 → IsText d bytes → IsTail d trees bytes → NoFault call.read_faults call.read_faults_after → NoFault call.write_faults call.write_faults_after → (status_of o ≡ status.Ok) ⊎ (status_of o ≡ status.NoCover) ⊎ (status_of o ≡ status.Memory)
+covered_or_memory call outcome.Covered bytes d trees h words is small text tail fine sound = inl refl
+covered_or_memory call (outcome.NoCover n) bytes d trees h words is small text tail fine sound = inr (inl refl)
+covered_or_memory call (outcome.Exited s) bytes d trees h words is small text tail fine sound = absurd (not_both call.words words h.accepted)
+covered_or_memory call (outcome.Stuck cause pc step) bytes d trees h words is small text tail fine sound = absurd (not_both call.words words h.accepted)
+covered_or_memory call (outcome.StackOut pc step) bytes d trees h words is small text tail fine sound = absurd (not_both call.words words h.accepted)
+covered_or_memory call (outcome.OutOfSteps n) bytes d trees h words is small text tail fine sound = absurd (not_both call.words words h.accepted)
+covered_or_memory call outcome.NoMain bytes d trees h words is small text tail fine sound = absurd (not_both call.words words h.accepted)
+covered_or_memory call outcome.Usage bytes d trees h words is small text tail fine sound = absurd (h.refused (inl words))
+covered_or_memory call outcome.ReadFault bytes d trees h words is small text tail fine sound = absurd (fine h.fault)
+covered_or_memory call outcome.WriteFault bytes d trees h words is small text tail fine sound = absurd (no_fault_of call h sound)
+covered_or_memory call outcome.Memory bytes d trees h words is small text tail fine sound = inr (inr refl)
+covered_or_memory call outcome.InputTooLong bytes d trees h words is small text tail fine sound = absurd (not_more call.left call.left_after bytes is small h.took)
+covered_or_memory call outcome.BadText bytes d trees h words is small text tail fine sound = absurd (no_bad_cover call h.input bytes d trees words h.read is text tail h.bad)
+
+not_without_main : (call : Call) (input bytes : List ℕ) (p q : Program) (main : ℕ) → ReadAll call input → call.left ≡ Some bytes → IsAssembly input p → ((m : ℕ) → HasMain p m → ⊥) → IsAssembly bytes q → HasMain q main → ⊥
+not_without_main call input bytes p q main all is mine none its has =
+    let Main : Program → Type 0 = λ r. HasMain r main in
+    none main (subst Main (sym (this_program call input bytes p q all is mine its)) has)
+
+no_bad_assembly : (call : Call) (input bytes : List ℕ) (p : Program) → AreSimrun call.words → ReadAll call input → call.left ≡ Some bytes → IsAssembly bytes p → (AreCover call.words × IsBadText input) ⊎ (AreSimrun call.words × IsBadAssembly input) → ⊥
+no_bad_assembly call input bytes p words all is its (inl h) = not_both call.words h.0 words
+no_bad_assembly call input bytes p words all is its (inr h) =
+    let Text : List ℕ → Type 0 = λ l. IsAssembly l p in
+    h.1 p (subst Text (sym (read_input call input bytes all is)) its)
+
+pub ran_or_memory : (call : Call) (o : Outcome) (bytes : List ℕ) (p : Program) (main : ℕ) → IsCaused call o → AreSimrun call.words → call.left ≡ Some bytes → length bytes ≤ 16777216 → IsAssembly bytes p → HasMain p main → NoFault call.read_faults call.read_faults_after → NoFault call.write_faults call.write_faults_after → IsRunStatus (status_of o) ⊎ (status_of o ≡ status.Memory)
+ran_or_memory call outcome.Covered bytes p main h words is small its has fine sound = inl tt
+ran_or_memory call (outcome.NoCover n) bytes p main (h, some) words is small its has fine sound = absurd (not_both call.words h.accepted words)
+ran_or_memory call (outcome.Exited s) bytes p main h words is small its has fine sound = inl tt
+ran_or_memory call (outcome.Stuck cause pc step) bytes p main h words is small its has fine sound = inl tt
+ran_or_memory call (outcome.StackOut pc step) bytes p main h words is small its has fine sound = inl tt
+ran_or_memory call (outcome.OutOfSteps n) bytes p main h words is small its has fine sound = inl tt
+ran_or_memory call outcome.NoMain bytes p main h words is small its has fine sound = absurd (not_without_main call h.input bytes h.program p main h.read is h.is_assembly h.none its has)
+ran_or_memory call outcome.Usage bytes p main h words is small its has fine sound = absurd (h.refused (inr words))
+ran_or_memory call outcome.ReadFault bytes p main h words is small its has fine sound = absurd (fine h.fault)
+ran_or_memory call outcome.WriteFault bytes p main h words is small its has fine sound = absurd (no_fault_of call h sound)
+ran_or_memory call outcome.Memory bytes p main h words is small its has fine sound = inr refl
+ran_or_memory call outcome.InputTooLong bytes p main h words is small its has fine sound = absurd (not_more call.left call.left_after bytes is small h.took)
+ran_or_memory call outcome.BadText bytes p main h words is small its has fine sound = absurd (no_bad_assembly call h.input bytes p words h.read is its h.bad)
+
+ran : (call : Call) (o : Outcome) (bytes : List ℕ) (report report_after : Option (List ℕ)) → (h : Simulated call o) → call.left ≡ Some bytes → IsOutcome (λ n. mrun h.program Big h.stack h.main [] n) h.steps call.taken call.taken_after o → Appends report report_after (line_of o) → RunHeadline bytes call.taken call.taken_after report report_after (status_of o)
+ran call o bytes report report_after h is did told =
+    let Text : List ℕ → Type 0 = λ l. IsAssembly l h.program in
+    record { program = h.program; is_assembly = subst Text (read_input call h.input bytes h.read is) h.is_assembly; main = h.main; has_main = h.has_main; stack = h.stack; stack_is = h.stack_is; steps = h.steps; steps_is = h.steps_is; outcome = o; ran = did; answered = refl; reported = told }
+
+-- the headline of simrun
+pub ran_headline : (call : Call) (o : Outcome) (bytes : List ℕ) (report report_after : Option (List ℕ)) → IsCaused call o → AreSimrun call.words → call.left ≡ Some bytes → Appends report report_after (line_of o) → IsRunStatus (status_of o) → RunHeadline bytes call.taken call.taken_after report report_after (status_of o)
+ran_headline call outcome.Covered bytes report report_after h words is told good = absurd (not_both call.words h.accepted words)
+ran_headline call (outcome.NoCover n) bytes report report_after h words is told good = absurd good
+ran_headline call (outcome.Exited s) bytes report report_after h words is told good = ran call (outcome.Exited s) bytes report report_after h is h.ran told
+ran_headline call (outcome.Stuck cause pc step) bytes report report_after h words is told good = ran call (outcome.Stuck cause pc step) bytes report report_after h is h.ran told
+ran_headline call (outcome.StackOut pc step) bytes report report_after h words is told good = ran call (outcome.StackOut pc step) bytes report report_after h is h.ran told
+ran_headline call (outcome.OutOfSteps n) bytes report report_after h words is told good = ran call (outcome.OutOfSteps n) bytes report report_after h is h.ran told
+ran_headline call outcome.NoMain bytes report report_after h words is told good = absurd good
+ran_headline call outcome.Usage bytes report report_after h words is told good = absurd good
+ran_headline call outcome.ReadFault bytes report report_after h words is told good = absurd good
+ran_headline call outcome.WriteFault bytes report report_after h words is told good = absurd good
+ran_headline call outcome.Memory bytes report report_after h words is told good = absurd good
+ran_headline call outcome.InputTooLong bytes report report_after h words is told good = absurd good
+ran_headline call outcome.BadText bytes report report_after h words is told good = absurd good
+
+covered : (call : Call) (bytes : List ℕ) (n : ℕ) (answer : Status) (report report_after : Option (List ℕ)) → Covered call n → call.left ≡ Some bytes → IsAnswer n answer report report_after → CoverHeadline bytes call.taken call.taken_after report report_after answer
+covered call bytes n answer report report_after h is answered =
+    let Input : List ℕ → Type 0 = λ l. IsCover l h.text n in
+    record { text = h.text; uncovered = n; cover = subst Input (read_input call h.input bytes h.read is) h.cover; written = h.written; answered = answered }
+
+-- the headline of lburg cover
+pub cover_headline : (call : Call) (o : Outcome) (bytes : List ℕ) (report report_after : Option (List ℕ)) → IsCaused call o → AreCover call.words → call.left ≡ Some bytes → Appends report report_after (line_of o) → (status_of o ≡ status.Ok) ⊎ (status_of o ≡ status.NoCover) → CoverHeadline bytes call.taken call.taken_after report report_after (status_of o)
+cover_headline call outcome.Covered bytes report report_after h words is told good = covered call bytes 0 status.Ok report report_after h is (inl (refl, refl, told))
+cover_headline call (outcome.NoCover n) bytes report report_after (h, some) words is told good = covered call bytes n status.NoCover report report_after h is (inr (some, refl, told))
+cover_headline call (outcome.Exited s) bytes report report_after h words is told good = absurd (not_both call.words words h.accepted)
+cover_headline call (outcome.Stuck cause pc step) bytes report report_after h words is told good = absurd (not_both call.words words h.accepted)
+cover_headline call (outcome.StackOut pc step) bytes report report_after h words is told good = absurd (not_both call.words words h.accepted)
+cover_headline call (outcome.OutOfSteps n) bytes report report_after h words is told good = absurd (not_both call.words words h.accepted)
+cover_headline call outcome.NoMain bytes report report_after h words is told good = absurd (not_both call.words words h.accepted)
+cover_headline call outcome.Usage bytes report report_after h words is told good = absurd (h.refused (inl words))
+cover_headline call outcome.ReadFault bytes report report_after h words is told good = absurd (neither good) where
+  neither : (status.ReadFault ≡ status.Ok) ⊎ (status.ReadFault ≡ status.NoCover) → ⊥
+  neither (inl e) = cc
+  neither (inr e) = cc
+cover_headline call outcome.WriteFault bytes report report_after h words is told good = absurd (neither good) where
+  neither : (status.WriteFault ≡ status.Ok) ⊎ (status.WriteFault ≡ status.NoCover) → ⊥
+  neither (inl e) = cc
+  neither (inr e) = cc
+cover_headline call outcome.Memory bytes report report_after h words is told good = absurd (neither good) where
+  neither : (status.Memory ≡ status.Ok) ⊎ (status.Memory ≡ status.NoCover) → ⊥
+  neither (inl e) = cc
+  neither (inr e) = cc
+cover_headline call outcome.InputTooLong bytes report report_after h words is told good = absurd (neither good) where
+  neither : (status.InputTooLong ≡ status.Ok) ⊎ (status.InputTooLong ≡ status.NoCover) → ⊥
+  neither (inl e) = cc
+  neither (inr e) = cc
+cover_headline call outcome.BadText bytes report report_after h words is told good = absurd (neither good) where
+  neither : (status.BadText ≡ status.Ok) ⊎ (status.BadText ≡ status.NoCover) → ⊥
+  neither (inl e) = cc
+  neither (inr e) = cc

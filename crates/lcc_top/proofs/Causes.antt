@@ -1,31 +1,68 @@
 -- What a call did, from what its parts did.
-use Rattle.std.proofs.Common.{◌≡◌, ℕ, ◌+◌, ◌<◌, ◌≤◌, ◌⊎◌, inl, inr, List, [], ◌∷◌, ◌++◌, length, refl, sym, ap, subst, ◌∙◌, append-nil, length-append, arith, None, Some}
+use Rattle.std.proofs.Common.{◌≡◌, ℕ, inl, inr, List, [], refl, subst, None, Some}
 use Rattle.std.specs.declared.option.Option.{Option}
-use Rattle.std.specs.Io.KnownBytes.{Appends, Consumes, Keeps, IsAtEnd}
-use Rattle.lcc_base.specs.Taken.{TookMore}
+use Rattle.std.specs.Io.KnownBytes.{Keeps}
 use Rattle.lcc_top.specs.declared.outcome.Outcome.{Outcome}
 use Rattle.lcc_top.specs.declared.outcome.Outcome.TheVariants as outcome
-use Rattle.lcc_top.specs.Words.{AreAccepted}
-use Rattle.lcc_top.specs.Call.{Call, ReadAll, IsCaused}
+use Rattle.lcc_top.specs.Words.{AreCover, AreSimrun}
+use Rattle.lcc_top.specs.Call.{Call, ReadAll, Simulated, IsCaused}
 use Rattle.lcc_top.specs.Cover.{IsCover}
-use Rattle.lcc_top.specs.Work.{IsDone}
+use Rattle.asm_text.specs.declared.program.Program.{Program}
+use Rattle.asm_text.specs.AssemblyText.{IsAssembly}
+use Rattle.mips_machine.specs.Run.{HasMain, mrun}
+use Rattle.lcc_base.specs.declared.order.Order.TheVariants.{Big}
+use Rattle.lcc_top.specs.Simulation.{HasRun}
+use Rattle.lcc_top.specs.declared.words.Command.{Command}
+use Rattle.lcc_top.specs.declared.words.Command.TheVariants.{Cover, Simrun}
+use Rattle.lcc_top.specs.Commands.{AreWordsOf}
+use Rattle.lcc_top.specs.Work.{IsDone, IsSimulated, IsDoneBy}
 
 pub keeps_same : (bytes : Option (List ℕ)) → Keeps bytes bytes
 keeps_same None = tt
 keeps_same (Some xs) = refl
 
--- the words are accepted, all was read, and the rest was done
-pub caused : (call : Call) (input : List ℕ) (o : Outcome) → AreAccepted call.words → ReadAll call input → IsDone call.taken call.taken_after call.write_faults call.write_faults_after input o → IsCaused call o
-caused call input outcome.Covered accepted all (text, n, cover, (written, none)) =
+-- the words are lburg cover, all was read, and the rest was done
+pub covered : (call : Call) (input : List ℕ) (o : Outcome) → AreCover call.words → ReadAll call input → IsDone call.taken call.taken_after call.write_faults call.write_faults_after input o → IsCaused call o
+covered call input outcome.Covered accepted all (text, n, cover, (written, none)) =
     let Zero : ℕ → Type 0 = λ k. IsCover input text k in
     record { accepted = accepted; input = input; read = all; text = text; cover = subst Zero none cover; written = written }
-caused call input (outcome.NoCover k) accepted all (text, n, cover, (written, is, some)) =
+covered call input (outcome.NoCover k) accepted all (text, n, cover, (written, is, some)) =
     let Same : ℕ → Type 0 = λ j. IsCover input text j in
     (record { accepted = accepted; input = input; read = all; text = text; cover = subst Same is cover; written = written }, some)
-caused call input outcome.Usage accepted all (text, n, cover, none) = absurd none
-caused call input outcome.ReadFault accepted all (text, n, cover, none) = absurd none
-caused call input outcome.WriteFault accepted all (text, n, cover, (part, fault)) =
-    record { accepted = accepted; fault = fault; input = input; read = all; text = text; uncovered = n; cover = cover; part = part }
-caused call input outcome.Memory accepted all kept = kept
-caused call input outcome.InputTooLong accepted all (text, n, cover, none) = absurd none
-caused call input outcome.BadText accepted all (bad, kept) = record { accepted = accepted; input = input; read = all; bad = bad; nothing = kept }
+covered call input (outcome.Exited s) accepted all (text, n, cover, none) = absurd none
+covered call input (outcome.Stuck cause pc step) accepted all (text, n, cover, none) = absurd none
+covered call input (outcome.StackOut pc step) accepted all (text, n, cover, none) = absurd none
+covered call input (outcome.OutOfSteps k) accepted all (text, n, cover, none) = absurd none
+covered call input outcome.NoMain accepted all (text, n, cover, none) = absurd none
+covered call input outcome.Usage accepted all (text, n, cover, none) = absurd none
+covered call input outcome.ReadFault accepted all (text, n, cover, none) = absurd none
+covered call input outcome.WriteFault accepted all (text, n, cover, (part, fault)) =
+    inl (record { accepted = accepted; fault = fault; input = input; read = all; text = text; uncovered = n; cover = cover; part = part })
+covered call input outcome.Memory accepted all kept = kept
+covered call input outcome.InputTooLong accepted all (text, n, cover, none) = absurd none
+covered call input outcome.BadText accepted all (bad, kept) = record { input = input; read = all; bad = inl (accepted, bad); nothing = kept }
+
+run : (call : Call) (input : List ℕ) (o : Outcome) (p : Program) (main stack steps : ℕ) → AreSimrun call.words → ReadAll call input → IsAssembly input p → HasMain p main → stack ≡ 1048576 → steps ≡ 10000000 → HasRun (λ n. mrun p Big stack main [] n) steps call.taken call.taken_after call.write_faults call.write_faults_after o → Simulated call o
+run call input o p main stack steps words all is has size count ran =
+    record { accepted = words; input = input; read = all; program = p; is_assembly = is; main = main; has_main = has; stack = stack; stack_is = size; steps = steps; steps_is = count; ran = ran }
+
+-- the words are simrun's, all was read, and the rest was done
+pub simulated : (call : Call) (input : List ℕ) (o : Outcome) → AreSimrun call.words → ReadAll call input → IsSimulated call.taken call.taken_after call.write_faults call.write_faults_after input o → IsCaused call o
+simulated call input outcome.Covered words all (p, is, (main, stack, steps, has, size, count, none)) = absurd none
+simulated call input (outcome.NoCover k) words all (p, is, (main, stack, steps, has, size, count, none)) = absurd none
+simulated call input (outcome.Exited s) words all (p, is, (main, stack, steps, has, size, count, ran)) = run call input (outcome.Exited s) p main stack steps words all is has size count ran
+simulated call input (outcome.Stuck cause pc step) words all (p, is, (main, stack, steps, has, size, count, ran)) = run call input (outcome.Stuck cause pc step) p main stack steps words all is has size count ran
+simulated call input (outcome.StackOut pc step) words all (p, is, (main, stack, steps, has, size, count, ran)) = run call input (outcome.StackOut pc step) p main stack steps words all is has size count ran
+simulated call input (outcome.OutOfSteps k) words all (p, is, (main, stack, steps, has, size, count, ran)) = run call input (outcome.OutOfSteps k) p main stack steps words all is has size count ran
+simulated call input outcome.NoMain words all (p, is, (none, kept)) = record { accepted = words; input = input; read = all; program = p; is_assembly = is; none = none; nothing = kept }
+simulated call input outcome.Usage words all (p, is, (main, stack, steps, has, size, count, none)) = absurd none
+simulated call input outcome.ReadFault words all (p, is, (main, stack, steps, has, size, count, none)) = absurd none
+simulated call input outcome.WriteFault words all (p, is, (main, stack, steps, has, size, count, ran)) = inr (run call input outcome.WriteFault p main stack steps words all is has size count ran)
+simulated call input outcome.Memory words all kept = kept
+simulated call input outcome.InputTooLong words all (p, is, (main, stack, steps, has, size, count, none)) = absurd none
+simulated call input outcome.BadText words all (bad, kept) = record { input = input; read = all; bad = inr (words, bad); nothing = kept }
+
+-- the words are a command's, all was read, and the rest was done
+pub caused : (asked : Command) (call : Call) (input : List ℕ) (o : Outcome) → AreWordsOf asked call.words → ReadAll call input → IsDoneBy asked call.taken call.taken_after call.write_faults call.write_faults_after input o → IsCaused call o
+caused Cover call input o words all done = covered call input o words all done
+caused Simrun call input o words all done = simulated call input o words all done

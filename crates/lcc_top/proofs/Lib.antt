@@ -1,7 +1,9 @@
 pub mod Pieces
-pub mod TwoWords
+pub mod SomeWords
 pub mod Printed
 pub mod CoverLines
 pub mod Tails
 pub mod Causes
+pub mod Running
+pub mod RunOf
 pub mod Answered

@@ -1,5 +1,5 @@
 -- What several prints add, one after another.
-use Rattle.std.proofs.Common.{◌≡◌, ℕ, false, List, [], ◌∷◌, ◌++◌, map, refl, sym, ap, subst, ◌∙◌, append_assoc, append-nil}
+use Rattle.std.proofs.Common.{◌≡◌, ℕ, false, List, [], ◌∷◌, ◌++◌, map, sym, ap, subst, ◌∙◌, append_assoc, append-nil}
 use Rattle.std.specs.Prelude.{codes, decimal}
 use Rattle.lburg_grammar.specs.Tree.{MTree}
 use Rattle.lburg_grammar.specs.CoverText.{spaced}

@@ -9,7 +9,12 @@ use Rattle.lcc_top.specs.declared.outcome.Outcome.TheVariants as outcome
 use Rattle.lcc_top.specs.declared.status.Status.{Status}
 use Rattle.lcc_top.specs.declared.status.Status.TheVariants as status
 use Rattle.lcc_top.specs.Outcome.{status_of, line_of}
-use Rattle.lcc_top.specs.Words.{AreAccepted}
+use Rattle.asm_text.specs.declared.program.Program.{Program}
+use Rattle.asm_text.specs.AssemblyText.{IsAssembly}
+use Rattle.mips_machine.specs.Run.{HasMain, mrun}
+use Rattle.lcc_base.specs.declared.order.Order.TheVariants.{Big}
+use Rattle.lcc_top.specs.Words.{AreCover, AreSimrun, AreAccepted}
+use Rattle.lcc_top.specs.Simulation.{IsBadAssembly, HasRun}
 use Rattle.lcc_top.specs.Cover.{IsCover, IsBadText}
 
 -- The words; what the input had left and has left, where it tells; what the output had taken and has taken, where
@@ -37,19 +42,45 @@ TookNothing call = Keeps call.taken call.taken_after
 
 -- all was read, and the output took the cover text of the input, in which so many trees have no derivation
 pub record Covered (call : Call) (uncovered : ℕ) : Type 0 where
-  pub accepted : AreAccepted call.words
+  pub accepted : AreCover call.words
   pub input : List ℕ
   pub read : ReadAll call input
   pub text : List ℕ
   pub cover : IsCover input text uncovered
   pub written : Appends call.taken call.taken_after text
 
+-- the input isn't of the command's form
 pub record BadInput (call : Call) : Type 0 where
-  pub accepted : AreAccepted call.words
   pub input : List ℕ
   pub read : ReadAll call input
-  pub bad : IsBadText input
+  pub bad : (AreCover call.words × IsBadText input) ⊎ (AreSimrun call.words × IsBadAssembly input)
   pub nothing : TookNothing call
+
+-- the input is the text of a program without a label main
+pub record WithoutMain (call : Call) : Type 0 where
+  pub accepted : AreSimrun call.words
+  pub input : List ℕ
+  pub read : ReadAll call input
+  pub program : Program
+  pub is_assembly : IsAssembly input program
+  pub none : (main : ℕ) → HasMain program main → ⊥
+  pub nothing : TookNothing call
+
+-- The input is the text of a program, and the outcome is that of its run: 10,000,000 steps in big-endian order with
+-- a stack of 1,048,576 bytes and no input.
+pub record Simulated (call : Call) (o : Outcome) : Type 0 where
+  pub accepted : AreSimrun call.words
+  pub input : List ℕ
+  pub read : ReadAll call input
+  pub program : Program
+  pub is_assembly : IsAssembly input program
+  pub main : ℕ
+  pub has_main : HasMain program main
+  pub stack : ℕ
+  pub stack_is : stack ≡ 1048576
+  pub steps : ℕ
+  pub steps_is : steps ≡ 10000000
+  pub ran : HasRun (λ n. mrun program Big stack main [] n) steps call.taken call.taken_after call.write_faults call.write_faults_after o
 
 pub record WrongWords (call : Call) : Type 0 where
   pub refused : AreAccepted call.words → ⊥
@@ -69,7 +100,7 @@ pub record TooLong (call : Call) : Type 0 where
 
 -- a write of the output failed, and it took a first part of the cover text
 pub record WriteFailed (call : Call) : Type 0 where
-  pub accepted : AreAccepted call.words
+  pub accepted : AreCover call.words
   pub fault : Rose call.write_faults call.write_faults_after
   pub input : List ℕ
   pub read : ReadAll call input
@@ -84,7 +115,12 @@ IsCaused call outcome.Covered = Covered call 0
 IsCaused call (outcome.NoCover n) = Covered call n × (0 < n)
 IsCaused call outcome.Usage = WrongWords call
 IsCaused call outcome.ReadFault = ReadFailed call
-IsCaused call outcome.WriteFault = WriteFailed call
+IsCaused call (outcome.Exited status) = Simulated call (outcome.Exited status)
+IsCaused call (outcome.Stuck cause pc step) = Simulated call (outcome.Stuck cause pc step)
+IsCaused call (outcome.StackOut pc step) = Simulated call (outcome.StackOut pc step)
+IsCaused call (outcome.OutOfSteps n) = Simulated call (outcome.OutOfSteps n)
+IsCaused call outcome.NoMain = WithoutMain call
+IsCaused call outcome.WriteFault = WriteFailed call ⊎ Simulated call outcome.WriteFault
 IsCaused call outcome.Memory = TookNothing call
 IsCaused call outcome.InputTooLong = TooLong call
 IsCaused call outcome.BadText = BadInput call

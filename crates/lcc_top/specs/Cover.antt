@@ -1,5 +1,5 @@
 -- What `lburg cover` makes of the bytes of its input.
-use Rattle.std.specs.Prelude.{◌≡◌, ℕ, List}
+use Rattle.std.specs.Prelude.{ℕ, List}
 use Rattle.lburg_grammar.specs.Tree.{MTree}
 use Rattle.lburg_grammar.specs.Description.{MDescription}
 use Rattle.lburg_grammar.specs.DescriptionText.{IsText}

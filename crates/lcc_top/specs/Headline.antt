@@ -7,7 +7,14 @@ use Rattle.std.specs.declared.option.Option.{Option}
 use Rattle.std.specs.Io.KnownBytes.{Appends}
 use Rattle.lcc_top.specs.declared.status.Status.{Status}
 use Rattle.lcc_top.specs.declared.status.Status.TheVariants as status
+use Rattle.lcc_base.specs.declared.order.Order.TheVariants.{Big}
+use Rattle.asm_text.specs.declared.program.Program.{Program}
+use Rattle.asm_text.specs.AssemblyText.{IsAssembly}
+use Rattle.mips_machine.specs.Run.{HasMain, mrun}
+use Rattle.lcc_top.specs.declared.outcome.Outcome.{Outcome}
+use Rattle.lcc_top.specs.Outcome.{status_of, line_of}
 use Rattle.lcc_top.specs.Cover.{IsCover}
+use Rattle.lcc_top.specs.Simulation.{IsOutcome}
 
 -- the status and the report where so many trees have no derivation
 abbrev pub IsAnswer : ℕ → Status → Option (List ℕ) → Option (List ℕ) → Type 0
@@ -21,3 +28,27 @@ pub record CoverHeadline (input : List ℕ) (taken taken_after report report_aft
   pub cover : IsCover input text uncovered
   pub written : Appends taken taken_after text
   pub answered : IsAnswer uncovered answer report report_after
+
+-- the statuses that tell how a run was when its steps were done
+abbrev pub IsRunStatus : Status → Type 0
+IsRunStatus status.Ok = Unit {0}
+IsRunStatus status.Stuck = Unit {0}
+IsRunStatus status.StackOut = Unit {0}
+IsRunStatus status.OutOfSteps = Unit {0}
+IsRunStatus s = ⊥
+
+-- The headline of `simrun`: the input is a program's text, and output, status and report are those of its run, of
+-- 10,000,000 steps in big-endian order with a stack of 1,048,576 bytes and no input.
+pub record RunHeadline (input : List ℕ) (taken taken_after report report_after : Option (List ℕ)) (answer : Status) : Type 0 where
+  pub program : Program
+  pub is_assembly : IsAssembly input program
+  pub main : ℕ
+  pub has_main : HasMain program main
+  pub stack : ℕ
+  pub stack_is : stack ≡ 1048576
+  pub steps : ℕ
+  pub steps_is : steps ≡ 10000000
+  pub outcome : Outcome
+  pub ran : IsOutcome (λ n. mrun program Big stack main [] n) steps taken taken_after outcome
+  pub answered : answer ≡ status_of outcome
+  pub reported : Appends report report_after (line_of outcome)

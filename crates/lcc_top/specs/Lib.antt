@@ -1,7 +1,9 @@
 pub mod Words
+pub mod Commands
 pub mod Status
 pub mod Outcome
 pub mod Cover
+pub mod Simulation
 pub mod Call
 pub mod Headline
 pub mod Work

@@ -12,3 +12,6 @@ number_of status.Memory = 4
 number_of status.InputTooLong = 5
 number_of status.BadText = 6
 number_of status.NoCover = 9
+number_of status.Stuck = 11
+number_of status.StackOut = 12
+number_of status.OutOfSteps = 13

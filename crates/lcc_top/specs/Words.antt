@@ -1,5 +1,13 @@
--- The words that are a command.
-use Rattle.std.specs.Prelude.{◌≡◌, ℕ, List, [], ◌∷◌, codes}
+-- The words that are commands.
+use Rattle.std.specs.Prelude.{◌≡◌, ◌⊎◌, ℕ, List, [], ◌∷◌, codes}
+
+-- lburg cover
+abbrev pub AreCover : List (List ℕ) → Type 0
+AreCover words = words ≡ codes "lburg" ∷ (codes "cover" ∷ [])
+
+-- simrun --target mipseb
+abbrev pub AreSimrun : List (List ℕ) → Type 0
+AreSimrun words = words ≡ codes "simrun" ∷ (codes "--target" ∷ (codes "mipseb" ∷ []))
 
 abbrev pub AreAccepted : List (List ℕ) → Type 0
-AreAccepted words = words ≡ codes "lburg" ∷ (codes "cover" ∷ [])
+AreAccepted words = AreCover words ⊎ AreSimrun words

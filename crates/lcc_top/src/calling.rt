@@ -4,10 +4,14 @@ ghost use Rattle.lburg_grammar.specs.Tree.{MTree};
 ghost use Rattle.lburg_grammar.specs.Description.{MDescription};
 ghost use Rattle.lburg_grammar.specs.DescriptionText.{IsText};
 ghost use Rattle.lburg_grammar.specs.TailText.{IsTail};
-ghost use Rattle.lcc_top.specs.Words.{AreAccepted};
+ghost use Rattle.asm_text.specs.declared.program.Program.{Program};
+ghost use Rattle.asm_text.specs.AssemblyText.{IsAssembly};
+ghost use Rattle.mips_machine.specs.Run.{HasMain};
+ghost use Rattle.lcc_top.specs.Words.{AreCover, AreSimrun, AreAccepted};
 ghost use Rattle.lcc_top.specs.Cover.{IsBadText};
+ghost use Rattle.lcc_top.specs.Simulation.{IsIdle};
 ghost use Rattle.lcc_top.specs.Call.{Call, IsCaused, IsReported, IsFree, NoFault};
-ghost use Rattle.lcc_top.specs.Headline.{CoverHeadline};
+ghost use Rattle.lcc_top.specs.Headline.{CoverHeadline, IsRunStatus, RunHeadline};
 ghost use Rattle.lcc_top.specs.declared.outcome.Outcome.{Outcome};
 
 use crate::outcome::status;
@@ -20,10 +24,12 @@ use std::alloc::Global;
 /// All the work of the program: does what the words behind the program's name ask, with the
 /// input, the output and the report that it is given.
 ///
-/// It knows one command so far. `lburg cover` reads a description with trees in its tail, at most
+/// It knows two commands so far. `lburg cover` reads a description with trees in its tail, at most
 /// 16,777,216 bytes, and writes a line for each tree: its least-cost derivation from the start
-/// symbol, or that it has none. Nothing is written before all memory is taken. The report takes
-/// one line that tells how the call ended, or nothing.
+/// symbol, or that it has none. `simrun --target mipseb` reads MIPS assembly and runs it, for
+/// 10,000,000 steps in big-endian order with a stack of 1,048,576 bytes; what it prints is written.
+/// Nothing is written before all memory is taken. The report takes one line that tells how the
+/// call ended, or nothing.
 pub fn top<S: Source, K: Sink, E: Sink>(
     alloc: Global,
     words: &[String],
@@ -45,8 +51,12 @@ pub fn top<S: Source, K: Sink, E: Sink>(
     } in (outcome : Outcome) × IsCaused call outcome × IsReported (E.taken report.old) (E.taken report.new) (E.faults report.old) (E.faults report.new) outcome result }
 
     // The headline of `lburg cover`, where the input tells what it had left.
-    ensures cover_headline { (bytes : List ℕ) → S.left input.old ≡ Some bytes → (result ≡ Status.Ok) ⊎ (result ≡ Status.NoCover)
+    ensures cover_headline { (bytes : List ℕ) → AreCover (map string_bytes words.now) → S.left input.old ≡ Some bytes → (result ≡ Status.Ok) ⊎ (result ≡ Status.NoCover)
         → CoverHeadline bytes (K.taken output.old) (K.taken output.new) (E.taken report.old) (E.taken report.new) result }
+
+    // The headline of `simrun`, where the input tells what it had left.
+    ensures simrun_headline { (bytes : List ℕ) → AreSimrun (map string_bytes words.now) → S.left input.old ≡ Some bytes → IsRunStatus result
+        → RunHeadline bytes (K.taken output.old) (K.taken output.new) (E.taken report.old) (E.taken report.new) result }
 
     // Only a rising count of faults gives an answer of reading or writing.
     ensures read_fault { result ≡ Status.ReadFault → Rose (S.faults input.old) (S.faults input.new) }
@@ -56,14 +66,20 @@ pub fn top<S: Source, K: Sink, E: Sink>(
     ensures wrong_words { (AreAccepted (map string_bytes words.now) → ⊥) → (result ≡ Status.Usage) ⊎ IsFree result }
     ensures too_long { (bytes : List ℕ) → AreAccepted (map string_bytes words.now) → S.left input.old ≡ Some bytes → 16777216 < length bytes
         → NoFault (S.faults input.old) (S.faults input.new) → (result ≡ Status.InputTooLong) ⊎ IsFree result }
-    ensures bad_text { (bytes : List ℕ) → AreAccepted (map string_bytes words.now) → S.left input.old ≡ Some bytes → length bytes ≤ 16777216
+    ensures bad_text { (bytes : List ℕ) → AreCover (map string_bytes words.now) → S.left input.old ≡ Some bytes → length bytes ≤ 16777216
         → IsBadText bytes → NoFault (S.faults input.old) (S.faults input.new) → (result ≡ Status.BadText) ⊎ IsFree result }
+    ensures bad_assembly { (bytes : List ℕ) → AreSimrun (map string_bytes words.now) → S.left input.old ≡ Some bytes → length bytes ≤ 16777216
+        → IsIdle bytes → NoFault (S.faults input.old) (S.faults input.new) → (result ≡ Status.BadText) ⊎ IsFree result }
 
-    // What is accepted is covered, unless memory was wanted or a stream failed.
-    ensures complete { (bytes : List ℕ) (d : MDescription) (trees : List MTree) → AreAccepted (map string_bytes words.now)
+    // What is accepted is covered or run, unless memory was wanted or a stream failed.
+    ensures complete { (bytes : List ℕ) (d : MDescription) (trees : List MTree) → AreCover (map string_bytes words.now)
         → S.left input.old ≡ Some bytes → length bytes ≤ 16777216 → IsText d bytes → IsTail d trees bytes
         → NoFault (S.faults input.old) (S.faults input.new) → NoFault (K.faults output.old) (K.faults output.new) → NoFault (E.faults report.old) (E.faults report.new)
         → (result ≡ Status.Ok) ⊎ (result ≡ Status.NoCover) ⊎ (result ≡ Status.Memory) }
+    ensures complete_run { (bytes : List ℕ) (p : Program) (main : ℕ) → AreSimrun (map string_bytes words.now)
+        → S.left input.old ≡ Some bytes → length bytes ≤ 16777216 → IsAssembly bytes p → HasMain p main
+        → NoFault (S.faults input.old) (S.faults input.new) → NoFault (K.faults output.old) (K.faults output.new) → NoFault (E.faults report.old) (E.faults report.new)
+        → IsRunStatus result ⊎ (result ≡ Status.Memory) }
 {
     let outcome = run(alloc, words, input, output);
     match write_line(report, outcome) {

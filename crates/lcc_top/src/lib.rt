@@ -6,6 +6,7 @@ mod cover;
 mod outcome;
 mod printer;
 mod report;
+mod simulate;
 mod status;
 mod words;
 mod work;

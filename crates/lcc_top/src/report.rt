@@ -1,10 +1,12 @@
-ghost use Rattle.std.specs.Prelude.{◌++◌, codes, decimal, OnOk, OnErr};
+ghost use Rattle.std.specs.Prelude.{◌≡◌, ◌<◌, ◌++◌, List, ℕ, codes, decimal, OnOk, OnErr};
+ghost use Rattle.std.specs.Fmt.{signed_decimal};
 ghost use Rattle.std.specs.Io.KnownBytes.{Appends};
 ghost use Rattle.lcc_base.specs.Faults.{HasCause};
 ghost use Rattle.lcc_base.specs.Taken.{TookPrefix};
-ghost use Rattle.lcc_top.specs.Outcome.{line_of};
+ghost use Rattle.lcc_top.specs.Outcome.{cause_name, hex_digit, hex_word, line_of, place_line};
 
 use crate::outcome::Outcome;
+use asm_text::StuckCause;
 use itoa::Buffer;
 use lcc_base::{Failed, Sink, write_all};
 
@@ -24,19 +26,76 @@ fn write_three<E: Sink>(report: &mut E, a: &[u8], b: &[u8], c: &[u8]) -> Result<
     }
 }
 
-/// `no cover: N` and a line feed.
-fn write_uncovered<E: Sink>(report: &mut E, number: u64) -> Result<(), Failed>
-    ensures all { OnOk result (Appends (E.taken report.old) (E.taken report.new) (codes "no cover: " ++ decimal number ++ codes "\n")) }
-    ensures prefix { OnErr result (TookPrefix (E.taken report.old) (E.taken report.new) (codes "no cover: " ++ decimal number ++ codes "\n")) }
+/// A number behind some text, and a line feed.
+fn write_number<E: Sink>(report: &mut E, text: &[u8], number: u64) -> Result<(), Failed>
+    ensures all { OnOk result (Appends (E.taken report.old) (E.taken report.new) (text.now ++ decimal number ++ codes "\n")) }
+    ensures prefix { OnErr result (TookPrefix (E.taken report.old) (E.taken report.new) (text.now ++ decimal number ++ codes "\n")) }
     ensures cause { HasCause (E.faults report.old) (E.faults report.new) result }
 {
     let mut buffer = Buffer::new();
-    write_three(
-        report,
-        b"no cover: ",
-        buffer.format(number).as_bytes(),
-        b"\n",
-    )
+    write_three(report, text, buffer.format(number).as_bytes(), b"\n")
+}
+
+/// `exit N` and a line feed.
+fn write_exit<E: Sink>(report: &mut E, status: i32) -> Result<(), Failed>
+    ensures all { OnOk result (Appends (E.taken report.old) (E.taken report.new) (codes "exit " ++ signed_decimal status ++ codes "\n")) }
+    ensures prefix { OnErr result (TookPrefix (E.taken report.old) (E.taken report.new) (codes "exit " ++ signed_decimal status ++ codes "\n")) }
+    ensures cause { HasCause (E.faults report.old) (E.faults report.new) result }
+{
+    let mut buffer = Buffer::new();
+    write_three(report, b"exit ", buffer.format(status).as_bytes(), b"\n")
+}
+
+fn hex_byte(digit: u32) -> u8
+    requires { digit < 16 }
+    ensures { result ≡ hex_digit digit }
+{
+    if digit < 10 {
+        b'0' + digit as u8
+    } else {
+        b'a' + (digit - 10) as u8
+    }
+}
+
+/// The eight hexadecimal digits of a word, the most significant first.
+fn hex_bytes(word: u32) -> [u8; 8]
+    ensures { result ≡ hex_word word }
+{
+    [
+        hex_byte(word >> 28),
+        hex_byte((word >> 24) % 16),
+        hex_byte((word >> 20) % 16),
+        hex_byte((word >> 16) % 16),
+        hex_byte((word >> 12) % 16),
+        hex_byte((word >> 8) % 16),
+        hex_byte((word >> 4) % 16),
+        hex_byte(word % 16),
+    ]
+}
+
+/// What stopped a run, with the address and the step, and a line feed.
+#[tactic(auto, using(crate::proofs::Pieces::first_of))]
+fn write_place<E: Sink>(report: &mut E, what: &[u8], pc: u32, step: u32) -> Result<(), Failed>
+    ensures all { OnOk result (Appends (E.taken report.old) (E.taken report.new) (place_line what.now pc step)) }
+    ensures prefix { OnErr result (TookPrefix (E.taken report.old) (E.taken report.new) (place_line what.now pc step)) }
+    ensures cause { HasCause (E.faults report.old) (E.faults report.new) result }
+{
+    match write_three(report, what, b" at 0x", &hex_bytes(pc)) {
+        Err(fault) => Err(fault),
+        Ok(()) => write_number(report, b", step ", step as u64),
+    }
+}
+
+fn write_stuck<E: Sink>(report: &mut E, cause: StuckCause, pc: u32, step: u32) -> Result<(), Failed>
+    ensures all { OnOk result (Appends (E.taken report.old) (E.taken report.new) (place_line (codes "stuck: " ++ cause_name cause) pc step)) }
+    ensures prefix { OnErr result (TookPrefix (E.taken report.old) (E.taken report.new) (place_line (codes "stuck: " ++ cause_name cause) pc step)) }
+    ensures cause { HasCause (E.faults report.old) (E.faults report.new) result }
+{
+    match cause {
+        StuckCause::BadJump => write_place(report, b"stuck: BadJump", pc, step),
+        StuckCause::Outside => write_place(report, b"stuck: Outside", pc, step),
+        StuckCause::Misaligned => write_place(report, b"stuck: Misaligned", pc, step),
+    }
 }
 
 /// Writes the line of an outcome, or nothing where it has none.
@@ -46,7 +105,12 @@ pub(crate) fn write_line<E: Sink>(report: &mut E, outcome: Outcome) -> Result<()
     ensures cause { HasCause (E.faults report.old) (E.faults report.new) result }
 {
     match outcome {
-        Outcome::NoCover(number) => write_uncovered(report, number),
+        Outcome::NoCover(number) => write_number(report, b"no cover: ", number),
+        Outcome::Exited(status) => write_exit(report, status),
+        Outcome::Stuck(cause, pc, step) => write_stuck(report, cause, pc, step),
+        Outcome::StackOut(pc, step) => write_place(report, b"stack out", pc, step),
+        Outcome::OutOfSteps(steps) => write_number(report, b"out of steps: ", steps as u64),
+        Outcome::NoMain => write_all(report, b"no main\n"),
         Outcome::Usage => write_all(report, b"lcc: wrong words\n"),
         Outcome::InputTooLong => write_all(report, b"input too long\n"),
         Outcome::BadText => write_all(report, b"bad text\n"),

@@ -19,6 +19,12 @@ pub enum Status {
     BadText,
     /// A tree has no derivation from the start symbol.
     NoCover,
+    /// A run is stuck.
+    Stuck,
+    /// A run is out of stack.
+    StackOut,
+    /// A run was still going after all its steps.
+    OutOfSteps,
 }
 
 impl Status {
@@ -37,6 +43,9 @@ impl Status {
             Status::InputTooLong => 5,
             Status::BadText => 6,
             Status::NoCover => 9,
+            Status::Stuck => 11,
+            Status::StackOut => 12,
+            Status::OutOfSteps => 13,
         }
     }
 }

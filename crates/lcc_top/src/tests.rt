@@ -194,3 +194,88 @@ fn ten_thousand_trees(rt: HostRuntime) -> Result<(), Fail> {
     assert_eq!(rt; output.count(), 158_894);
     Ok(())
 }
+
+/// Runs a text of assembly.
+fn simulate(alloc: Global, text: &str) -> Result<Ran, AllocError> {
+    let mut words = Vec::new(alloc);
+    words.push(String::from_str(alloc, "simrun")?)?;
+    words.push(String::from_str(alloc, "--target")?)?;
+    words.push(String::from_str(alloc, "mipseb")?)?;
+    let mut input = MemSource::new(text.as_bytes().to_vec(alloc)?, Vec::new(alloc));
+    let mut output = MemSink::new(alloc, Vec::new(alloc));
+    let mut report = MemSink::new(alloc, Vec::new(alloc));
+    let status = top(alloc, &words, &mut input, &mut output, &mut report);
+    Ok(Ran {
+        status,
+        output: output.taken().to_vec(alloc)?,
+        report: report.taken().to_vec(alloc)?,
+    })
+}
+
+#[test]
+fn simulates(rt: HostRuntime) -> Result<(), Fail> {
+    let alloc = rt.alloc();
+    let table = [
+        // The end address is in $31 at the start.
+        ("main:\n li $2,7\n j $31\n", Status::Ok, "", "exit 7\n"),
+        ("main:\n li $2,-1\n j $31\n", Status::Ok, "", "exit -1\n"),
+        // Sums wrap in both directions, and $0 stays 0.
+        (
+            "main:\n li $8,2147483647\n addu $2,$8,1\n j $31\n",
+            Status::Ok,
+            "",
+            "exit -2147483648\n",
+        ),
+        (
+            "main:\n li $0,5\n subu $2,$0,1\n j $31\n",
+            Status::Ok,
+            "",
+            "exit -1\n",
+        ),
+        (
+            "main:\n move $16,$31\n li $4,72\n jal putchar\n li $4,105\n jal putchar\n li $2,0\n j $16\n",
+            Status::Ok,
+            "Hi",
+            "exit 0\n",
+        ),
+        (
+            "main:\n lw $2,0($0)\n",
+            Status::Stuck,
+            "",
+            "stuck: Outside at 0x00400000, step 1\n",
+        ),
+        (
+            "main:\n li $8,1\n lw $2,1($sp)\n",
+            Status::Stuck,
+            "",
+            "stuck: Misaligned at 0x00400004, step 2\n",
+        ),
+        (
+            "main:\n li $8,12\n j $8\n",
+            Status::Stuck,
+            "",
+            "stuck: BadJump at 0x0000000c, step 3\n",
+        ),
+        (
+            "main:\n addu $sp,$sp,-2147483648\n",
+            Status::StackOut,
+            "",
+            "stack out at 0x00400000, step 1\n",
+        ),
+        (
+            "main:\n b main\n",
+            Status::OutOfSteps,
+            "",
+            "out of steps: 10000000\n",
+        ),
+        ("start:\n j $31\n", Status::BadText, "", "no main\n"),
+        ("main:\n jal nobody\n", Status::BadText, "", "bad text\n"),
+    ];
+    for (text, status, output, report) in table {
+        let ran = simulate(alloc, text)?;
+        assert_eq!(rt; ran.status, status);
+        assert_eq!(rt; ran.output.as_slice(), output.as_bytes());
+        assert_eq!(rt; ran.report.as_slice(), report.as_bytes());
+    }
+    Ok(())
+}

@@ -1,5 +1,15 @@
-ghost use Rattle.std.specs.Prelude.{◌≡◌, ◌↔◌, IsTrue, map, string_bytes};
-ghost use Rattle.lcc_top.specs.Words.{AreAccepted};
+ghost use Rattle.std.specs.Prelude.{◌≡◌, ◌↔◌, IsTrue, IfSome, IfNone, map, string_bytes};
+ghost use Rattle.lcc_top.specs.Words.{AreCover, AreSimrun, AreAccepted};
+ghost use Rattle.lcc_top.specs.Commands.{AreWordsOf};
+
+/// What the words ask for.
+#[derive(Clone, Copy, Debug, PartialEq, Eq)]
+pub(crate) enum Command {
+    /// `lburg cover`
+    Cover,
+    /// `simrun --target mipseb`
+    Simrun,
+}
 
 fn is(word: &String, text: &str) -> bool
     ensures { IsTrue result ↔ (string_bytes word.now ≡ text.now) }
@@ -7,10 +17,33 @@ fn is(word: &String, text: &str) -> bool
     word.as_str() == text
 }
 
-/// Whether the words behind the program's name are a command.
-#[tactic(auto, using(crate::proofs::TwoWords::two_words))]
-pub(crate) fn are_accepted(words: &[String]) -> bool
-    ensures { IsTrue result ↔ AreAccepted (map string_bytes words.now) }
+#[tactic(auto, using(crate::proofs::SomeWords::two_words))]
+fn are_cover(words: &[String]) -> bool
+    ensures { IsTrue result ↔ AreCover (map string_bytes words.now) }
 {
     words.len() == 2 && is(&words[0], "lburg") && is(&words[1], "cover")
+}
+
+#[tactic(auto, using(crate::proofs::SomeWords::three_words))]
+fn are_simrun(words: &[String]) -> bool
+    ensures { IsTrue result ↔ AreSimrun (map string_bytes words.now) }
+{
+    words.len() == 3
+        && is(&words[0], "simrun")
+        && is(&words[1], "--target")
+        && is(&words[2], "mipseb")
+}
+
+/// The command that the words behind the program's name are, if they are one.
+pub(crate) fn command_of(words: &[String]) -> Option<Command>
+    ensures some { IfSome result (λ c. AreWordsOf c (map string_bytes words.now)) }
+    ensures none { IfNone result (AreAccepted (map string_bytes words.now) → ⊥) }
+{
+    if are_cover(words) {
+        return Some(Command::Cover);
+    }
+    if are_simrun(words) {
+        return Some(Command::Simrun);
+    }
+    None
 }

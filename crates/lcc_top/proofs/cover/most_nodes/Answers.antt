@@ -1,7 +1,7 @@
-use Rattle.std.proofs.Common.{◌≡◌, ℕ, ◌+◌, ◌<◌, ◌≤◌, length, get_or, ap, sym, ◌∙◌, ⊎_elim, rules, arith}
+use Rattle.std.proofs.Common.{◌≡◌, ℕ, get_or, ap, sym, ◌∙◌, ⊎_elim, rules, arith}
 use Rattle.std.proofs.lemmas.Bool.{cases_lt}
 use Rattle.std.proofs.lemmas.List.{get_or_default}
-use Rattle.lburg_grammar.specs.Tree.{MTree, nodes}
+use Rattle.lburg_grammar.specs.Tree.{nodes}
 use Rattle.lcc_top.proofs.cover.most_nodes.Goals as goal
 
 pub loop-tree-preserved : goal.loop-tree-preserved

@@ -1,5 +1,4 @@
-use Rattle.std.proofs.Common.{◌≡◌, ℕ, List, ◌++◌, map, refl, sym, ap, subst, ◌∙◌, inl}
-use Rattle.std.specs.Prelude.{codes, decimal}
+use Rattle.std.proofs.Common.{◌≡◌, ℕ, List, refl, ap, subst, ◌∙◌, inl}
 use Rattle.lburg_grammar.specs.Derivation.{MDerivation, cost, numbers, applied}
 use Rattle.lburg_grammar.specs.CoverText.{spaced, cost_line}
 use Rattle.lburg_grammar.proofs.Applied.{numbers_applied}
