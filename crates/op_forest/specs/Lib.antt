@@ -1,0 +1,12 @@
+pub mod Operators
+pub mod Nodes
+pub mod NodeParts
+pub mod Coding
+pub mod Frames
+pub mod Words
+pub mod Traces
+pub mod Worlds
+pub mod Rows
+pub mod Bodies
+pub mod Functions
+pub mod Meaning

@@ -1,0 +1,94 @@
+-- What each operator does with its operands' values: a row an operator. An operator without a row has no meaning here.
+-- Source: Fraser and Hanson, A Retargetable C Compiler, chapter 5; numbers as in ISO/IEC 9899:1990, 6.3, modulo 2^32.
+use Rattle.std.specs.Prelude.{ℕ, ◌+◌, ◌-◌, ◌*◌, ◌%◌, ◌^◌, ◌==◌, ℤ, pos, negsuc, Option, Some, None, List, [], ◌∷◌, ◌++◌, if◌then◌else◌}
+use Rattle.op_forest.specs.declared.op.Op.{Op}
+use Rattle.op_forest.specs.declared.op.Op.TheVariants as op
+use Rattle.op_forest.specs.declared.suffix.Suffix.{Suffix}
+use Rattle.op_forest.specs.declared.suffix.Suffix.TheVariants.{I, P}
+use Rattle.op_forest.specs.declared.sym.Sym.{Sym}
+use Rattle.op_forest.specs.declared.sym.Sym.TheVariants as sym
+use Rattle.op_forest.specs.declared.frame.Slot.{Slot}
+use Rattle.op_forest.specs.Nodes.{Head}
+use Rattle.op_forest.specs.Words.{Word, Number, Pointer, Function, Label, Partly}
+use Rattle.op_forest.specs.Worlds.{World, Point, at_world, Move, Next, End, Effect, Went, Stuck}
+
+-- The function whose body runs: its name, its frame's slots, which are the objects from `first` on, and the number of
+-- its parameter words, which are the objects behind these.
+pub record Home : Type 0 where
+  pub function : ℕ
+  pub first : ℕ
+  pub slots : List Slot
+  pub words : ℕ
+
+-- What stays the same while a body runs: the calls of functions, the values of names, and the body's own objects. A
+-- call takes the world's argument words and gives its value.
+pub record Setting : Type 0 where
+  pub call : ℕ → Point → Effect
+  pub global : ℕ → Option Word
+  pub home : Home
+
+abbrev pub gives : Word → Point → Effect
+gives w p = Went (w ∷ []) p Next
+
+-- the 32 bits of a number
+abbrev pub bits_of : ℤ → ℕ
+bits_of (pos n) = n % 2 ^ 32
+bits_of (negsuc n) = (2 ^ 32 - (n + 1) % 2 ^ 32) % 2 ^ 32
+
+abbrev pub constant : Option ℤ → Point → Effect
+constant None p = Stuck
+constant (Some z) p = gives (Number (bits_of z)) p
+
+-- a name's value, which an offset moves where it is an object's
+abbrev pub named : Option Word → ℤ → Point → Effect
+named (Some (Function f)) (pos zero) p = gives (Function f) p
+named (Some (Pointer o z)) (pos n) p = gives (Pointer o (z + n)) p
+named w offset p = Stuck
+
+abbrev pub address_of : Setting → Sym → Point → Effect
+address_of s (sym.Global name offset) p = named (s.global name) offset p
+address_of s x p = Stuck
+
+abbrev pub negated : ℕ → ℕ
+negated x = (2 ^ 32 - x) % 2 ^ 32
+
+abbrev pub sum : ℕ → ℕ → ℕ
+sum x y = (x + y) % 2 ^ 32
+
+abbrev pub difference : ℕ → ℕ → ℕ
+difference x y = (x + 2 ^ 32 - y) % 2 ^ 32
+
+abbrev pub product : ℕ → ℕ → ℕ
+product x y = (x * y) % 2 ^ 32
+
+-- a number of one, and of two
+abbrev pub of_one : (ℕ → ℕ) → Word → Point → Effect
+of_one f (Number x) p = gives (Number (f x)) p
+of_one f w p = Stuck
+
+abbrev pub of_two : (ℕ → ℕ → ℕ) → Word → Word → Point → Effect
+of_two f (Number x) (Number y) p = gives (Number (f x y)) p
+of_two f v w p = Stuck
+
+-- one more argument word for the next call
+abbrev pub argument : Word → Point → Effect
+argument w p = Went [] (at_world p (record p.world { arguments = p.world.arguments ++ w ∷ [] })) Next
+
+abbrev pub called : Setting → Word → Point → Effect
+called s (Function f) p = s.call f p
+called s w p = Stuck
+
+abbrev pub row : Setting → Head → Op → Suffix → List Word → Point → Effect
+row s h op.Cnst I [] p = constant h.value p
+row s h op.Addrg P [] p = address_of s h.sym p
+row s h op.Neg I (x ∷ []) p = of_one negated x p
+row s h op.Add I (x ∷ y ∷ []) p = of_two sum x y p
+row s h op.Sub I (x ∷ y ∷ []) p = of_two difference x y p
+row s h op.Mul I (x ∷ y ∷ []) p = of_two product x y p
+row s h op.Arg I (x ∷ []) p = argument x p
+row s h op.Call I (x ∷ []) p = called s x p
+row s h op.Ret I (x ∷ []) p = Went [] p (End (Some x))
+row s h o x ws p = Stuck
+
+abbrev pub does : Setting → Head → List Word → Point → Effect
+does s h ws p = row s h h.operator.op h.operator.suffix ws p

@@ -1,0 +1,59 @@
+ghost use Rattle.std.specs.Prelude.{◌≡◌, []};
+ghost use Rattle.op_forest.specs.Frames.{IsFrame};
+
+use lcc_base::Items;
+use std::alloc::Global;
+use std::marker::Model;
+
+/// A part of a frame: the place of its first byte from the frame's top, and its size, in bytes.
+#[derive(Clone, Copy, Debug, PartialEq, Eq)]
+pub struct Slot {
+    pub offset: i32,
+    pub size: u32,
+}
+
+/// The slots of a function's frame, which contracts see as a list. Each begins at a multiple of 4
+/// and ends at the frame's top or below, and no two share a byte.
+#[derive(Debug, Drop)]
+pub struct Frame {
+    slots: Items<Slot>,
+}
+
+impl Model for Frame {
+    ghost use Rattle.std.specs.Prelude.{List};
+    ghost use Rattle.op_forest.specs.declared.frame.Slot.{Slot};
+    ghost use Rattle.op_forest.specs.Frames.{IsFrame};
+
+    ghost Value = { List Slot };
+
+    ghost view = { λ f. f.slots };
+
+    ghost invariant = { λ f. IsFrame f.slots };
+}
+
+impl Frame {
+    /// A frame without a slot, without an allocation.
+    pub fn new(alloc: Global) -> Self
+        ensures { result ≡ [] }
+    {
+        Frame {
+            slots: Items::new(alloc),
+        }
+    }
+
+    /// A frame of these slots, without an allocation.
+    pub fn of_slots(slots: Items<Slot>) -> Self
+        requires { IsFrame slots }
+        ensures { result ≡ slots }
+    {
+        Frame { slots }
+    }
+
+    /// The slots in order.
+    pub fn slots(&self) -> &[Slot]
+        ensures value { result.now ≡ self.now }
+        ensures is { IsFrame self.now }
+    {
+        self.slots.as_slice()
+    }
+}
