@@ -10,7 +10,7 @@ use Rattle.op_forest.specs.declared.sym.Sym.TheVariants as sym
 use Rattle.op_forest.specs.declared.frame.Slot.{Slot}
 use Rattle.op_forest.specs.Nodes.{Head}
 use Rattle.op_forest.specs.Words.{Word, Number, Pointer, Function, Label, Partly}
-use Rattle.op_forest.specs.Worlds.{World, Point, at_world, Move, Next, End, Effect, Went, Stuck}
+use Rattle.op_forest.specs.Worlds.{World, Point, at_world, Move, Next, End, Effect, Went, Stuck, then_do}
 
 -- The function whose body runs: its name, its frame's slots, which are the objects from `first` on, and the number of
 -- its parameter words, which are the objects behind these.
@@ -74,8 +74,13 @@ of_two f v w p = Stuck
 abbrev pub argument : Word → Point → Effect
 argument w p = Went [] (at_world p (record p.world { arguments = p.world.arguments ++ w ∷ [] })) Next
 
+-- a call goes on behind it, with its value
+abbrev pub handed : List Word → Point → Effect
+handed [] p = Stuck
+handed (w ∷ ws) p = gives w p
+
 abbrev pub called : Setting → Word → Point → Effect
-called s (Function f) p = s.call f p
+called s (Function f) p = then_do (s.call f p) (λ ws p1. handed ws p1)
 called s w p = Stuck
 
 abbrev pub row : Setting → Head → Op → Suffix → List Word → Point → Effect
