@@ -32,7 +32,7 @@ impl Model for Description {
 
 impl Description {
     /// The description of these parts, without an allocation.
-    pub(crate) fn of_parts(
+    pub fn of_parts(
         terminals: Vec<Terminal>,
         nonterminals: Vec<Bytes>,
         start: u16,

@@ -1,6 +1,7 @@
 -- What each operator does with its operands' values: a row an operator. An operator without a row has no meaning here.
 -- Source: Fraser and Hanson, A Retargetable C Compiler, chapter 5; numbers as in ISO/IEC 9899:1990, 6.3, modulo 2^32.
-use Rattle.std.specs.Prelude.{ℕ, ◌+◌, ◌-◌, ◌*◌, ◌%◌, ◌^◌, ◌==◌, ℤ, pos, negsuc, Option, Some, None, List, [], ◌∷◌, ◌++◌, if◌then◌else◌}
+use Rattle.std.specs.Prelude.{ℕ, ◌+◌, ◌-◌, ◌*◌, ◌%◌, ◌^◌, ◌==◌, zero, ℤ, pos, Option, Some, None, List, [], ◌∷◌, ◌++◌, if◌then◌else◌}
+use Rattle.std.specs.Int.{cast_unsigned, w32}
 use Rattle.op_forest.specs.declared.op.Op.{Op}
 use Rattle.op_forest.specs.declared.op.Op.TheVariants as op
 use Rattle.op_forest.specs.declared.suffix.Suffix.{Suffix}
@@ -30,23 +31,23 @@ pub record Setting : Type 0 where
 abbrev pub gives : Word → Point → Effect
 gives w p = Went (w ∷ []) p Next
 
--- the 32 bits of a number
-abbrev pub bits_of : ℤ → ℕ
-bits_of (pos n) = n % 2 ^ 32
-bits_of (negsuc n) = (2 ^ 32 - (n + 1) % 2 ^ 32) % 2 ^ 32
-
+-- a constant is taken modulo 2^32, a negative one in two's complement
 abbrev pub constant : Option ℤ → Point → Effect
 constant None p = Stuck
-constant (Some z) p = gives (Number (bits_of z)) p
+constant (Some z) p = gives (Number (cast_unsigned w32 z)) p
 
 -- a name's value, which an offset moves where it is an object's
-abbrev pub named : Option Word → ℤ → Point → Effect
-named (Some (Function f)) (pos zero) p = gives (Function f) p
-named (Some (Pointer o z)) (pos n) p = gives (Pointer o (z + n)) p
-named w offset p = Stuck
+abbrev pub value_at : Option Word → ℤ → Option Word
+value_at (Some (Function f)) (pos zero) = Some (Function f)
+value_at (Some (Pointer o z)) (pos n) = Some (Pointer o (z + n))
+value_at w offset = None
+
+abbrev pub given : Option Word → Point → Effect
+given None p = Stuck
+given (Some w) p = gives w p
 
 abbrev pub address_of : Setting → Sym → Point → Effect
-address_of s (sym.Global name offset) p = named (s.global name) offset p
+address_of s (sym.Global name offset) p = given (value_at (s.global name) offset) p
 address_of s x p = Stuck
 
 abbrev pub negated : ℕ → ℕ
