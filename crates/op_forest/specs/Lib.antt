@@ -10,3 +10,11 @@ pub mod Rows
 pub mod Bodies
 pub mod Functions
 pub mod Meaning
+pub mod Budgets
+pub mod Prefixes
+pub mod Actions
+pub mod Begun
+pub mod Further
+pub mod OneRoot
+pub mod Nested
+pub mod Reached
