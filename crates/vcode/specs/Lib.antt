@@ -5,3 +5,4 @@ pub mod VirtualCode
 pub mod Patterns
 pub mod RuleSets
 pub mod Emission
+pub mod Templates
