@@ -181,6 +181,16 @@ covered call bytes n answer report report_after h is answered =
     let Input : List ℕ → Type 0 = λ l. IsCover l h.text n in
     record { text = h.text; uncovered = n; cover = subst Input (read_input call h.input bytes h.read is) h.cover; written = h.written; answered = answered }
 
+-- the statuses that tell of a cover
+abbrev IsCoverStatus : Status → Type 0
+IsCoverStatus status.Ok = Unit {0}
+IsCoverStatus status.NoCover = Unit {0}
+IsCoverStatus s = ⊥
+
+is_cover_status : (s : Status) → (s ≡ status.Ok) ⊎ (s ≡ status.NoCover) → IsCoverStatus s
+is_cover_status s (inl is) = subst IsCoverStatus (sym is) tt
+is_cover_status s (inr is) = subst IsCoverStatus (sym is) tt
+
 -- the headline of lburg cover
 pub cover_headline : (call : Call) (o : Outcome) (bytes : List ℕ) (report report_after : Option (List ℕ)) → IsCaused call o → AreCover call.words → call.left ≡ Some bytes → Appends report report_after (line_of o) → (status_of o ≡ status.Ok) ⊎ (status_of o ≡ status.NoCover) → CoverHeadline bytes call.taken call.taken_after report report_after (status_of o)
 cover_headline call outcome.Covered bytes report report_after h words is told good = covered call bytes 0 status.Ok report report_after h is (inl (refl, refl, told))
@@ -191,23 +201,8 @@ cover_headline call (outcome.StackOut pc step) bytes report report_after h words
 cover_headline call (outcome.OutOfSteps n) bytes report report_after h words is told good = absurd (not_both call.words words h.accepted)
 cover_headline call outcome.NoMain bytes report report_after h words is told good = absurd (not_both call.words words h.accepted)
 cover_headline call outcome.Usage bytes report report_after h words is told good = absurd (h.refused (inl words))
-cover_headline call outcome.ReadFault bytes report report_after h words is told good = absurd (neither good) where
-  neither : (status.ReadFault ≡ status.Ok) ⊎ (status.ReadFault ≡ status.NoCover) → ⊥
-  neither (inl e) = cc
-  neither (inr e) = cc
-cover_headline call outcome.WriteFault bytes report report_after h words is told good = absurd (neither good) where
-  neither : (status.WriteFault ≡ status.Ok) ⊎ (status.WriteFault ≡ status.NoCover) → ⊥
-  neither (inl e) = cc
-  neither (inr e) = cc
-cover_headline call outcome.Memory bytes report report_after h words is told good = absurd (neither good) where
-  neither : (status.Memory ≡ status.Ok) ⊎ (status.Memory ≡ status.NoCover) → ⊥
-  neither (inl e) = cc
-  neither (inr e) = cc
-cover_headline call outcome.InputTooLong bytes report report_after h words is told good = absurd (neither good) where
-  neither : (status.InputTooLong ≡ status.Ok) ⊎ (status.InputTooLong ≡ status.NoCover) → ⊥
-  neither (inl e) = cc
-  neither (inr e) = cc
-cover_headline call outcome.BadText bytes report report_after h words is told good = absurd (neither good) where
-  neither : (status.BadText ≡ status.Ok) ⊎ (status.BadText ≡ status.NoCover) → ⊥
-  neither (inl e) = cc
-  neither (inr e) = cc
+cover_headline call outcome.ReadFault bytes report report_after h words is told good = absurd (is_cover_status status.ReadFault good)
+cover_headline call outcome.WriteFault bytes report report_after h words is told good = absurd (is_cover_status status.WriteFault good)
+cover_headline call outcome.Memory bytes report report_after h words is told good = absurd (is_cover_status status.Memory good)
+cover_headline call outcome.InputTooLong bytes report report_after h words is told good = absurd (is_cover_status status.InputTooLong good)
+cover_headline call outcome.BadText bytes report report_after h words is told good = absurd (is_cover_status status.BadText good)

@@ -1,7 +1,5 @@
 -- What a call did, from what its parts did.
-use Rattle.std.proofs.Common.{◌≡◌, ℕ, inl, inr, List, [], refl, subst, None, Some}
-use Rattle.std.specs.declared.option.Option.{Option}
-use Rattle.std.specs.Io.KnownBytes.{Keeps}
+use Rattle.std.proofs.Common.{◌≡◌, ℕ, inl, inr, List, [], subst}
 use Rattle.lcc_top.specs.declared.outcome.Outcome.{Outcome}
 use Rattle.lcc_top.specs.declared.outcome.Outcome.TheVariants as outcome
 use Rattle.lcc_top.specs.Words.{AreCover, AreSimrun}
@@ -16,10 +14,6 @@ use Rattle.lcc_top.specs.declared.words.Command.{Command}
 use Rattle.lcc_top.specs.declared.words.Command.TheVariants.{Cover, Simrun}
 use Rattle.lcc_top.specs.Commands.{AreWordsOf}
 use Rattle.lcc_top.specs.Work.{IsDone, IsSimulated, IsDoneBy}
-
-pub keeps_same : (bytes : Option (List ℕ)) → Keeps bytes bytes
-keeps_same None = tt
-keeps_same (Some xs) = refl
 
 -- the words are lburg cover, all was read, and the rest was done
 pub covered : (call : Call) (input : List ℕ) (o : Outcome) → AreCover call.words → ReadAll call input → IsDone call.taken call.taken_after call.write_faults call.write_faults_after input o → IsCaused call o

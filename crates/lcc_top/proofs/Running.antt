@@ -1,22 +1,21 @@
 -- Runs of a machine without input: a step more, and what stays once a run is over.
 use Rattle.std.proofs.Common.{◌≡◌, ℕ, zero, suc, ◌+◌, ◌-◌, ◌≤◌, ◌<◌, List, [], ◌++◌, drop, refl, sym, ap, subst, ◌∙◌, append_assoc, append-nil, add-one, arith}
-use Rattle.std.specs.Prelude.{ℤ, Some, None}
 use Rattle.std.specs.declared.option.Option.{Option}
-use Rattle.std.specs.Io.KnownBytes.{Appends, Keeps}
-use Rattle.std.proofs.KnownBytes.{Appends-trans}
+use Rattle.std.specs.Io.KnownBytes.{Appends}
+use lib.Seq.{drop-nil}
+use Rattle.std.proofs.KnownBytes.{Appends-nil, Appends-trans, Appends-kept}
 use Rattle.lcc_base.specs.declared.order.Order.{Order}
 use Rattle.lcc_base.specs.Faults.{Rose}
 use Rattle.lcc_base.specs.Taken.{TookPrefix}
 use Rattle.asm_text.specs.declared.program.Program.{Program}
 use Rattle.asm_text.specs.declared.running.Input.{Input}
-use Rattle.asm_text.specs.declared.running.StuckCause.{StuckCause}
 use Rattle.asm_text.specs.declared.running.Step.TheVariants as answer
 use Rattle.mips_machine.specs.State.{Cpu, MMachine}
 use Rattle.mips_machine.specs.Stepped.{IsStepped, Scene, scene, step_of}
 use Rattle.lcc_top.specs.declared.outcome.Outcome.TheVariants as outcome
 use Rattle.mips_machine.specs.StepTable.{MStep, Goes, Ends, IsStuck, IsOut, step}
 use Rattle.mips_machine.specs.Run.{Run, Place, Going, Ended, Stuck, StackOut, after, onward, run_from}
-use Rattle.lcc_top.specs.Simulation.{IsGoing, StopsIn, HasRun}
+use Rattle.lcc_top.specs.Simulation.{IsGoing, IsAt, StopsIn, HasRun}
 
 abbrev pub run_at : List ℕ → Place → Run
 run_at printed place = record { printed = printed; place = place }
@@ -24,11 +23,6 @@ run_at printed place = record { printed = printed; place = place }
 -- the run is going after i steps, without input, and the output took what it printed
 abbrev pub GoesOn : (ℕ → Run) → ℕ → Option (List ℕ) → Option (List ℕ) → Cpu → Type 0
 GoesOn run i taken taken_after cpu = (printed : List ℕ) × (run i ≡ run_at printed (Going cpu [])) × Appends taken taken_after printed
-
--- nothing is left of nothing
-left_of_nothing : (n : ℕ) → drop {A = ℕ} n [] ≡ []
-left_of_nothing zero = refl
-left_of_nothing (suc n) = refl
 
 -- the run behind a step
 behind : (p : Program) (order : Order) (start : Run) (i : ℕ) (printed : List ℕ) (cpu : Cpu) (s : MStep) → run_from p order start i ≡ run_at printed (Going cpu []) → step p order cpu [] ≡ s → run_from p order start (i + 1) ≡ after printed [] s
@@ -38,7 +32,7 @@ behind p order start i printed cpu s at is =
 -- one step more
 pub goes_on : (p : Program) (order : Order) (start : Run) (i : ℕ) (old mid new : Option (List ℕ)) (cpu next : Cpu) (more : List ℕ) (read : ℕ) → GoesOn (run_from p order start) i old mid cpu → step p order cpu [] ≡ Goes next more read → Appends mid new more → GoesOn (run_from p order start) (i + 1) old new next
 goes_on p order start i old mid new cpu next more read (printed, at, took) is had =
-    (printed ++ more, behind p order start i printed cpu (Goes next more read) at is ∙ ap (λ (l : List ℕ). run_at (printed ++ more) (Going next l)) (left_of_nothing read), Appends-trans old mid new printed more took had)
+    (printed ++ more, behind p order start i printed cpu (Goes next more read) at is ∙ ap (λ (l : List ℕ). run_at (printed ++ more) (Going next l)) (drop-nil read), Appends-trans old mid new printed more took had)
 
 -- what is printed only grows
 after_grows : (printed left : List ℕ) (s : MStep) → (rest : List ℕ) × ((after printed left s).printed ≡ printed ++ rest)
@@ -73,29 +67,20 @@ printed_part p order start i steps old new cpu within (printed, at, took) =
     (printed, rest, whole, took)
 
 -- a run that is over stays so
-pub stays_ended : (p : Program) (order : Order) (start : Run) (i more : ℕ) (printed : List ℕ) (status : ℤ) → run_from p order start i ≡ run_at printed (Ended status) → run_from p order start (more + i) ≡ run_at printed (Ended status)
-stays_ended p order start i zero printed status at =
-    let none : 0 + i ≡ i = omega arith in
-    ap (λ (k : ℕ). run_from p order start k) none ∙ at
-stays_ended p order start i (suc more) printed status at =
-    let one : suc more + i ≡ suc (more + i) = omega arith in
-    ap (λ (k : ℕ). run_from p order start k) one ∙ ap (λ (r : Run). onward p order r.printed r.place) (stays_ended p order start i more printed status at)
+onward_over : (p : Program) (order : Order) (printed : List ℕ) (place : Place) → (IsGoing place → ⊥) → onward p order printed place ≡ run_at printed place
+onward_over p order printed (Going cpu left) over = absurd (over tt)
+onward_over p order printed (Ended status) over = refl
+onward_over p order printed (Stuck cause pc) over = refl
+onward_over p order printed (StackOut pc) over = refl
 
-pub stays_stuck : (p : Program) (order : Order) (start : Run) (i more : ℕ) (printed : List ℕ) (cause : StuckCause) (pc : ℕ) → run_from p order start i ≡ run_at printed (Stuck cause pc) → run_from p order start (more + i) ≡ run_at printed (Stuck cause pc)
-stays_stuck p order start i zero printed cause pc at =
+stays : (p : Program) (order : Order) (start : Run) (i more : ℕ) (printed : List ℕ) (place : Place) → (IsGoing place → ⊥) → run_from p order start i ≡ run_at printed place → run_from p order start (more + i) ≡ run_at printed place
+stays p order start i zero printed place over at =
     let none : 0 + i ≡ i = omega arith in
     ap (λ (k : ℕ). run_from p order start k) none ∙ at
-stays_stuck p order start i (suc more) printed cause pc at =
+stays p order start i (suc more) printed place over at =
     let one : suc more + i ≡ suc (more + i) = omega arith in
-    ap (λ (k : ℕ). run_from p order start k) one ∙ ap (λ (r : Run). onward p order r.printed r.place) (stays_stuck p order start i more printed cause pc at)
-
-pub stays_out : (p : Program) (order : Order) (start : Run) (i more : ℕ) (printed : List ℕ) (pc : ℕ) → run_from p order start i ≡ run_at printed (StackOut pc) → run_from p order start (more + i) ≡ run_at printed (StackOut pc)
-stays_out p order start i zero printed pc at =
-    let none : 0 + i ≡ i = omega arith in
-    ap (λ (k : ℕ). run_from p order start k) none ∙ at
-stays_out p order start i (suc more) printed pc at =
-    let one : suc more + i ≡ suc (more + i) = omega arith in
-    ap (λ (k : ℕ). run_from p order start k) one ∙ ap (λ (r : Run). onward p order r.printed r.place) (stays_out p order start i more printed pc at)
+    let before = stays p order start i more printed place over at in
+    ap (λ (k : ℕ). run_from p order start k) one ∙ ap (λ (r : Run). onward p order r.printed r.place) before ∙ onward_over p order printed place over
 
 -- the machine is running, without input, and has gone i steps
 pub record Running (p : Program) (order : Order) (start : Run) (i : ℕ) (old now : Option (List ℕ)) (m : MMachine) (input : Input) : Type 0 where
@@ -104,12 +89,8 @@ pub record Running (p : Program) (order : Order) (start : Run) (i : ℕ) (old no
   pub no_input : input.bytes ≡ []
   pub going : GoesOn (run_from p order start) i old now m.cpu
 
-appends_nothing : (a : Option (List ℕ)) → Appends a a []
-appends_nothing None = tt
-appends_nothing (Some xs) = sym (append-nil xs)
-
 pub first : (m : MMachine) (input : Input) (taken : Option (List ℕ)) → input.bytes ≡ [] → Running m.program m.order (run_at [] (Going m.cpu [])) 0 taken taken m input
-first m input taken none = record { program = refl; order_is = refl; no_input = none; going = ([], refl, appends_nothing taken) }
+first m input taken none = record { program = refl; order_is = refl; no_input = none; going = ([], refl, Appends-nil taken) }
 
 -- the machine's step is that of the run
 this_step : (p : Program) (order : Order) (m : MMachine) (input : Input) (s : MStep) → m.program ≡ p → m.order ≡ order → input.bytes ≡ [] → step_of m input ≡ s → step p order m.cpu [] ≡ s
@@ -118,7 +99,7 @@ this_step p order m input s is_p is_order none is =
     let Empty : List ℕ → Type 0 = λ l. step m.program m.order m.cpu l ≡ s in
     let Of : Program → Type 0 = λ q. step q m.order m.cpu [] ≡ s in
     let By : Order → Type 0 = λ o. step p o m.cpu [] ≡ s in
-    subst By is_order (subst Of is_p (subst Empty (left_of_nothing input.place) (subst Left none is)))
+    subst By is_order (subst Of is_p (subst Empty (drop-nil input.place) (subst Left none is)))
 
 pub next : (p : Program) (order : Order) (start : Run) (i : ℕ) (old mid new : Option (List ℕ)) (f g : ℕ) (m n : MMachine) (input more : Input) → Running p order start i old mid m input → IsStepped (step_of m input) (scene m input mid f) (scene n more new g) answer.Went → Running p order start (i + 1) old new n more
 next p order start i old mid new f g m n input more h went =
@@ -136,43 +117,21 @@ same_taken m n input more mid new old f g printed same took =
     let Took : Option (List ℕ) → Type 0 = λ t. Appends old t printed in
     subst Took (sym (ap (λ (s : Scene). s.taken) same)) took
 
-pub ended : (p : Program) (order : Order) (start : Run) (i steps : ℕ) (old mid new : Option (List ℕ)) (e f g : ℕ) (m n : MMachine) (input more : Input) (status : ℤ) → i < steps → Running p order start i old mid m input → IsStepped (step_of m input) (scene m input mid f) (scene n more new g) (answer.Ended status) → HasRun (λ k. run_from p order start k) steps old new e g (outcome.Exited status)
-ended p order start i steps old mid new e f g m n input more status within h (ends, same) =
-    let (printed, at, took) = h.going in
-    let is = this_step p order m input (Ends status) h.program h.order_is h.no_input ends in
-    let k : (steps - (i + 1)) + (i + 1) ≡ steps = omega (arith, within) in
-    let stays = stays_ended p order start (i + 1) (steps - (i + 1)) printed status (behind p order start i printed m.cpu (Ends status) at is) in
-    record { printed = printed; is = ap (λ (j : ℕ). run_from p order start j) (sym k) ∙ stays; written = same_taken m n input more mid new old f g printed same took }
-
 stops : (p : Program) (order : Order) (start : Run) (i : ℕ) (printed : List ℕ) (cpu : Cpu) (place : Place) → run_from p order start i ≡ run_at printed (Going cpu []) → run_from p order start (i + 1) ≡ run_at printed place → StopsIn (λ k. run_from p order start k) (i + 1) place
 stops p order start i printed cpu place at after =
     let IsOn : Run → Type 0 = λ r. IsGoing r.place in
     let j : i ≡ (i + 1) - 1 = omega arith in
     record { some = omega arith; before = subst IsOn (sym at ∙ ap (λ (k : ℕ). run_from p order start k) j) tt; after = ap (λ (r : Run). r.place) after }
 
-pub stuck : (p : Program) (order : Order) (start : Run) (i steps : ℕ) (old mid new : Option (List ℕ)) (e f g : ℕ) (m n : MMachine) (input more : Input) (cause : StuckCause) (pc : ℕ) → i < steps → Running p order start i old mid m input → IsStepped (step_of m input) (scene m input mid f) (scene n more new g) (answer.Stuck cause pc) → HasRun (λ k. run_from p order start k) steps old new e g (outcome.Stuck cause pc (i + 1))
-stuck p order start i steps old mid new e f g m n input more cause pc within h (ends, same) =
+-- a step that ends a run: from then on the run is at this place, and the output has taken what it printed before
+pub over : (p : Program) (order : Order) (start : Run) (i steps : ℕ) (old mid new : Option (List ℕ)) (f g : ℕ) (m n : MMachine) (input more : Input) (s : MStep) (place : Place) → (IsGoing place → ⊥) → ((printed : List ℕ) → after printed [] s ≡ run_at printed place) → i < steps → Running p order start i old mid m input → (step_of m input ≡ s) × (scene n more new g ≡ scene m input mid f) → IsAt (λ k. run_from p order start k) steps old new place × StopsIn (λ k. run_from p order start k) (i + 1) place
+over p order start i steps old mid new f g m n input more s place ends to within h (stepped, same) =
     let (printed, at, took) = h.going in
-    let is = this_step p order m input (IsStuck cause pc) h.program h.order_is h.no_input ends in
+    let is = this_step p order m input s h.program h.order_is h.no_input stepped in
+    let here = behind p order start i printed m.cpu s at is ∙ to printed in
     let k : (steps - (i + 1)) + (i + 1) ≡ steps = omega (arith, within) in
-    let over = behind p order start i printed m.cpu (IsStuck cause pc) at is in
-    let stays = stays_stuck p order start (i + 1) (steps - (i + 1)) printed cause pc over in
-    (record { printed = printed; is = ap (λ (j : ℕ). run_from p order start j) (sym k) ∙ stays; written = same_taken m n input more mid new old f g printed same took }, stops p order start i printed m.cpu (Stuck cause pc) at over)
-
-pub stack_out : (p : Program) (order : Order) (start : Run) (i steps : ℕ) (old mid new : Option (List ℕ)) (e f g : ℕ) (m n : MMachine) (input more : Input) (pc : ℕ) → i < steps → Running p order start i old mid m input → IsStepped (step_of m input) (scene m input mid f) (scene n more new g) (answer.StackOut pc) → HasRun (λ k. run_from p order start k) steps old new e g (outcome.StackOut pc (i + 1))
-stack_out p order start i steps old mid new e f g m n input more pc within h (ends, same) =
-    let (printed, at, took) = h.going in
-    let is = this_step p order m input (IsOut pc) h.program h.order_is h.no_input ends in
-    let k : (steps - (i + 1)) + (i + 1) ≡ steps = omega (arith, within) in
-    let over = behind p order start i printed m.cpu (IsOut pc) at is in
-    let stays = stays_out p order start (i + 1) (steps - (i + 1)) printed pc over in
-    (record { printed = printed; is = ap (λ (j : ℕ). run_from p order start j) (sym k) ∙ stays; written = same_taken m n input more mid new old f g printed same took }, stops p order start i printed m.cpu (StackOut pc) at over)
-
-appends_kept : (a b c : Option (List ℕ)) (xs : List ℕ) → Appends a b xs → Keeps b c → Appends a c xs
-appends_kept None b c xs p q = tt
-appends_kept (Some x) None c xs p q = absurd p
-appends_kept (Some x) (Some y) None xs p q = absurd q
-appends_kept (Some x) (Some y) (Some z) xs p q = q ∙ p
+    let last = stays p order start (i + 1) (steps - (i + 1)) printed place ends here in
+    (record { printed = printed; is = ap (λ (j : ℕ). run_from p order start j) (sym k) ∙ last; written = same_taken m n input more mid new old f g printed same took }, stops p order start i printed m.cpu place at here)
 
 later_rose : (e f g : ℕ) → e ≤ f → Rose f g → Rose e g
 later_rose e f g later rose = grind (arith)
@@ -180,7 +139,7 @@ later_rose e f g later rose = grind (arith)
 pub failed : (p : Program) (order : Order) (start : Run) (i steps : ℕ) (old mid new : Option (List ℕ)) (e f g : ℕ) (m n : MMachine) (input more : Input) → i < steps → e ≤ f → Running p order start i old mid m input → IsStepped (step_of m input) (scene m input mid f) (scene n more new g) answer.Failed → HasRun (λ k. run_from p order start k) steps old new e g outcome.WriteFault
 failed p order start i steps old mid new e f g m n input more within later h fails =
     let (printed, at, took) = h.going in
-    let on : GoesOn (run_from p order start) i old new m.cpu = (printed, at, appends_kept old mid new printed took fails.output) in
+    let on : GoesOn (run_from p order start) i old new m.cpu = (printed, at, Appends-kept old mid new printed took fails.output) in
     (later_rose e f g later fails.cause, printed_part p order start i steps old new m.cpu (omega (arith, within)) on)
 
 pub out_of_steps : (p : Program) (order : Order) (start : Run) (i steps : ℕ) (old new : Option (List ℕ)) (e g : ℕ) (m : MMachine) (input : Input) → i ≡ steps → Running p order start i old new m input → HasRun (λ k. run_from p order start k) steps old new e g (outcome.OutOfSteps steps)

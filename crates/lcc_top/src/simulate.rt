@@ -9,7 +9,6 @@ use mips_machine::Machine;
 use std::alloc::Global;
 
 /// Runs a machine without input for so many steps, or until it stops.
-#[tactic(auto, using(crate::proofs::Running::next, crate::proofs::Running::ended, crate::proofs::Running::stuck, crate::proofs::Running::stack_out, crate::proofs::Running::failed, crate::proofs::Running::out_of_steps))]
 pub(crate) fn run_machine<K: Sink>(
     alloc: Global,
     machine: &mut Machine,

@@ -262,6 +262,32 @@ fn simulates(rt: HostRuntime) -> Result<(), Fail> {
             "",
             "stack out at 0x00400000, step 1\n",
         ),
+        // The stack of 1,048,576 bytes is from 2146369536, its floor, up to 2147418112, its top: $29
+        // may be at both, and at nothing beyond them.
+        (
+            "main:\n li $29,2146369536\n li $2,3\n sw $2,0($29)\n lw $2,0($29)\n j $31\n",
+            Status::Ok,
+            "",
+            "exit 3\n",
+        ),
+        (
+            "main:\n li $29,2146369535\n j $31\n",
+            Status::StackOut,
+            "",
+            "stack out at 0x00400000, step 1\n",
+        ),
+        (
+            "main:\n li $29,2147418112\n li $2,4\n sw $2,-4($29)\n lw $2,-4($29)\n j $31\n",
+            Status::Ok,
+            "",
+            "exit 4\n",
+        ),
+        (
+            "main:\n li $2,4\n li $29,2147418113\n j $31\n",
+            Status::StackOut,
+            "",
+            "stack out at 0x00400004, step 2\n",
+        ),
         (
             "main:\n b main\n",
             Status::OutOfSteps,
@@ -270,6 +296,31 @@ fn simulates(rt: HostRuntime) -> Result<(), Fail> {
         ),
         ("start:\n j $31\n", Status::BadText, "", "no main\n"),
         ("main:\n jal nobody\n", Status::BadText, "", "bad text\n"),
+        // Each is the first program with one byte changed, added or left out.
+        (
+            "main:\n li $2 7\n j $31\n",
+            Status::BadText,
+            "",
+            "bad text\n",
+        ),
+        (
+            "main:\n li $32,7\n j $31\n",
+            Status::BadText,
+            "",
+            "bad text\n",
+        ),
+        (
+            "main:\n li$2,7\n j $31\n",
+            Status::BadText,
+            "",
+            "bad text\n",
+        ),
+        (
+            "main:\n li $2,7a\n j $31\n",
+            Status::BadText,
+            "",
+            "bad text\n",
+        ),
     ];
     for (text, status, output, report) in table {
         let ran = simulate(alloc, text)?;

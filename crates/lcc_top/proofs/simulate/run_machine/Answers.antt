@@ -1,20 +1,20 @@
-use Rattle.std.proofs.Common.{◌≡◌, ◌<◌, [], w32, SFits, rules, arith, sym, subst}
+use Rattle.std.proofs.Common.{◌≡◌, ◌<◌, [], w32, SFits, rules, arith, refl, sym, subst}
 use Rattle.std.specs.Prelude.{ℤ}
 use Rattle.std.proofs.Math.Facts.{to_z-of_z}
-use Rattle.mips_machine.specs.Run.{run_from, Going, Ended}
+use Rattle.mips_machine.specs.Run.{run_from, Going, Ended, Stuck, StackOut}
 use Rattle.lcc_top.specs.Simulation.{IsAt}
-use Rattle.lcc_top.proofs.Running.{next, ended, stuck, stack_out, failed, out_of_steps}
+use Rattle.lcc_top.proofs.Running.{next, over, failed, out_of_steps}
 use Rattle.lcc_top.proofs.simulate.run_machine.Goals as goal
 
 pub returns-in-Stuck-clause-ran : goal.returns-in-Stuck-clause-ran
 returns-in-Stuck-clause-ran g c =
     let within : c.loop-i.i < c.args.steps = search rules in
-    stuck _ _ _ c.loop-i.i c.args.steps _ _ _ 0 _ _ _ _ _ _ c.in-Stuck.cause c.in-Stuck.pc within c.loop-i.invariant.0 c.in-Stuck.ensures.stepped
+    over _ _ _ c.loop-i.i c.args.steps _ _ _ _ _ _ _ _ _ _ (Stuck c.in-Stuck.cause c.in-Stuck.pc) (λ x. x) (λ l. refl) within c.loop-i.invariant.0 c.in-Stuck.ensures.stepped
 
 pub returns-in-StackOut-clause-ran : goal.returns-in-StackOut-clause-ran
 returns-in-StackOut-clause-ran g c =
     let within : c.loop-i.i < c.args.steps = search rules in
-    stack_out _ _ _ c.loop-i.i c.args.steps _ _ _ 0 _ _ _ _ _ _ c.in-StackOut.pc within c.loop-i.invariant.0 c.in-StackOut.ensures.stepped
+    over _ _ _ c.loop-i.i c.args.steps _ _ _ _ _ _ _ _ _ _ (StackOut c.in-StackOut.pc) (λ x. x) (λ l. refl) within c.loop-i.invariant.0 c.in-StackOut.ensures.stepped
 
 pub returns-in-Failed-clause-ran : goal.returns-in-Failed-clause-ran
 returns-in-Failed-clause-ran g c =
@@ -35,4 +35,5 @@ returns-in-Ended-clause-ran g c =
     let within : c.loop-i.i < c.args.steps = search rules in
     let fits : SFits w32 c.in-Ended.status = search rules in
     let Ran : ℤ → Type 0 = λ z. IsAt (λ n. run_from c.args.machine.now.program c.args.machine.now.order (record { printed = []; place = Going c.args.machine.now.cpu [] }) n) c.args.steps (g.K.Sink.taken c.args.output.now) (g.K.Sink.taken c.step.new.out) (Ended z) in
-    subst Ran (sym (to_z-of_z fits)) (ended _ _ _ c.loop-i.i c.args.steps _ _ _ 0 _ _ _ _ _ _ c.in-Ended.status within c.loop-i.invariant.0 c.in-Ended.ensures.stepped)
+    let (at, stops) = over _ _ _ c.loop-i.i c.args.steps _ _ _ _ _ _ _ _ _ _ (Ended c.in-Ended.status) (λ x. x) (λ l. refl) within c.loop-i.invariant.0 c.in-Ended.ensures.stepped in
+    subst Ran (sym (to_z-of_z fits)) at
