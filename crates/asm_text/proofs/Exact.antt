@@ -23,8 +23,8 @@ use Rattle.asm_text.specs.declared.program.Label.{Label}
 use Rattle.asm_text.specs.Tokens.{Tok, Word, Number, Minus, Dollar, Mark, Wrong, Spaced}
 use Rattle.asm_text.specs.Instructions.{IsRegister, IsNumber, IsOperand, IsTarget, IsInstruction, IsStatement, IsLine, AreLines, AreLabels, toks}
 use Rattle.asm_text.specs.Words.{IsRow}
-use Rattle.asm_text.specs.Program.{Makes}
-use Rattle.asm_text.specs.AssemblyText.{IsAssembly}
+use Rattle.asm_text.specs.Program.{Makes, IsWithinLimit}
+use Rattle.asm_text.specs.AssemblyText.{IsText, IsAssembly}
 use Rattle.asm_text.proofs.Numerals.{value_decimal, digits_decimal}
 use Rattle.asm_text.proofs.Once.{once}
 use Rattle.asm_text.proofs.Labels.{same_labels, statement_no_label}
@@ -235,9 +235,14 @@ same_made : (lines : List Line) (p q : Program) → Makes lines p → Makes line
 same_made lines p q h k = program_is p q (h.code ∙ sym k.code) (h.numbers ∙ sym k.numbers) (h.labels ∙ sym k.labels)
 
 -- what is made of a text's lines
-pub made_of : (text : List ℕ) (lines : List Line) (p : Program) → AreLines (lines_of text) 1 lines → IsAssembly text p → Makes lines p
+pub made_of : (text : List ℕ) (lines : List Line) (p : Program) → AreLines (lines_of text) 1 lines → IsText text p → Makes lines p
 made_of text lines p h k = let P : List Line → Type 0 = λ l. Makes l p in subst P (same_lines (lines_of text) 1 k.lines lines k.spelled h) k.made
 
+-- the text is one of what is made of its lines
+pub text_made : (text : List ℕ) (lines : List Line) (result : Result Program AsmFault) → AreLines (lines_of text) 1 lines → IfOk result (λ p. Makes lines p) → IfOk result (λ p. IsWithinLimit p) → IfOk result (λ p. IsAssembly text p)
+text_made text lines (Ok p) h k m = record { text = record { lines = lines; spelled = h; made = k }; limit = m }
+text_made text lines (Err e) h k m = tt
+
 pub program_read : (text : List ℕ) (result : Result Program AsmFault) (p : Program) → IfOk result (λ r. IsAssembly text r) → IsAssembly text p → IfOk result (λ r. r ≡ p)
-program_read text (Ok r) p h k = same_made h.lines r p h.made (made_of text h.lines p h.spelled k)
+program_read text (Ok r) p h k = same_made h.text.lines r p h.text.made (made_of text h.text.lines p h.text.spelled k.text)
 program_read text (Err e) p h k = tt

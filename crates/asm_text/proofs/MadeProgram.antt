@@ -1,11 +1,11 @@
--- A program that lines make is fit for a machine.
+-- A program that lines make is fit for a machine, if it is within the limit.
 use Rattle.std.proofs.Common.{ℕ, ◌+◌, ◌≤◌, List, [], ◌∷◌, ◌++◌, length, map, sym, subst, arith, length-append}
 use Rattle.std.specs.Prelude.{All}
 use Rattle.std.proofs.lemmas.List.Elements.{All-append, All-map}
 use Rattle.asm_text.specs.declared.line.Line.{Line}
 use Rattle.asm_text.specs.declared.program.Program.{Program}
 use Rattle.asm_text.specs.declared.program.Label.{Label}
-use Rattle.asm_text.specs.Program.{Makes, code_of, code_in, label_at, labels_from}
+use Rattle.asm_text.specs.Program.{Makes, IsWithinLimit, code_of, code_in, label_at, labels_from}
 use Rattle.asm_text.specs.IsProgram.{IsProgram}
 
 abbrev Upto : ℕ → Label → Type 0
@@ -27,12 +27,12 @@ labels_within place (line ∷ lines) =
     (upto_all _ _ (map (label_at place) line.labels) more here)
     (upto_all _ _ (labels_from (place + length (code_of line.statement)) lines) same behind)
 
-pub made_program : (lines : List Line) (p : Program) → Makes lines p → IsProgram p
-made_program lines p makes =
+pub made_program : (lines : List Line) (p : Program) → Makes lines p → IsWithinLimit p → IsProgram p
+made_program lines p makes limit =
     let Within : List Label → Type 0 = λ ls. All (Upto (length p.code)) ls in
     let size : 0 + length (code_in lines) ≤ length p.code = rw makes.code (omega arith) in
     record {
-      limit = makes.limit;
+      limit = limit;
       within = subst Within (sym makes.labels) (upto_all _ _ (labels_from 0 lines) size (labels_within 0 lines));
       distinct = makes.distinct;
     }

@@ -1,4 +1,4 @@
--- Lines that make a program are fit for it, and the other way round.
+-- Lines that make a program within the limit are fit for it, and the other way round.
 use Rattle.std.proofs.Common.{◌≡◌, ◌+◌, ℕ, zero, suc, List, [], ◌∷◌, ◌++◌, length, map, Some, refl, sym, ap, subst, ◌∙◌, inl, inr, arith}
 use Rattle.std.specs.Prelude.{slice_get, option_map}
 use Rattle.std.proofs.lemmas.List.{map-append}
@@ -6,7 +6,7 @@ use Rattle.std.proofs.lemmas.Option.{slice_get-map, none-some, same_Some}
 use Rattle.asm_text.specs.declared.line.Line.{Line}
 use Rattle.asm_text.specs.declared.program.Program.{Program}
 use Rattle.asm_text.specs.declared.program.Label.{Label}
-use Rattle.asm_text.specs.Program.{Makes, AreDistinct, IsKnown, code_of, code_in, numbers_in, label_at, labels_from}
+use Rattle.asm_text.specs.Program.{Makes, IsWithinLimit, AreDistinct, IsKnown, code_of, code_in, numbers_in, label_at, labels_from}
 use Rattle.asm_text.specs.Fitting.{label_names, StandOnce, IsNamed, AreFit}
 
 abbrev name : Label → List ℕ
@@ -54,13 +54,13 @@ named_known labels n h = elim h [
 labels_named : (lines : List Line) (labels : List Label) → labels ≡ labels_from 0 lines → map name labels ≡ label_names lines
 labels_named lines labels e = ap (λ z. map name z) e ∙ names_from 0 lines
 
-pub makes_fit : (lines : List Line) (p : Program) → Makes lines p → AreFit lines
-makes_fit lines p m =
+pub makes_fit : (lines : List Line) (p : Program) → Makes lines p → IsWithinLimit p → AreFit lines
+makes_fit lines p m within =
     let e = labels_named lines p.labels m.labels in
     record {
       once = (let P : List (List ℕ) → Type 0 = λ l. StandOnce l in subst P e (distinct_once p.labels m.distinct));
       known = λ i n h. (let P : List (List ℕ) → Type 0 = λ l. IsNamed l n in subst P e (known_named p.labels n (m.known i n h)));
-      limit = omega (arith, m.limit, ap length m.code);
+      limit = omega (arith, within, ap length m.code);
     }
 
 pub fit_makes : (lines : List Line) (p : Program) → AreFit lines → p.code ≡ code_in lines → p.numbers ≡ numbers_in lines → p.labels ≡ labels_from 0 lines → Makes lines p
@@ -72,5 +72,7 @@ fit_makes lines p f a b c =
       labels = c;
       distinct = (let P : List (List ℕ) → Type 0 = λ l. StandOnce l in once_distinct p.labels (subst P (sym e) f.once));
       known = λ i n h. (let P : List (List ℕ) → Type 0 = λ l. IsNamed l n in named_known p.labels n (subst P (sym e) (f.known i n h)));
-      limit = omega (arith, f.limit, ap length a);
     }
+
+pub fit_within : (lines : List Line) (p : Program) → AreFit lines → p.code ≡ code_in lines → IsWithinLimit p
+fit_within lines p f a = omega (arith, f.limit, ap length a)

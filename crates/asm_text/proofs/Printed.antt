@@ -25,7 +25,7 @@ use Rattle.asm_text.specs.declared.program.Program.{Program}
 use Rattle.asm_text.specs.Tokens.{Tok, Number, Spaced, IsName, IsToken}
 use Rattle.asm_text.specs.Instructions.{IsRegister, IsNumber, IsOperand, IsTarget, IsInstruction, IsStatement, IsApart, AreLabels, IsLine, AreLines, toks, two, three, placed, binary_word, unary_word, load_word, store_word}
 use Rattle.asm_text.specs.Program.{Makes, names_of, names_of_instruction, target_names}
-use Rattle.asm_text.specs.AssemblyText.{IsAssembly}
+use Rattle.asm_text.specs.AssemblyText.{IsText}
 use Rattle.asm_text.specs.Printable.{AreNames, PrintableFrom, ArePrintable}
 use Rattle.asm_text.specs.Printed.{register_token, operand_token, target_token, operand_tokens, head_word, spaced, statement_tokens, label_tokens, line_tokens, lines_text, spaced_text, written, IsOperandWithin, IsTargetWithin, IsInstructionWithin, IsStatementWithin, IsLineWithin, AreWithin}
 use Rattle.asm_text.proofs.Numerals.{value_decimal, digits_decimal}
@@ -187,7 +187,7 @@ printed_from number (l ∷ lines) h k =
 pub printed : (bytes : List ℕ) (lines : List Line) → bytes ≡ lines_text lines → AreWithin lines → ArePrintable lines → AreLines (lines_of bytes) 1 lines
 printed bytes lines e h k = let P : List ℕ → Type 0 = λ u. AreLines (lines_of u) 1 lines in subst P (sym e) (printed_from 1 lines h k)
 
-pub printed_program : (bytes : List ℕ) (lines : List Line) (p : Program) → bytes ≡ lines_text lines → AreWithin lines → ArePrintable lines → Makes lines p → IsAssembly bytes p
+pub printed_program : (bytes : List ℕ) (lines : List Line) (p : Program) → bytes ≡ lines_text lines → AreWithin lines → ArePrintable lines → Makes lines p → IsText bytes p
 printed_program bytes lines p e h k m = record { lines = lines; spelled = printed bytes lines e h k; made = m }
 
 -- ---- the steps of the loops

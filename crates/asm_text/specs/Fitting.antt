@@ -1,4 +1,4 @@
--- What lines must be, so that they make a program.
+-- What lines must be, so that they make a program within the limit.
 use Rattle.std.specs.Prelude.{◌≡◌, ◌⊎◌, ◌≤◌, ℕ, List, [], ◌∷◌, ◌++◌, length, codes, Some, slice_get}
 use Rattle.asm_text.specs.declared.line.Line.{Line}
 use Rattle.asm_text.specs.Program.{code_in, names_in}

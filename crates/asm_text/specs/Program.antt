@@ -1,5 +1,5 @@
 -- The program that lines make: their instructions in order, each with the number of its line, and their labels,
--- each at the place of the next instruction.
+-- each at the place of the next instruction. The limit of a program that is read stands apart.
 use Rattle.std.specs.Prelude.{◌≡◌, ◌⊎◌, ℕ, ◌+◌, ◌≤◌, List, [], ◌∷◌, ◌++◌, length, map, codes, Some, slice_get}
 use Rattle.asm_text.specs.declared.instruction.Instruction.{Instruction}
 use Rattle.asm_text.specs.declared.instruction.Instruction.TheVariants as instruction
@@ -75,4 +75,7 @@ pub record Makes (lines : List Line) (p : Program) : Type 0 where
   pub labels : p.labels ≡ labels_from 0 lines
   pub distinct : AreDistinct p.labels
   pub known : (i : ℕ) (name : List ℕ) → slice_get (names_in lines) i ≡ Some name → IsKnown p.labels name
-  pub limit : length p.code ≤ 4194304
+
+-- a program that is read has at most so many instructions
+abbrev pub IsWithinLimit : Program → Type 0
+IsWithinLimit p = length p.code ≤ 4194304

@@ -1,4 +1,4 @@
-//! Whether lines make a program.
+//! Whether lines make a program within the limit.
 ghost use Rattle.std.specs.Prelude.{◌≡◌, ◌≤◌, ◌∷◌, ◌++◌, [], false, length, option_map, option_to_list, IfErr, OnOk, IfOk, IsTrue};
 ghost use Rattle.lcc_text.specs.Names.{bytes_of};
 ghost use Rattle.asm_text.specs.Program.{code_of, code_in, names_in, names_of, names_of_instruction, target_names};
@@ -150,7 +150,7 @@ fn code_len(lines: &[Line]) -> usize
     len
 }
 
-/// Whether the lines make a program: `BadText` where they make none.
+/// Whether the lines make a program within the limit: `BadText` where they make none.
 pub(crate) fn fit(alloc: Global, lines: &[Line]) -> Result<(), AsmFault>
     ensures found { OnOk result (AreFit lines.now) }
     ensures only { AreFit lines.now → IfErr result (λ e. e ≡ AsmFault.Memory) }

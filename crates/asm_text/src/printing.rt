@@ -5,7 +5,7 @@ ghost use Rattle.asm_text.specs.declared.program.Program.{Program as Programs};
 ghost use Rattle.asm_text.specs.Tokens.{Number, text_of};
 ghost use Rattle.asm_text.specs.Instructions.{AreLines, two, three};
 ghost use Rattle.asm_text.specs.Program.{Makes};
-ghost use Rattle.asm_text.specs.AssemblyText.{IsAssembly};
+ghost use Rattle.asm_text.specs.AssemblyText.{IsText};
 ghost use Rattle.asm_text.specs.Printable.{ArePrintable};
 ghost use Rattle.asm_text.specs.Printed.{
   joined,
@@ -209,8 +209,8 @@ fn push_line(out: &mut Bytes, line: &Line) -> Result<(), Memory>
 pub fn print(alloc: Global, lines: &Lines) -> Result<Bytes, Memory>
     // The lines of the text are these.
     ensures lines { IfOk result (λ bytes. ArePrintable lines.now → AreLines (lines_of bytes) 1 lines.now) }
-    // The text is one of the lines' program.
-    ensures program { IfOk result (λ bytes. (p : Programs) → ArePrintable lines.now → Makes lines.now p → IsAssembly bytes p) }
+    // The text is one of the lines' program, also where that is beyond the limit of what is read.
+    ensures program { IfOk result (λ bytes. (p : Programs) → ArePrintable lines.now → Makes lines.now p → IsText bytes p) }
 {
     let mut out = Bytes::new(alloc);
     let all = lines.as_slice();

@@ -1,6 +1,6 @@
 ghost use Rattle.std.specs.Prelude.{◌≡◌, IfOk, IfErr, List};
 ghost use Rattle.asm_text.specs.declared.program.Program.{Program as Programs};
-ghost use Rattle.asm_text.specs.Program.{Makes};
+ghost use Rattle.asm_text.specs.Program.{Makes, IsWithinLimit};
 ghost use Rattle.asm_text.specs.AssemblyText.{IsAssembly};
 
 use crate::asm_fault::AsmFault;
@@ -12,10 +12,11 @@ use crate::line_reader::read_lines;
 use crate::program::Program;
 use std::alloc::Global;
 
-/// The program that the lines make: `BadText` where they make none.
+/// The program that the lines make: `BadText` where they make none within the limit.
 fn program_of(alloc: Global, lines: Lines) -> Result<Program, AsmFault>
     ensures found { IfOk result (λ p. Makes lines p) }
-    ensures only { (p : Programs) → Makes lines p → IfErr result (λ e. e ≡ AsmFault.Memory) }
+    ensures within { IfOk result (λ p. IsWithinLimit p) }
+    ensures only { (p : Programs) → Makes lines p → IsWithinLimit p → IfErr result (λ e. e ≡ AsmFault.Memory) }
 {
     fit(alloc, lines.as_slice())?;
     Ok(assembled(alloc, lines)?)

@@ -3,7 +3,7 @@ use Rattle.std.proofs.KnownBytes.{Keeps-refl}
 use Rattle.lcc_top.proofs.work.run_input.Goals as goal
 
 pub run_program-requires : goal.run_program-requires
-run_program-requires g c = made_program _ _ c.in-Ok.ensures.found.made
+run_program-requires g c = (let is = c.in-Ok.ensures.found in made_program _ _ is.text.made is.limit)
 
 pub returns-in-Err-BadText-clause-done : goal.returns-in-Err-BadText-clause-done
 returns-in-Err-BadText-clause-done g c =
