@@ -1,0 +1,11 @@
+pub mod Truths
+pub mod Lists
+pub mod Runs
+pub mod SignTables
+pub mod NextToken
+pub mod Cut
+pub mod Numbers
+pub mod Operands
+pub mod Chains
+pub mod Programs
+pub mod OneProgram

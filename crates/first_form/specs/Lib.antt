@@ -1,0 +1,10 @@
+pub mod Classes
+pub mod Signs
+pub mod Tokens
+pub mod Expression
+pub mod Grammar
+pub mod Height
+pub mod FirstProgram
+pub mod FirstForm
+pub mod Meaning
+pub mod Readings

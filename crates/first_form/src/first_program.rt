@@ -1,0 +1,11 @@
+use crate::expression::Expression;
+use lcc_base::Items;
+
+/// A program of the first form.
+#[derive(Debug, Drop)]
+pub struct FirstProgram {
+    /// What it prints, in order.
+    pub prints: Items<Expression>,
+    /// What it returns.
+    pub result: Expression,
+}
