@@ -7,12 +7,12 @@ use Rattle.lburg_grammar.specs.Best.{Earlier, Better, ByCost, ByCount, ByNumbers
 use Rattle.tree_labeller.specs.declared.cells.Cell.{Cell}
 use Rattle.tree_labeller.specs.declared.cells.Row.{Row}
 use Rattle.tree_labeller.specs.Labelled.{cell, Labelled}
-use Rattle.tree_labeller.specs.Indexed.{Derivation, Less}
+use Rattle.tree_labeller.specs.Indexed.{Derivation, Less, erase}
 use Rattle.tree_labeller.specs.Indexed.{ByCost as less_by_cost, ByCount as less_by_count, ByRules as less_by_rules, IsBest as is_best, cost as cost_i, count as count_i, numbers as numbers_i}
 use Rattle.tree_labeller.specs.Reduced.{Reduced}
 use Rattle.tree_labeller.specs.Runs.{Runs}
 use Rattle.tree_labeller.proofs.Greatest.{found, none, follows_best}
-use Rattle.tree_labeller.proofs.Erased.{erase, derives, indexed, cost_kept, count_kept, numbers_kept, applied_kept}
+use Rattle.tree_labeller.proofs.Erased.{derives, indexed, cost_kept, count_kept, numbers_kept, applied_kept}
 use Rattle.lburg_grammar.proofs.SameNumbers.{same_numbers}
 
 better : (d : List Rule) (x y : MDerivation) (k m : ℕ) (xs : List ℕ) (k' m' : ℕ) (xs' : List ℕ) → Less k m xs k' m' xs' → cost d x ≡ k → count x ≡ m → numbers x ≡ xs → cost d y ≡ k' → count y ≡ m' → numbers y ≡ xs' → Better d x y
@@ -23,7 +23,7 @@ better d x y k m xs k' m' xs' (less_by_rules e f h) a b c a' b' c' =
     let G : List ℕ → Type 0 = λ z. Earlier (numbers x) z in
     ByNumbers (omega arith) (omega arith) (subst G (sym c') (subst F (sym c) h))
 
-is_best_of : (d : List Rule) (n : ℕ) (t : MTree) (e : Derivation d n t) → is_best e → IsBestOf d n t (erase e)
+pub is_best_of : (d : List Rule) (n : ℕ) (t : MTree) (e : Derivation d n t) → is_best e → IsBestOf d n t (erase e)
 is_best_of d n t e best = record {
   derives = derives e;
   others = λ y dy.

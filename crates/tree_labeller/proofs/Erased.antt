@@ -6,23 +6,9 @@ use Rattle.lburg_grammar.specs.declared.rule.Rule.{Rule}
 use Rattle.lburg_grammar.specs.Tree.{MTree, TLeaf, TOne, TTwo}
 use Rattle.lburg_grammar.specs.Pattern.{MPattern, PHole, PLeaf, POne, PTwo, pattern_of, Goal, joined, goals_at}
 use Rattle.lburg_grammar.specs.Derivation.{MDerivation, MParts, Apply, NoPart, Part, Derives, DeriveEach, cost_of, cost, costs, count, counts, numbers, numbers_in, goals_of_rule, goals_in, applied, applied_in}
-use Rattle.tree_labeller.specs.Indexed.{Derivation, Parts, Uses, AtHole, AtLeaf, AtOne, AtTwo}
+use Rattle.tree_labeller.specs.Indexed.{Derivation, Parts, Uses, AtHole, AtLeaf, AtOne, AtTwo, join, erase, erase_in}
 use Rattle.tree_labeller.specs.Indexed.{cost as cost_i, costs as costs_i, count as count_i, counts as counts_i, numbers as numbers_i, numbers_in as numbers_in_i}
 use Rattle.tree_labeller.specs.Reduced.{visits, visits_in}
-
-abbrev join : MParts → MParts → MParts
-join NoPart ys = ys
-join (Part x xs) ys = Part x (join xs ys)
-
-abbrev mutual
-  pub erase : {d : List Rule} {n : ℕ} {t : MTree} → Derivation d n t → MDerivation
-  erase (Uses i r is left parts) = Apply (i + 1) (erase_in parts)
-
-  pub erase_in : {d : List Rule} {p : MPattern} {t : MTree} → Parts d p t → MParts
-  erase_in (AtHole e) = Part (erase e) NoPart
-  erase_in AtLeaf = NoPart
-  erase_in (AtOne x) = erase_in x
-  erase_in (AtTwo x y) = join (erase_in x) (erase_in y)
 
 -- the nonterminals that an indexed derivation's parts derive
 abbrev goals_for : {d : List Rule} {p : MPattern} {t : MTree} → Parts d p t → List Goal

@@ -12,3 +12,6 @@ pub mod Erased
 pub mod Cover
 pub mod Collected
 pub mod Room
+pub mod Taken
+pub mod Values
+pub mod Listed

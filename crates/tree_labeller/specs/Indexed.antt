@@ -4,6 +4,7 @@ use Rattle.lburg_grammar.specs.Best.{Earlier}
 use Rattle.lburg_grammar.specs.Tree.{MTree, TLeaf, TOne, TTwo}
 use Rattle.lburg_grammar.specs.Pattern.{MPattern, PHole, PLeaf, POne, PTwo, pattern_of}
 use Rattle.lburg_grammar.specs.declared.rule.Rule.{Rule}
+use Rattle.lburg_grammar.specs.Derivation.{MDerivation, MParts, Apply, NoPart, Part}
 
 mutual
   -- a derivation of the nonterminal n at the tree t: a rule, and parts for its pattern
@@ -49,6 +50,22 @@ abbrev mutual
   numbers_in AtLeaf = []
   numbers_in (AtOne x) = numbers_in x
   numbers_in (AtTwo x y) = numbers_in x ++ numbers_in y
+
+-- the parts of the first, then those of the second
+abbrev pub join : MParts → MParts → MParts
+join NoPart ys = ys
+join (Part x xs) ys = Part x (join xs ys)
+
+-- the same derivation by rule numbers alone
+abbrev mutual
+  pub erase : {d : List Rule} {n : ℕ} {t : MTree} → Derivation d n t → MDerivation
+  erase (Uses i r is left parts) = Apply (i + 1) (erase_in parts)
+
+  pub erase_in : {d : List Rule} {p : MPattern} {t : MTree} → Parts d p t → MParts
+  erase_in (AtHole e) = Part (erase e) NoPart
+  erase_in AtLeaf = NoPart
+  erase_in (AtOne x) = erase_in x
+  erase_in (AtTwo x y) = join (erase_in x) (erase_in y)
 
 -- smaller by cost, at equal cost by count, and at equal count by the first difference of the numbers
 pub data Less : (cost count : ℕ) (numbers : List ℕ) (cost' count' : ℕ) (numbers' : List ℕ) → Type 0 where

@@ -10,3 +10,5 @@ pub mod IsIndex
 pub mod MCells
 pub mod IsLabelled
 pub mod IsCells
+pub mod Built
+pub mod AreBest

@@ -1,10 +1,11 @@
-//! Tables of a description's rules, the labelling of trees with them, and the walk over a tree's
-//! best derivation.
+//! Tables of a description's rules, the labelling of trees with them, the walk over a tree's best
+//! derivation, and best derivations as values.
 #![tactic(auto)]
 
 mod cells;
 mod closing;
 mod cost;
+mod derivations;
 mod labeller;
 mod matching;
 mod places;
@@ -15,6 +16,7 @@ mod tests;
 
 pub use cells::Cells;
 pub use cost::{Cost, best};
+pub use derivations::{best_derivation, best_derivations};
 pub use labeller::label;
 pub use reducer::{Visitor, reduce};
 pub use tables::{Tables, build};

@@ -36,8 +36,8 @@ pub fn cell_at(rows: &[Row], at: usize, n: usize) -> Option<Cell>
     }
 }
 
-// The number of the rule that makes a cell.
-fn number_at<N: TreeNode>(
+/// The number of the rule that makes a cell.
+pub fn number_at<N: TreeNode>(
     rules: &[Rule],
     width: usize,
     n: usize,
@@ -55,7 +55,8 @@ fn number_at<N: TreeNode>(
     }
 }
 
-fn rule_of(rules: &[Rule], number: u16) -> &Rule
+/// The rule of a number, from 1.
+pub fn rule_of(rules: &[Rule], number: u16) -> &Rule
     requires first { 1 ≤ number }
     requires within { number ≤ length rules.now }
     ensures { slice_get rules.now (number - 1) ≡ Some result.now }

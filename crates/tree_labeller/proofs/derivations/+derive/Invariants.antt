@@ -1,0 +1,11 @@
+use Rattle.std.proofs.Common.{◌*◌, ◌+◌}
+use Rattle.lburg_grammar.specs.Pattern.{pattern_of}
+use Rattle.tree_labeller.specs.Labelled.{cell, total}
+use Rattle.tree_labeller.specs.Reduced.{cell_count, key_count, pattern_size, biggest}
+use Rattle.tree_labeller.proofs.derivations.+derive.Given as goal
+
+abbrev pub decreases-derivation_at : goal.decreases-derivation_at
+decreases-derivation_at g l = cell_count (cell l.rows.now l.at l.n) * biggest l.rules.now
+
+abbrev pub decreases-add_parts : goal.decreases-add_parts
+decreases-add_parts g l = key_count (total l.rows.now (pattern_of l.pattern.now) (g.N.TreeNode.tree l.tree.now) l.at) * biggest l.rules.now + pattern_size (pattern_of l.pattern.now)
