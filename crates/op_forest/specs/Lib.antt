@@ -1,7 +1,12 @@
 pub mod Operators
+pub mod Signature
 pub mod Nodes
 pub mod NodeParts
 pub mod Coding
+pub mod Shape
+pub mod EachNode
+pub mod WellFormed
+pub mod ForestFaults
 pub mod Frames
 pub mod Words
 pub mod Traces
@@ -18,3 +23,5 @@ pub mod Further
 pub mod OneRoot
 pub mod Nested
 pub mod Reached
+pub mod Lowered
+pub mod Units

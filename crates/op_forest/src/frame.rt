@@ -1,7 +1,7 @@
-ghost use Rattle.std.specs.Prelude.{◌≡◌, []};
+ghost use Rattle.std.specs.Prelude.{◌≡◌, [], IfOk};
 ghost use Rattle.op_forest.specs.Frames.{IsFrame};
 
-use lcc_base::Items;
+use lcc_base::{Items, Memory};
 use std::alloc::Global;
 use std::marker::Model;
 
@@ -47,6 +47,15 @@ impl Frame {
         ensures { result ≡ slots }
     {
         Frame { slots }
+    }
+
+    /// A copy of the frame.
+    pub fn copied(alloc: Global, frame: &Frame) -> Result<Self, Memory>
+        ensures { IfOk result (λ copy. copy ≡ frame.now) }
+    {
+        let mut slots = Vec::new(alloc);
+        slots.extend_from_slice(frame.slots())?;
+        Ok(Frame::of_slots(Items::from_vec(slots)))
     }
 
     /// The slots in order.

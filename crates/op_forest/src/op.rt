@@ -1,3 +1,5 @@
+ghost use Rattle.std.specs.Prelude.{◌≡◌};
+
 /// What an operator does, whatever the type of its value.
 /// Source: Fraser and Hanson, A Retargetable C Compiler, chapter 5.
 #[derive(Clone, Copy, Debug, PartialEq, Eq)]
@@ -70,4 +72,18 @@ pub enum Op {
     Jump,
     /// A label.
     Label,
+}
+
+impl Op {
+    ghost use Rattle.op_forest.specs.Signature.{moves};
+
+    /// Whether the run may go on elsewhere behind it: a return, a jump or a comparison.
+    pub(crate) fn moves(self) -> bool
+        ensures { result ≡ moves self }
+    {
+        matches!(
+            self,
+            Op::Ret | Op::Eq | Op::Ne | Op::Lt | Op::Le | Op::Gt | Op::Ge | Op::Jump
+        )
+    }
 }

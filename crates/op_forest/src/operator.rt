@@ -1,7 +1,10 @@
 ghost use Rattle.std.specs.Prelude.{◌≡◌};
 ghost use Rattle.op_forest.specs.Operators.{number};
+ghost use Rattle.op_forest.specs.Signature.{takes, gives_value, moves, has_rule};
+ghost use Rattle.op_forest.specs.Shape.{listed};
 
 use crate::op::Op;
+use crate::operands::Operands;
 use crate::suffix::Suffix;
 
 /// An operator: what it does, and the type of its value. 69 of the pairs are operators.
@@ -89,6 +92,53 @@ impl Operator {
             (Op::Jump, Suffix::V) => 68,
             (Op::Label, Suffix::V) => 69,
             _ => 0,
+        }
+    }
+
+    /// The suffixes of the operands that it takes.
+    pub(crate) fn takes(self) -> Operands<Suffix>
+        ensures { listed result ≡ takes self.op self.suffix }
+    {
+        let s = self.suffix;
+        match (self.op, s) {
+            (Op::Cnst | Op::Addrg | Op::Addrf | Op::Addrl | Op::Label, _) => Operands::Leaf,
+            (Op::Ret, Suffix::V) => Operands::Leaf,
+            (Op::Indir | Op::Call | Op::Jump, _) => Operands::Unary(Suffix::P),
+            (Op::Arg | Op::Ret | Op::Neg | Op::Bcom, _) => Operands::Unary(s),
+            (Op::Cvc, _) => Operands::Unary(Suffix::C),
+            (Op::Cvs, _) => Operands::Unary(Suffix::S),
+            (Op::Cvi, _) => Operands::Unary(Suffix::I),
+            (Op::Cvu, _) => Operands::Unary(Suffix::U),
+            (Op::Cvp, _) => Operands::Unary(Suffix::P),
+            (Op::Asgn, _) => Operands::Binary(Suffix::P, s),
+            (Op::Add | Op::Sub, Suffix::P) => Operands::Binary(Suffix::P, Suffix::I),
+            (Op::Lsh | Op::Rsh, _) => Operands::Binary(s, Suffix::I),
+            (Op::Add | Op::Sub | Op::Mul | Op::Div | Op::Mod, _) => Operands::Binary(s, s),
+            (Op::Band | Op::Bor | Op::Bxor, _) => Operands::Binary(s, s),
+            (Op::Eq | Op::Ne | Op::Lt | Op::Le | Op::Gt | Op::Ge, _) => Operands::Binary(s, s),
+        }
+    }
+
+    /// Whether it gives a value.
+    pub(crate) fn gives_value(self) -> bool
+        ensures { result ≡ gives_value self.op self.suffix }
+    {
+        match self.op {
+            Op::Call => self.suffix != Suffix::V,
+            Op::Asgn | Op::Arg | Op::Label => false,
+            op => !op.moves(),
+        }
+    }
+
+    /// Whether it has a rule so far.
+    pub(crate) fn has_rule(self) -> bool
+        ensures { result ≡ has_rule self.op self.suffix }
+    {
+        match (self.op, self.suffix) {
+            (Op::Addrg, Suffix::P) => true,
+            (Op::Cnst | Op::Arg | Op::Call | Op::Ret, Suffix::I) => true,
+            (Op::Neg | Op::Add | Op::Sub | Op::Mul, Suffix::I) => true,
+            _ => false,
         }
     }
 }

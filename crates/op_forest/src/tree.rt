@@ -1,12 +1,15 @@
-ghost use Rattle.std.specs.Prelude.{◌≡◌, ◌≤◌, length, []};
+ghost use Rattle.std.specs.Prelude.{◌≡◌, ◌≤◌, ◌∷◌, length, [], IfOk};
 ghost use Rattle.lburg_grammar.specs.Tree.{kids_of as tree_kids};
-ghost use Rattle.op_forest.specs.Nodes.{Node, tree_of};
-ghost use Rattle.op_forest.specs.NodeParts.{node_of};
+ghost use Rattle.op_forest.specs.Nodes.{Node, head_of, tree_of};
+ghost use Rattle.op_forest.specs.NodeParts.{node_of, under};
+ghost use Rattle.op_forest.specs.Shape.{over};
 
+use crate::operands::Operands;
 use crate::operator::Operator;
 use crate::sym::Sym;
 use lburg_grammar::TreeNode;
-use lcc_base::Items;
+use lcc_base::{Items, Memory};
+use std::alloc::Global;
 use std::marker::Model;
 
 /// A tree of operators, which contracts see as a `Node`. It has at most two operands.
@@ -56,6 +59,69 @@ impl Tree {
             kids,
         }
     }
+
+    /// A copy of the tree.
+    pub fn copied(alloc: Global, tree: &Tree) -> Result<Self, Memory>
+        ensures { IfOk result (λ t. t ≡ tree.now) }
+    {
+        match tree.operands() {
+            Operands::Leaf => Ok(tree.with_kids(Items::new(alloc))),
+            Operands::Unary(a) => {
+                let a = Tree::copied(alloc, a)?;
+                let kids = one_kid(alloc, a)?;
+                Ok(tree.with_kids(kids))
+            }
+            Operands::Binary(a, b) => {
+                let a = Tree::copied(alloc, a)?;
+                let b = Tree::copied(alloc, b)?;
+                let kids = two_kids(alloc, a, b)?;
+                Ok(tree.with_kids(kids))
+            }
+        }
+    }
+
+    /// Its operands.
+    pub(crate) fn operands(&self) -> Operands<&Tree>
+        ensures { self.now ≡ over (head_of self.now) result }
+    {
+        match self.kids.as_slice() {
+            [] => Operands::Leaf,
+            [a] => Operands::Unary(a),
+            [a, b] => Operands::Binary(a, b),
+            _ => unreachable!(),
+        }
+    }
+
+    /// Its operator, symbol and constant over other operands, without an allocation.
+    fn with_kids(&self, kids: Items<Tree>) -> Self
+        requires { length kids ≤ 2 }
+        ensures { result ≡ under (head_of self.now) kids }
+    {
+        Tree {
+            operator: self.operator,
+            sym: self.sym,
+            value: self.value,
+            kids,
+        }
+    }
+}
+
+/// One operand.
+pub(crate) fn one_kid(alloc: Global, a: Tree) -> Result<Items<Tree>, Memory>
+    ensures { IfOk result (λ kids. kids ≡ a ∷ []) }
+{
+    let mut kids = Items::new(alloc);
+    kids.push(a)?;
+    Ok(kids)
+}
+
+/// Two operands.
+pub(crate) fn two_kids(alloc: Global, a: Tree, b: Tree) -> Result<Items<Tree>, Memory>
+    ensures { IfOk result (λ kids. kids ≡ a ∷ b ∷ []) }
+{
+    let mut kids = one_kid(alloc, a)?;
+    kids.push(b)?;
+    Ok(kids)
 }
 
 impl TreeNode for Tree {

@@ -1,0 +1,31 @@
+ghost use Rattle.std.specs.Prelude.{◌≡◌};
+
+use lcc_base::Memory;
+
+/// What is wrong with a forest. The first four name the first bad root by its place, from 0; at
+/// one root the earlier of them is answered.
+#[derive(Clone, Copy, Debug, PartialEq, Eq)]
+pub enum ForestFault {
+    /// An operator has another number of operands than its row.
+    Arity { root: usize },
+    /// An operator has no rule, or an operand, symbol or constant that doesn't fit it; or no call
+    /// takes an argument.
+    Kind { root: usize },
+    /// A jump goes to no label, or a label stands twice. Not answered while no operator with a
+    /// label has a rule.
+    Label { root: usize },
+    /// An offset lies in no slot. Not answered while no operator with an offset has a rule.
+    Slot { root: usize },
+    /// An allocation was refused.
+    Memory,
+}
+
+impl From<Memory> for ForestFault {
+    ghost use Rattle.op_forest.specs.declared.forest_fault.ForestFault.TheVariants as fault;
+
+    ghost from_gives = { λ _ e. e ≡ fault.Memory };
+
+    fn from(_: Memory) -> Self {
+        ForestFault::Memory
+    }
+}
