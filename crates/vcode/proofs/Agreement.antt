@@ -13,7 +13,7 @@ use Rattle.vcode.specs.Execution.{State, executed}
 use Rattle.vcode.specs.VirtualCode.{joined}
 use Rattle.vcode.specs.RuleSets.{Rules, Stands, Gets, Obeys}
 use Rattle.vcode.specs.Emission.{Emitted, Emits, EmitsRoots, NoRoot, OneRoot}
-use Rattle.vcode.proofs.Registers.{one_lies}
+use Rattle.vcode.proofs.RegisterRanges.{one_lies}
 use Rattle.vcode.proofs.Following.{one_follows}
 
 module _ (I P : Type 0) (m : Machine I) (rules : Rules I P) (obeys : Obeys m rules) where

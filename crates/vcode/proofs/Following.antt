@@ -19,7 +19,7 @@ use Rattle.vcode.specs.Patterns.{Meeting, pattern_effect, each_of, is_chain}
 use Rattle.vcode.specs.RuleSets.{Rules, Stands, WhenNext, Gets, is_move, is_label, op_at, all_registers, AllStand, Obeys}
 use Rattle.vcode.specs.Emission.{Emitted, EmittedAll, Emits, ByChain, ByRule, EmitsAll, Nothing, OneMore}
 use Rattle.vcode.proofs.Splits.{met, met_both, each_both, splits}
-use Rattle.vcode.proofs.Registers.{among_left, among_right, same_at, one_lies, all_lie}
+use Rattle.vcode.proofs.RegisterRanges.{among_left, among_right, same_at, one_lies, all_lie}
 
 chain_effect : (s : Setting) (q : MPattern) (t : Node) (ws : List Word) (p : Point) → is_chain q ≡ true → pattern_effect s q t (ws ∷ []) p ≡ Went ws p Next
 chain_effect s (PHole n) t ws p h = refl

@@ -1,5 +1,14 @@
 pub mod Steady
 pub mod Splits
-pub mod Registers
+pub mod RegisterRanges
 pub mod Following
 pub mod Agreement
+pub mod Members
+pub mod Leaves
+pub mod Registers
+pub mod Parts
+pub mod Joining
+pub mod Still
+pub mod Stretches
+pub mod Emitting
+pub mod Forests

@@ -6,3 +6,5 @@ pub mod Patterns
 pub mod RuleSets
 pub mod Emission
 pub mod Templates
+pub mod Adding
+pub mod Roots

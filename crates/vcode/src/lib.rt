@@ -3,13 +3,17 @@
 #![tactic(auto)]
 
 mod allocated_code;
+mod linearising;
 mod operand;
 mod register_set;
 mod rule_set;
 mod target;
+#[cfg(test)]
+mod tests;
 mod virtual_code;
 
 pub use allocated_code::Code;
+pub use linearising::linearise_roots;
 pub use operand::{Operand, Reg};
 pub use register_set::RegSet;
 pub use rule_set::RuleSet;

@@ -1,0 +1,27 @@
+-- What linearising asks of a forest's roots: how they are derived, and where labels and moves of control stand.
+-- Source: Fraser and Hanson, A Retargetable C Compiler, chapter 5 (roots) and chapter 14.
+use Rattle.std.specs.Prelude.{◌≡◌, ◌||◌, false, List}
+use Rattle.std.specs.List.{AllZip}
+use Rattle.lburg_grammar.specs.Derivation.{MDerivation, Derives}
+use Rattle.lburg_grammar.specs.Description.{MDescription}
+use Rattle.op_forest.specs.Nodes.{Head, Node, Leaf, One, Two, tree_of}
+use Rattle.vcode.specs.RuleSets.{is_label, is_move}
+
+-- the derivations, as many as there are nodes, derive the start symbol at these in order
+abbrev pub AreDerived : MDescription → List Node → List MDerivation → Type 0
+AreDerived d ts xs = AllZip (λ t x. Derives d.rules d.start (tree_of t) x) ts xs
+
+-- neither a label nor a return, a jump or a comparison
+abbrev pub IsStill : Head → Type 0
+IsStill h = (is_label h.operator.op || is_move h.operator.op) ≡ false
+
+abbrev pub AllStill : Node → Type 0
+AllStill (Leaf h) = IsStill h
+AllStill (One h a) = IsStill h × AllStill a
+AllStill (Two h a b) = IsStill h × AllStill a × AllStill b
+
+-- labels and moves of control are roots alone, and a label has no operands
+abbrev pub IsQuiet : Node → Type 0
+IsQuiet (Leaf h) = Unit {0}
+IsQuiet (One h a) = (is_label h.operator.op ≡ false) × AllStill a
+IsQuiet (Two h a b) = (is_label h.operator.op ≡ false) × AllStill a × AllStill b

@@ -1,0 +1,113 @@
+ghost use Rattle.std.specs.Prelude.{◌≡◌, false, ℕ, ◌+◌, ◌-◌, ◌^◌, ◌<◌, ◌≤◌, ◌++◌, map, sum_by, All, length, IfOk, OnOk, IsSome, if◌then◌else◌};
+ghost use Rattle.lburg_grammar.specs.Derivation.{Derives};
+ghost use Rattle.lburg_grammar.specs.DerivationOf.{derivation_of};
+ghost use Rattle.lburg_grammar.specs.Pattern.{pattern_of};
+ghost use Rattle.op_forest.specs.Nodes.{Node, nodes, tree_of};
+ghost use Rattle.vcode.specs.Adding.{Added, meetings_at};
+ghost use Rattle.vcode.specs.Emission.{IsLinearised};
+ghost use Rattle.vcode.specs.Patterns.{leaves_at, is_chain};
+ghost use Rattle.vcode.specs.Roots.{AreDerived, IsQuiet};
+ghost use Rattle.vcode.specs.RuleSets.{row_of};
+
+use crate::operand::Reg;
+use crate::rule_set::RuleSet;
+use crate::target::Target;
+use crate::virtual_code::VCode;
+use lburg_grammar::{Derivation, Pattern, Rule};
+use lcc_base::{Items, Memory};
+use op_forest::Tree;
+use std::alloc::Global;
+
+/// The first virtual register.
+const FIRST_VIRTUAL: Reg = 64;
+
+/// Adds the subtrees that the pattern's nonterminals meet, from left to right.
+fn push_leaves<'a>(
+    pattern: &Pattern,
+    tree: &'a Tree,
+    into: &mut Vec<&'a Tree>,
+) -> Result<(), Memory>
+    requires { IsSome (leaves_at (pattern_of pattern.now) tree.now) }
+    ensures { OnOk result (map (λ t. t.now) into.new.items ≡ map (λ t. t.now) into.old.items ++ map (λ m. m.1) (meetings_at (pattern_of pattern.now) tree.now)) }
+{
+    match pattern {
+        Pattern::Nonterminal(_) => into.push(tree)?,
+        Pattern::Leaf(_) => {}
+        Pattern::Unary(_, p) => push_leaves(p, tree.kids.at(0), into)?,
+        Pattern::Binary(_, p, q) => {
+            push_leaves(p, tree.kids.at(0), into)?;
+            push_leaves(q, tree.kids.at(1), into)?;
+        }
+    }
+    Ok(())
+}
+
+/// The register of the node at which the pattern is applied: of a chain rule the one that was taken
+/// last, of another the next one, which it takes.
+fn register_at(pattern: &Pattern, next: &mut Reg) -> Reg
+    requires some { 1 ≤ next.old }
+    requires room { is_chain (pattern_of pattern.now) ≡ false → next.old < 2 ^ 31 }
+    ensures to { result ≡ (if is_chain (pattern_of pattern.now) then next.old - 1 else next.old) }
+    ensures next { next.new ≡ result + 1 }
+{
+    if let Pattern::Nonterminal(_) = pattern {
+        return *next - 1;
+    }
+    let to = *next;
+    *next = to + 1;
+    to
+}
+
+/// Adds the code of a derivation of the tree, and answers what it hands up. `next` is the first
+/// register that is free.
+fn emit<T: Target, R: RuleSet<T>>(
+    alloc: Global,
+    rules: &R,
+    rows: &[Rule],
+    derivation: &Derivation,
+    tree: &Tree,
+    next: &mut Reg,
+    into: &mut Items<T::Instr>,
+) -> Result<R::Part, Memory>
+    requires rows { map row_of rows.now ≡ R.rules.rows }
+    requires derives { (n : ℕ) × Derives rows.now n (tree_of tree.now) (derivation_of derivation.now) }
+    requires are_virtual { 64 ≤ next.old }
+    requires room { next.old + nodes tree.now ≤ 2 ^ 31 }
+    ensures { IfOk result (λ p. Added R.rules (derivation_of derivation.now) tree.now next.old next.new into.old into.new p) }
+{
+    let rule = &rows[derivation.rule as usize - 1];
+    let mut leaves = Vec::new(alloc);
+    push_leaves(&rule.pattern, tree, &mut leaves)?;
+    let mut parts = Items::new(alloc);
+    for (k, part) in derivation.parts.as_slice().iter().enumerate() {
+        parts.push(emit(alloc, rules, rows, part, leaves[k], next, into)?)?;
+    }
+    let to = register_at(&rule.pattern, next);
+    rules.expand(alloc, derivation.rule, tree, &parts, to, into)
+}
+
+/// The code of a forest's roots by their derivations, a stretch a root: what the rules add, in
+/// order. `Memory` comes where an allocation is refused.
+/// Source: Fraser and Hanson, A Retargetable C Compiler, chapter 14.
+pub fn linearise_roots<T: Target, R: RuleSet<T>>(
+    alloc: Global,
+    _target: &T,
+    roots: &[Tree],
+    cover: &[Derivation],
+    rules: &R,
+) -> Result<VCode<T>, Memory>
+    requires derived { AreDerived (R.described rules.now) roots.now (map derivation_of cover.now) }
+    requires quiet { All IsQuiet roots.now }
+    requires small { sum_by nodes roots.now < 2 ^ 30 }
+    ensures { IfOk result (λ c. IsLinearised T.machine R.rules roots.now (map derivation_of cover.now) c) }
+{
+    let rows = rules.description().rules();
+    let mut code = Items::new(alloc);
+    let mut cuts = Items::new(alloc);
+    let mut next = FIRST_VIRTUAL;
+    for (k, root) in roots.iter().enumerate() {
+        emit(alloc, rules, rows, &cover[k], root, &mut next, &mut code)?;
+        cuts.push(code.len())?;
+    }
+    Ok(VCode::new(code, cuts))
+}
