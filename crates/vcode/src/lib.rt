@@ -13,7 +13,7 @@ mod tests;
 mod virtual_code;
 
 pub use allocated_code::Code;
-pub use linearising::linearise_roots;
+pub use linearising::linearise;
 pub use operand::{Operand, Reg};
 pub use register_set::RegSet;
 pub use rule_set::RuleSet;

@@ -15,7 +15,7 @@ use crate::target::Target;
 use crate::virtual_code::VCode;
 use lburg_grammar::{Derivation, Pattern, Rule};
 use lcc_base::{Items, Memory};
-use op_forest::Tree;
+use op_forest::{Tree, WellFormed};
 use std::alloc::Global;
 
 /// The first virtual register.
@@ -86,10 +86,8 @@ fn emit<T: Target, R: RuleSet<T>>(
     rules.expand(alloc, derivation.rule, tree, &parts, to, into)
 }
 
-/// The code of a forest's roots by their derivations, a stretch a root: what the rules add, in
-/// order. `Memory` comes where an allocation is refused.
-/// Source: Fraser and Hanson, A Retargetable C Compiler, chapter 14.
-pub fn linearise_roots<T: Target, R: RuleSet<T>>(
+/// The code of roots by their derivations, a stretch a root.
+fn linearise_roots<T: Target, R: RuleSet<T>>(
     alloc: Global,
     _target: &T,
     roots: &[Tree],
@@ -110,4 +108,29 @@ pub fn linearise_roots<T: Target, R: RuleSet<T>>(
         cuts.push(code.len())?;
     }
     Ok(VCode::new(code, cuts))
+}
+
+/// The code of a forest by the derivations of its roots, a stretch a root: what the rules add, in
+/// order. From each state it does what the forest means. `Memory` comes where an allocation is
+/// refused.
+/// Source: Fraser and Hanson, A Retargetable C Compiler, chapter 14.
+#[tactic(auto, using(crate::proofs::WellFormedRoots::all_quiet))]
+pub fn linearise<T: Target, R: RuleSet<T>>(
+    alloc: Global,
+    target: &T,
+    forest: &WellFormed,
+    cover: &[Derivation],
+    rules: &R,
+) -> Result<VCode<T>, Memory>
+    requires derived { AreDerived (R.described rules.now) forest.now.roots (map derivation_of cover.now) }
+    requires small { sum_by nodes forest.now.roots < 2 ^ 30 }
+    ensures { IfOk result (λ c. IsLinearised T.machine R.rules forest.now.roots (map derivation_of cover.now) c) }
+{
+    linearise_roots(
+        alloc,
+        target,
+        forest.forest().roots.as_slice(),
+        cover,
+        rules,
+    )
 }
