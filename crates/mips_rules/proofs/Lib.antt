@@ -1,0 +1,6 @@
+pub mod RegisterSets
+pub mod PartForms
+pub mod RuleTable
+pub mod ListTests
+pub mod ShippedDescription
+pub mod Cases

@@ -1,0 +1,6 @@
+use Rattle.mips_rules.proofs.ShippedDescription.{makes_description}
+use Rattle.mips_rules.proofs.mips_description.description.Goals as goal
+
+pub of_parts-requires : goal.of_parts-requires
+of_parts-requires c =
+    makes_description c.in_ok-terminals.terminals.items c.in_ok-nonterminals.nonterminals.items c.in_ok-rules.rules.items c.in_ok-terminals.ensures c.in_ok-nonterminals.ensures c.in_ok-rules.ensures.rows c.in_ok-rules.ensures.costs

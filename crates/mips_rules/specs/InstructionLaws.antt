@@ -1,0 +1,212 @@
+-- The instructions of MIPS keep the laws of a machine.
+use Rattle.std.specs.Prelude.{◌≡◌, ℕ, zero, suc, ◌<◌, ◌≤◌, ◌==◌, ◌||◌, List, [], ◌∷◌, Bool, true, false, length, refl}
+use Rattle.std.proofs.Common.{arith}
+use Rattle.std.proofs.lemmas.Bool.{ne_eqb}
+use Rattle.op_forest.specs.Words.{Word, Number, Function}
+use Rattle.op_forest.specs.Worlds.{Point, Move, Next, To, End, Effect, Went, Exits, Unfinished, Stuck, then_do}
+use Rattle.op_forest.specs.Rows.{Setting, negated, of_one, of_two, called, handed}
+use Rattle.vcode.specs.Machines.{Mark, Plain, with_register, WritesNothing}
+use Rattle.vcode.specs.VirtualCode.{among}
+use Rattle.mips_rules.specs.declared.instr.Instr.{Instr}
+use Rattle.mips_rules.specs.declared.instr.Instr.TheVariants as instr
+use Rattle.mips_rules.specs.declared.instr.Source.TheVariants as source
+use Rattle.mips_rules.specs.Instructions.{operands, kind, moves, lost_at_calls, loses, combined, with_none, with_one, with_two, word_of_name, acts, rename}
+
+past_one : (n : ℕ) → suc n < 1 → ⊥
+past_one n h = omega arith
+
+past_two : (n : ℕ) → suc (suc n) < 2 → ⊥
+past_two n h = omega arith
+
+past_three : (n : ℕ) → suc (suc (suc n)) < 3 → ⊥
+past_three n h = omega arith
+
+pub few : (i : Instr) → length (operands i) ≤ 3
+few (instr.LoadNumber to n) = omega arith
+few (instr.Binary op to from (source.Register r)) = omega arith
+few (instr.Binary op to from (source.Number n)) = omega arith
+few (instr.Negate to from) = omega arith
+few (instr.Argument from) = omega arith
+few (instr.Call to name) = omega arith
+few (instr.Return from) = omega arith
+few (instr.Copy to from) = omega arith
+few (instr.LoadSlot to slot) = omega arith
+few (instr.StoreSlot from slot) = omega arith
+
+pub rename-operands : (i : Instr) (n r : ℕ) → n < length (operands i) → operands (rename i n r) ≡ with_register (operands i) n r
+rename-operands (instr.LoadNumber to n) zero r h = refl
+rename-operands (instr.LoadNumber to n) (suc k) r h = absurd (past_one k h)
+rename-operands (instr.Binary op to from operand) zero r h = refl
+rename-operands (instr.Binary op to from operand) (suc zero) r h = refl
+rename-operands (instr.Binary op to from (source.Register q)) (suc (suc zero)) r h = refl
+rename-operands (instr.Binary op to from (source.Register q)) (suc (suc (suc k))) r h = absurd (past_three k h)
+rename-operands (instr.Binary op to from (source.Number n)) (suc (suc k)) r h = absurd (past_two k h)
+rename-operands (instr.Negate to from) zero r h = refl
+rename-operands (instr.Negate to from) (suc zero) r h = refl
+rename-operands (instr.Negate to from) (suc (suc k)) r h = absurd (past_two k h)
+rename-operands (instr.Argument from) zero r h = refl
+rename-operands (instr.Argument from) (suc k) r h = absurd (past_one k h)
+rename-operands (instr.Call to name) zero r h = refl
+rename-operands (instr.Call to name) (suc k) r h = absurd (past_one k h)
+rename-operands (instr.Return from) zero r h = refl
+rename-operands (instr.Return from) (suc k) r h = absurd (past_one k h)
+rename-operands (instr.Copy to from) zero r h = refl
+rename-operands (instr.Copy to from) (suc zero) r h = refl
+rename-operands (instr.Copy to from) (suc (suc k)) r h = absurd (past_two k h)
+rename-operands (instr.LoadSlot to slot) zero r h = refl
+rename-operands (instr.LoadSlot to slot) (suc k) r h = absurd (past_one k h)
+rename-operands (instr.StoreSlot from slot) zero r h = refl
+rename-operands (instr.StoreSlot from slot) (suc k) r h = absurd (past_one k h)
+
+-- what renaming keeps
+pub record Keeps (i j : Instr) : Type 0 where
+  pub loses_same : loses j ≡ loses i
+  pub kind_same : kind j ≡ kind i
+  pub moves_same : moves j ≡ moves i
+  pub acts_same : (s : Setting) → acts s j ≡ acts s i
+
+pub kept : (i : Instr) (n r : ℕ) → Keeps i (rename i n r)
+kept (instr.LoadNumber to n) k r = record { loses_same = refl; kind_same = refl; moves_same = refl; acts_same = λ s. refl }
+kept (instr.Binary op to from operand) zero r = record { loses_same = refl; kind_same = refl; moves_same = refl; acts_same = λ s. refl }
+kept (instr.Binary op to from operand) (suc zero) r = record { loses_same = refl; kind_same = refl; moves_same = refl; acts_same = λ s. refl }
+kept (instr.Binary op to from (source.Register q)) (suc (suc k)) r = record { loses_same = refl; kind_same = refl; moves_same = refl; acts_same = λ s. refl }
+kept (instr.Binary op to from (source.Number n)) (suc (suc k)) r = record { loses_same = refl; kind_same = refl; moves_same = refl; acts_same = λ s. refl }
+kept (instr.Negate to from) zero r = record { loses_same = refl; kind_same = refl; moves_same = refl; acts_same = λ s. refl }
+kept (instr.Negate to from) (suc k) r = record { loses_same = refl; kind_same = refl; moves_same = refl; acts_same = λ s. refl }
+kept (instr.Argument from) k r = record { loses_same = refl; kind_same = refl; moves_same = refl; acts_same = λ s. refl }
+kept (instr.Call to name) k r = record { loses_same = refl; kind_same = refl; moves_same = refl; acts_same = λ s. refl }
+kept (instr.Return from) k r = record { loses_same = refl; kind_same = refl; moves_same = refl; acts_same = λ s. refl }
+kept (instr.Copy to from) zero r = record { loses_same = refl; kind_same = refl; moves_same = refl; acts_same = λ s. refl }
+kept (instr.Copy to from) (suc k) r = record { loses_same = refl; kind_same = refl; moves_same = refl; acts_same = λ s. refl }
+kept (instr.LoadSlot to slot) k r = record { loses_same = refl; kind_same = refl; moves_same = refl; acts_same = λ s. refl }
+kept (instr.StoreSlot from slot) k r = record { loses_same = refl; kind_same = refl; moves_same = refl; acts_same = λ s. refl }
+
+or_false : (b c : Bool) → b ≡ false → c ≡ false → (b || c) ≡ false
+or_false true c e f = absurd cc
+or_false false c e f = f
+
+-- each of these registers is below 64
+abbrev AllLow : List ℕ → Type 0
+AllLow [] = Unit {0}
+AllLow (q ∷ qs) = (q < 64) × AllLow qs
+
+apart : (q r : ℕ) → q < 64 → 64 ≤ r → r ≡ q → ⊥
+apart q r h g e = omega (arith, h, g, e)
+
+not_among : (qs : List ℕ) (r : ℕ) → AllLow qs → 64 ≤ r → among r qs ≡ false
+not_among [] r h g = refl
+not_among (q ∷ qs) r h g = or_false (r == q) (among r qs) (ne_eqb r q (apart q r h.0 g)) (not_among qs r h.1 g)
+
+low_calls : AllLow lost_at_calls
+low_calls = (omega arith, (omega arith, (omega arith, (omega arith, (omega arith, (omega arith, (omega arith, (omega arith, (omega arith, (omega arith, (omega arith, (omega arith, (omega arith, (omega arith, (omega arith, (omega arith, (omega arith, (omega arith, tt))))))))))))))))))
+
+pub calls_lose_low : (r : ℕ) → 64 ≤ r → among r lost_at_calls ≡ false
+calls_lose_low r h = not_among lost_at_calls r low_calls h
+
+pub loses-machine : (i : Instr) (r : ℕ) → 64 ≤ r → loses i r ≡ false
+loses-machine (instr.LoadNumber to n) r h = refl
+loses-machine (instr.Binary op to from operand) r h = refl
+loses-machine (instr.Negate to from) r h = refl
+loses-machine (instr.Argument from) r h = refl
+loses-machine (instr.Call to name) r h = calls_lose_low r h
+loses-machine (instr.Return from) r h = refl
+loses-machine (instr.Copy to from) r h = refl
+loses-machine (instr.LoadSlot to slot) r h = refl
+loses-machine (instr.StoreSlot from slot) r h = refl
+
+pub no_mark : (i : Instr) (l : ℕ) → kind i ≡ Mark l → ⊥
+no_mark (instr.LoadNumber to n) l e = cc
+no_mark (instr.Binary op to from operand) l e = cc
+no_mark (instr.Negate to from) l e = cc
+no_mark (instr.Argument from) l e = cc
+no_mark (instr.Call to name) l e = cc
+no_mark (instr.Return from) l e = cc
+no_mark (instr.Copy to from) l e = cc
+no_mark (instr.LoadSlot to slot) l e = cc
+no_mark (instr.StoreSlot from slot) l e = cc
+
+pub moves-plain : (i : Instr) → moves i ≡ true → kind i ≡ Plain
+moves-plain (instr.LoadNumber to n) e = refl
+moves-plain (instr.Binary op to from operand) e = refl
+moves-plain (instr.Negate to from) e = refl
+moves-plain (instr.Argument from) e = refl
+moves-plain (instr.Call to name) e = refl
+moves-plain (instr.Return from) e = refl
+moves-plain (instr.Copy to from) e = absurd cc
+moves-plain (instr.LoadSlot to slot) e = absurd cc
+moves-plain (instr.StoreSlot from slot) e = absurd cc
+
+pub moves-writes : (i : Instr) → moves i ≡ true → WritesNothing (operands i)
+moves-writes (instr.LoadNumber to n) e = absurd cc
+moves-writes (instr.Binary op to from operand) e = absurd cc
+moves-writes (instr.Negate to from) e = absurd cc
+moves-writes (instr.Argument from) e = (refl, tt)
+moves-writes (instr.Call to name) e = absurd cc
+moves-writes (instr.Return from) e = (refl, tt)
+moves-writes (instr.Copy to from) e = absurd cc
+moves-writes (instr.LoadSlot to slot) e = absurd cc
+moves-writes (instr.StoreSlot from slot) e = (refl, tt)
+
+-- whatever it gives, it goes on behind it
+abbrev pub Stays : Effect → Type 0
+Stays e = (ws : List Word) (p : Point) (mv : Move) → e ≡ Went ws p mv → mv ≡ Next
+
+on : {xs ys : List Word} {x y : Point} {p q : Move} → Went xs x p ≡ Went ys y q → p ≡ Next → q ≡ Next
+on e n = cc
+
+stuck_stays : Stays Stuck
+stuck_stays ws p mv e = absurd cc
+
+next_stays : (ws : List Word) (p : Point) → Stays (Went ws p Next)
+next_stays ws p vs q mv e = on e refl
+
+one_stays : (f : ℕ → ℕ) (x : Word) (p : Point) → Stays (of_one f x p)
+one_stays f (Number x) p = next_stays _ p
+one_stays f x p = stuck_stays
+
+two_stays : (f : ℕ → ℕ → ℕ) (x y : Word) (p : Point) → Stays (of_two f x y p)
+two_stays f (Number x) (Number y) p = next_stays _ p
+two_stays f x y p = stuck_stays
+
+handed_stays : (ws : List Word) (p : Point) → Stays (handed ws p)
+handed_stays [] p = stuck_stays
+handed_stays (w ∷ ws) p = next_stays _ p
+
+answer_stays : (e : Effect) → Stays (then_do e (λ ws p. handed ws p))
+answer_stays (Went ws p Next) = handed_stays ws p
+answer_stays (Went ws p (To l)) = stuck_stays
+answer_stays (Went ws p (End v)) = stuck_stays
+answer_stays (Exits status w) = λ ws p mv e. absurd cc
+answer_stays (Unfinished w) = λ ws p mv e. absurd cc
+answer_stays Stuck = stuck_stays
+
+call_stays : (s : Setting) (x : Word) (p : Point) → Stays (called s x p)
+call_stays s (Function f) p = answer_stays (s.call f p)
+call_stays s x p = stuck_stays
+
+none_stays : (e : Effect) (xs : List Word) → Stays e → Stays (with_none e xs)
+none_stays e [] h = h
+none_stays e (x ∷ xs) h = stuck_stays
+
+one_read_stays : (f : Word → Effect) (xs : List Word) → ((x : Word) → Stays (f x)) → Stays (with_one f xs)
+one_read_stays f [] h = stuck_stays
+one_read_stays f (x ∷ []) h = h x
+one_read_stays f (x ∷ y ∷ xs) h = stuck_stays
+
+two_read_stays : (f : Word → Word → Effect) (xs : List Word) → ((x y : Word) → Stays (f x y)) → Stays (with_two f xs)
+two_read_stays f [] h = stuck_stays
+two_read_stays f (x ∷ []) h = stuck_stays
+two_read_stays f (x ∷ y ∷ []) h = h x y
+two_read_stays f (x ∷ y ∷ z ∷ xs) h = stuck_stays
+
+pub stays : (s : Setting) (i : Instr) (rs ws : List Word) (p p' : Point) (mv : Move) → moves i ≡ false → acts s i rs p ≡ Went ws p' mv → mv ≡ Next
+stays s (instr.LoadNumber to n) rs ws p p' mv h e = none_stays _ rs (next_stays _ p) ws p' mv e
+stays s (instr.Binary op to from (source.Register r)) rs ws p p' mv h e = two_read_stays _ rs (λ x y. two_stays (combined op) x y p) ws p' mv e
+stays s (instr.Binary op to from (source.Number n)) rs ws p p' mv h e = one_read_stays _ rs (λ x. two_stays (combined op) x (Number n) p) ws p' mv e
+stays s (instr.Negate to from) rs ws p p' mv h e = one_read_stays _ rs (λ x. one_stays negated x p) ws p' mv e
+stays s (instr.Argument from) rs ws p p' mv h e = one_read_stays _ rs (λ x. next_stays _ _) ws p' mv e
+stays s (instr.Call to name) rs ws p p' mv h e = none_stays _ rs (call_stays s (word_of_name s name) p) ws p' mv e
+stays s (instr.Return from) rs ws p p' mv h e = absurd cc
+stays s (instr.Copy to from) rs ws p p' mv h e = stuck_stays ws p' mv e
+stays s (instr.LoadSlot to slot) rs ws p p' mv h e = stuck_stays ws p' mv e
+stays s (instr.StoreSlot from slot) rs ws p p' mv h e = stuck_stays ws p' mv e

@@ -1,0 +1,134 @@
+-- The instructions of MIPS over registers without number: what each reads and writes, what it does with the values
+-- that it reads, and what it leaves unknown. With another number of values it has no meaning.
+-- Source: G. Kane and J. Heinrich, MIPS RISC Architecture, 1992; the calling convention is that of Fraser and Hanson,
+-- A Retargetable C Compiler, chapter 16.
+use Rattle.std.specs.Prelude.{ℕ, zero, suc, pos, List, [], ◌∷◌, Bool, true, false, Some}
+use Rattle.asm_text.specs.declared.instruction.BinaryOp.{BinaryOp}
+use Rattle.asm_text.specs.declared.instruction.BinaryOp.TheVariants as binary
+use Rattle.op_forest.specs.Words.{Word, Number}
+use Rattle.op_forest.specs.Worlds.{Point, End, Effect, Went, Stuck}
+use Rattle.op_forest.specs.Rows.{Setting, gives, value_at, negated, sum, difference, product, of_one, of_two, argument, called}
+use Rattle.op_forest.specs.Functions.{value_or}
+use Rattle.vcode.specs.declared.operand.Operand.{Operand}
+use Rattle.vcode.specs.Machines.{Kind, Plain, Load, Store, Copy, reads_one, writes_one, nothing_lost}
+use Rattle.vcode.specs.VirtualCode.{among}
+use Rattle.mips_rules.specs.declared.instr.Instr.{Instr}
+use Rattle.mips_rules.specs.declared.instr.Instr.TheVariants as instr
+use Rattle.mips_rules.specs.declared.instr.Source.{Source}
+use Rattle.mips_rules.specs.declared.instr.Source.TheVariants as source
+
+abbrev pub source_operands : Source → List Operand
+source_operands (source.Register r) = reads_one r ∷ []
+source_operands (source.Number n) = []
+
+-- the registers that are read and written, in the order to, from, operand
+abbrev pub operands : Instr → List Operand
+operands (instr.LoadNumber to n) = writes_one to ∷ []
+operands (instr.Binary op to from operand) = writes_one to ∷ reads_one from ∷ source_operands operand
+operands (instr.Negate to from) = writes_one to ∷ reads_one from ∷ []
+operands (instr.Argument from) = reads_one from ∷ []
+operands (instr.Call to name) = writes_one to ∷ []
+operands (instr.Return from) = reads_one from ∷ []
+operands (instr.Copy to from) = writes_one to ∷ reads_one from ∷ []
+operands (instr.LoadSlot to slot) = writes_one to ∷ []
+operands (instr.StoreSlot from slot) = reads_one from ∷ []
+
+abbrev pub kind : Instr → Kind
+kind (instr.LoadNumber to n) = Plain
+kind (instr.Binary op to from operand) = Plain
+kind (instr.Negate to from) = Plain
+kind (instr.Argument from) = Plain
+kind (instr.Call to name) = Plain
+kind (instr.Return from) = Plain
+kind (instr.Copy to from) = Copy
+kind (instr.LoadSlot to slot) = Load slot
+kind (instr.StoreSlot from slot) = Store slot
+
+-- whether it may go on elsewhere than behind it
+abbrev pub moves : Instr → Bool
+moves (instr.LoadNumber to n) = false
+moves (instr.Binary op to from operand) = false
+moves (instr.Negate to from) = false
+moves (instr.Argument from) = false
+moves (instr.Call to name) = false
+moves (instr.Return from) = true
+moves (instr.Copy to from) = false
+moves (instr.LoadSlot to slot) = false
+moves (instr.StoreSlot from slot) = false
+
+-- $1 to $15, $24 and $25 are those that a called function needn't save, and $31 gets the place to return to
+abbrev pub lost_at_calls : List ℕ
+lost_at_calls = 1 ∷ 2 ∷ 3 ∷ 4 ∷ 5 ∷ 6 ∷ 7 ∷ 8 ∷ 9 ∷ 10 ∷ 11 ∷ 12 ∷ 13 ∷ 14 ∷ 15 ∷ 24 ∷ 25 ∷ 31 ∷ []
+
+abbrev pub loses : Instr → ℕ → Bool
+loses (instr.LoadNumber to n) = nothing_lost
+loses (instr.Binary op to from operand) = nothing_lost
+loses (instr.Negate to from) = nothing_lost
+loses (instr.Argument from) = nothing_lost
+loses (instr.Call to name) = λ r. among r lost_at_calls
+loses (instr.Return from) = nothing_lost
+loses (instr.Copy to from) = nothing_lost
+loses (instr.LoadSlot to slot) = nothing_lost
+loses (instr.StoreSlot from slot) = nothing_lost
+
+abbrev pub combined : BinaryOp → ℕ → ℕ → ℕ
+combined binary.Add = sum
+combined binary.Subtract = difference
+combined binary.Multiply = product
+
+-- what is done where no value is read, one, or two
+abbrev pub with_none : Effect → List Word → Effect
+with_none e [] = e
+with_none e (x ∷ xs) = Stuck
+
+abbrev pub with_one : (Word → Effect) → List Word → Effect
+with_one f [] = Stuck
+with_one f (x ∷ []) = f x
+with_one f (x ∷ y ∷ xs) = Stuck
+
+abbrev pub with_two : (Word → Word → Effect) → List Word → Effect
+with_two f [] = Stuck
+with_two f (x ∷ []) = Stuck
+with_two f (x ∷ y ∷ []) = f x y
+with_two f (x ∷ y ∷ z ∷ xs) = Stuck
+
+-- an operation on a register and its last operand
+abbrev pub operates : (ℕ → ℕ → ℕ) → Source → List Word → Point → Effect
+operates f (source.Register r) ws p = with_two (λ x y. of_two f x y p) ws
+operates f (source.Number n) ws p = with_one (λ x. of_two f x (Number n) p) ws
+
+-- the value of a name, `unknown` where it has none
+abbrev pub word_of_name : Setting → ℕ → Word
+word_of_name s name = value_or (value_at (s.global name) (pos 0))
+
+-- what a plain instruction does with the values that it reads
+abbrev pub acts : Setting → Instr → List Word → Point → Effect
+acts s (instr.LoadNumber to n) ws p = with_none (gives (Number n) p) ws
+acts s (instr.Binary op to from operand) ws p = operates (combined op) operand ws p
+acts s (instr.Negate to from) ws p = with_one (λ x. of_one negated x p) ws
+acts s (instr.Argument from) ws p = with_one (λ x. argument x p) ws
+acts s (instr.Call to name) ws p = with_none (called s (word_of_name s name) p) ws
+acts s (instr.Return from) ws p = with_one (λ x. Went [] p (End (Some x))) ws
+acts s (instr.Copy to from) ws p = Stuck
+acts s (instr.LoadSlot to slot) ws p = Stuck
+acts s (instr.StoreSlot from slot) ws p = Stuck
+
+abbrev pub with_source : Source → ℕ → Source
+with_source (source.Register q) r = source.Register r
+with_source (source.Number n) r = source.Number n
+
+-- the instruction where operand n, from 0, has this register
+abbrev pub rename : Instr → ℕ → ℕ → Instr
+rename (instr.LoadNumber to n) k r = instr.LoadNumber r n
+rename (instr.Binary op to from operand) zero r = instr.Binary op r from operand
+rename (instr.Binary op to from operand) (suc zero) r = instr.Binary op to r operand
+rename (instr.Binary op to from operand) (suc (suc k)) r = instr.Binary op to from (with_source operand r)
+rename (instr.Negate to from) zero r = instr.Negate r from
+rename (instr.Negate to from) (suc k) r = instr.Negate to r
+rename (instr.Argument from) k r = instr.Argument r
+rename (instr.Call to name) k r = instr.Call r name
+rename (instr.Return from) k r = instr.Return r
+rename (instr.Copy to from) zero r = instr.Copy r from
+rename (instr.Copy to from) (suc k) r = instr.Copy to r
+rename (instr.LoadSlot to slot) k r = instr.LoadSlot r slot
+rename (instr.StoreSlot from slot) k r = instr.StoreSlot r slot

@@ -1,0 +1,93 @@
+-- The rules of the shipped description of MIPS, a line a rule, and what each adds to the code and hands up.
+-- Source: Fraser and Hanson, A Retargetable C Compiler, chapters 14 and 16.
+use Rattle.std.specs.Prelude.{ℕ, List, [], ◌∷◌, map, codes}
+use Rattle.asm_text.specs.declared.instruction.BinaryOp.TheVariants.{Add, Subtract, Multiply}
+use Rattle.lburg_grammar.specs.Pattern.{MPattern, PHole, PLeaf, POne, PTwo}
+use Rattle.vcode.specs.RuleSets.{Row}
+use Rattle.mips_rules.specs.declared.action.Action.{Action}
+use Rattle.mips_rules.specs.declared.action.Action.TheVariants.{Discard, Pass, TakeConstant, TakeName, LoadConstant, Combine, Negate, Call, HandOver, Return}
+
+-- the nonterminals, in the order of their first rules: a statement; a constant; a register or a constant; a register;
+-- an address
+abbrev pub nonterminals : List (List ℕ)
+nonterminals = codes "stmt" ∷ codes "con" ∷ codes "rc" ∷ codes "reg" ∷ codes "addr" ∷ []
+
+abbrev pub stmt : ℕ
+stmt = 0
+
+abbrev pub con : ℕ
+con = 1
+
+abbrev pub rc : ℕ
+rc = 2
+
+abbrev pub reg : ℕ
+reg = 3
+
+abbrev pub addr : ℕ
+addr = 4
+
+-- the operators of the rules, by their numbers
+abbrev pub cnsti : ℕ
+cnsti = 3
+
+abbrev pub addrgp : ℕ
+addrgp = 6
+
+abbrev pub argi : ℕ
+argi = 19
+
+abbrev pub calli : ℕ
+calli = 21
+
+abbrev pub reti : ℕ
+reti = 23
+
+abbrev pub negi : ℕ
+negi = 37
+
+abbrev pub addi : ℕ
+addi = 39
+
+abbrev pub subi : ℕ
+subi = 42
+
+abbrev pub muli : ℕ
+muli = 45
+
+-- a rule, its cost and its action
+pub record Line : Type 0 where
+  pub row : Row
+  pub cost : ℕ
+  pub action : Action
+
+abbrev pub rule : ℕ → MPattern → List ℕ → ℕ → Action → Line
+rule left pattern template cost action = record {
+  row = record { left = left; pattern = pattern; template = template };
+  cost = cost;
+  action = action;
+}
+
+-- the first has the number 1
+abbrev pub lines : List Line
+lines =
+    rule stmt (PHole reg) (codes "") 0 Discard
+    ∷ rule con (PLeaf cnsti) (codes "%a") 0 TakeConstant
+    ∷ rule rc (PHole con) (codes "%0") 0 Pass
+    ∷ rule rc (PHole reg) (codes "$%0") 0 Pass
+    ∷ rule reg (PHole con) (codes "li $%c,%0\\n") 1 LoadConstant
+    ∷ rule addr (PLeaf addrgp) (codes "%a") 0 TakeName
+    ∷ rule reg (PTwo addi (PHole reg) (PHole rc)) (codes "addu $%c,$%0,%1\\n") 1 (Combine Add)
+    ∷ rule reg (PTwo subi (PHole reg) (PHole rc)) (codes "subu $%c,$%0,%1\\n") 1 (Combine Subtract)
+    ∷ rule reg (PTwo muli (PHole reg) (PHole rc)) (codes "mul $%c,$%0,%1\\n") 1 (Combine Multiply)
+    ∷ rule reg (POne negi (PHole reg)) (codes "negu $%c,$%0\\n") 1 Negate
+    ∷ rule stmt (POne argi (PHole reg)) (codes "") 1 HandOver
+    ∷ rule reg (POne calli (PHole addr)) (codes "jal %0\\n") 1 Call
+    ∷ rule stmt (POne reti (PHole reg)) (codes "") 1 Return
+    ∷ []
+
+abbrev pub rows : List Row
+rows = map (λ l. l.row) lines
+
+abbrev pub costs : List ℕ
+costs = map (λ l. l.cost) lines

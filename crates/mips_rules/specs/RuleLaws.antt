@@ -1,0 +1,268 @@
+-- The rules of MIPS keep the laws of a rule set on its machine.
+use Rattle.std.specs.Prelude.{◌≡◌, ℕ, ◌≤◌, ◌==◌, ◌||◌, not, ◌⊎◌, Bool, true, false, Some, List, [], ◌∷◌, length, slice_get, refl}
+use Rattle.std.specs.List.{AllByRecursion}
+use Rattle.std.proofs.Common.{arith, ap, sym, ◌∙◌, subst, inl, inr, ⊎_elim}
+use Rattle.std.proofs.lemmas.Bool.{both_ways, eqb-true, eq-eqb, or_cases, or_left, or_right, le-leb}
+use Rattle.lburg_grammar.specs.Pattern.{MPattern}
+use Rattle.op_forest.specs.declared.sym.Sym.{Sym}
+use Rattle.op_forest.specs.declared.sym.Sym.TheVariants as symbol
+use Rattle.op_forest.specs.Nodes.{Head, Node, head_of, number_of}
+use Rattle.op_forest.specs.Words.{Word}
+use Rattle.op_forest.specs.Rows.{Setting}
+use Rattle.vcode.specs.VirtualCode.{is_virtual, among, Flows, UsesNoSlot, HasNoMark, MarkedFirst, MovesNot, MovesLast}
+use Rattle.vcode.specs.Patterns.{Meeting, is_chain, is_ordered}
+use Rattle.vcode.specs.RuleSets.{Row, SameAt, CodeNames, Settles, code_results, is_move, is_label, op_at, all_registers, SomeBusy}
+use Rattle.mips_rules.specs.declared.action.Action.{Action}
+use Rattle.mips_rules.specs.declared.part.Part.{Part}
+use Rattle.mips_rules.specs.declared.part.Part.TheVariants.{Register, Constant, Name, Nothing}
+use Rattle.mips_rules.specs.Mips.{mips}
+use Rattle.mips_rules.specs.MipsRows.{lines, rows, cnsti, reti}
+use Rattle.mips_rules.specs.MipsRules.{means, registers, is_name, hands, busy, name_of, code_by, part_by, mips_rules}
+use Rattle.mips_rules.specs.OperatorNumbers.{is_cnsti, is_reti}
+use Rattle.mips_rules.specs.AppliedRules.{Applied, Discards, TakesConstant, PassesConstant, PassesRegister, LoadsConstant, TakesName, CombinesRegisters, CombinesConstant, Negates, HandsOver, Calls, Returns, at_row}
+
+-- no pattern has an operator below its root
+all_ordered : AllByRecursion (λ l. is_ordered l.row.pattern ≡ true) lines
+all_ordered = (refl, (refl, (refl, (refl, (refl, (refl, (refl, (refl, (refl, (refl, (refl, (refl, (refl, tt)))))))))))))
+
+pub ordered : (place : ℕ) (row : Row) → slice_get rows place ≡ Some row → is_ordered row.pattern ≡ true
+ordered place row e =
+    let found = at_row (λ l. is_ordered l.row.pattern ≡ true) lines place row all_ordered e in
+    subst (λ r. is_ordered r.pattern ≡ true) found.2 found.3
+
+pub local : (s : Setting) (p : Part) (f g : ℕ → Word) → SameAt (registers p) f g → means s p f ≡ means s p g
+local s (Register r) f g h = ap Some h.0
+local s (Constant n) f g h = refl
+local s (Name name offset) f g h = refl
+local s Nothing f g h = refl
+
+-- the part of a symbol is a name, and names no register
+name_handed : (x : Sym) → is_name (name_of x) ≡ true
+name_handed symbol.Nothing = refl
+name_handed (symbol.Global name offset) = refl
+name_handed (symbol.Label l) = refl
+name_handed (symbol.Block size align) = refl
+
+nameless : (x : Sym) → registers (name_of x) ≡ []
+nameless symbol.Nothing = refl
+nameless (symbol.Global name offset) = refl
+nameless (symbol.Label l) = refl
+nameless (symbol.Block size align) = refl
+
+no : {A : Type 0} → false ≡ true → A
+no e = absurd (both_ways false refl e)
+
+-- a register is among those that begin with it, and among those that go on with some that it is among
+here : (r : ℕ) (rs : List ℕ) → among r (r ∷ rs) ≡ true
+here r rs = or_left (r == r) (among r rs) (eq-eqb r r refl)
+
+later : (r q : ℕ) (rs : List ℕ) → among r rs ≡ true → among r (q ∷ rs) ≡ true
+later r q rs h = or_right (r == q) (among r rs) h
+
+alone : (r q : ℕ) → among r (q ∷ []) ≡ true → r ≡ q
+alone r q h = ⊎_elim (λ e. eqb-true r q e) (λ e. no e) (or_cases (r == q) false h)
+
+low_virtual : (r : ℕ) → 64 ≤ r → is_virtual r ≡ true
+low_virtual r h = le-leb 64 r h
+
+-- the new part is one that the left side may hand up
+pub hands_by : {d : Action} {left : ℕ} {pattern : MPattern} {t : Node} {ps : List Part} {ms : List Meeting} (to : ℕ) → Applied d left pattern t ps ms → hands left t (part_by d t ps to) ≡ true
+hands_by to (Discards t r low) = refl
+hands_by to (TakesConstant h e) = eq-eqb cnsti (number_of h) e
+hands_by to (PassesConstant t n) = refl
+hands_by to (PassesRegister t r low) = refl
+hands_by to (LoadsConstant t n e) = refl
+hands_by to (TakesName h e) = name_handed h.sym
+hands_by to (CombinesRegisters op h a b q r low_q low_r e) = refl
+hands_by to (CombinesConstant op h a b q n low e) = refl
+hands_by to (Negates h a r low e) = refl
+hands_by to (HandsOver h a r low e) = refl
+hands_by to (Calls h a name offset e) = refl
+hands_by to (Returns h a r low e) = refl
+
+-- the node's register alone is named, and the code writes it
+own : (r to : ℕ) (rs : List ℕ) → among r (to ∷ []) ≡ true → (among r rs ≡ true) ⊎ ((r ≡ to) × (among to (to ∷ []) ≡ true))
+own r to rs h = inr (alone r to h, here to [])
+
+-- the new part's registers
+pub part_registers_by : {d : Action} {left : ℕ} {pattern : MPattern} {t : Node} {ps : List Part} {ms : List Meeting} (to q : ℕ) → Applied d left pattern t ps ms → among q (registers (part_by d t ps to)) ≡ true → (among q (all_registers mips_rules ps) ≡ true) ⊎ ((q ≡ to) × (among to (code_results mips (code_by d ps to)) ≡ true))
+part_registers_by to q (Discards t r low) k = no k
+part_registers_by to q (TakesConstant h e) k = no k
+part_registers_by to q (PassesConstant t n) k = no k
+part_registers_by to q (PassesRegister t r low) k = inl k
+part_registers_by to q (LoadsConstant t n e) k = own q to [] k
+part_registers_by to q (TakesName h e) k = no (ap (among q) (sym (nameless h.sym)) ∙ k)
+part_registers_by to q (CombinesRegisters op h a b x y low_x low_y e) k = own q to (x ∷ y ∷ []) k
+part_registers_by to q (CombinesConstant op h a b x n low e) k = own q to (x ∷ []) k
+part_registers_by to q (Negates h a r low e) k = own q to (r ∷ []) k
+part_registers_by to q (HandsOver h a r low e) k = no k
+part_registers_by to q (Calls h a name offset e) k = own q to [] k
+part_registers_by to q (Returns h a r low e) k = no k
+
+-- the test of a register that an instruction names, where it is among these
+named : (b : Bool) (r : ℕ) (known : List ℕ) → among r known ≡ true → (b || among r known) ≡ true
+named b r known h = or_right b (among r known) h
+
+named_here : (b : Bool) (r : ℕ) (rs : List ℕ) → (b || among r (r ∷ rs)) ≡ true
+named_here b r rs = named b r (r ∷ rs) (here r rs)
+
+named_later : (b : Bool) (r q : ℕ) (rs : List ℕ) → (b || among r (q ∷ (r ∷ rs))) ≡ true
+named_later b r q rs = named b r (q ∷ (r ∷ rs)) (later r q (r ∷ rs) (here r rs))
+
+-- the registers that the code names
+pub names_by : {d : Action} {left : ℕ} {pattern : MPattern} {t : Node} {ps : List Part} {ms : List Meeting} (to : ℕ) → Applied d left pattern t ps ms → CodeNames mips (to ∷ all_registers mips_rules ps) (code_by d ps to)
+names_by to (Discards t r low) = tt
+names_by to (TakesConstant h e) = tt
+names_by to (PassesConstant t n) = tt
+names_by to (PassesRegister t r low) = tt
+names_by to (LoadsConstant t n e) = ((named_here _ to [], tt), tt)
+names_by to (TakesName h e) = tt
+names_by to (CombinesRegisters op h a b q r low_q low_r e) = ((named_here _ to (q ∷ r ∷ []), (named_later _ q to (r ∷ []), (named _ r (to ∷ q ∷ r ∷ []) (later r to (q ∷ r ∷ []) (later r q (r ∷ []) (here r []))), tt))), tt)
+names_by to (CombinesConstant op h a b q n low e) = ((named_here _ to (q ∷ []), (named_later _ q to [], tt)), tt)
+names_by to (Negates h a r low e) = ((named_here _ to (r ∷ []), (named_later _ r to [], tt)), tt)
+names_by to (HandsOver h a r low e) = ((named_later _ r to [], tt), tt)
+names_by to (Calls h a name offset e) = ((named_here _ to [], tt), tt)
+names_by to (Returns h a r low e) = ((named_later _ r to [], tt), tt)
+
+-- the registers that the code reads
+pub flows_by : {d : Action} {left : ℕ} {pattern : MPattern} {t : Node} {ps : List Part} {ms : List Meeting} (to : ℕ) → Applied d left pattern t ps ms → Flows mips (all_registers mips_rules ps) (code_by d ps to)
+flows_by to (Discards t r low) = tt
+flows_by to (TakesConstant h e) = tt
+flows_by to (PassesConstant t n) = tt
+flows_by to (PassesRegister t r low) = tt
+flows_by to (LoadsConstant t n e) = ((refl, tt), tt)
+flows_by to (TakesName h e) = tt
+flows_by to (CombinesRegisters op h a b q r low_q low_r e) = ((refl, (named_here _ q (r ∷ []), (named_later _ r q [], tt))), tt)
+flows_by to (CombinesConstant op h a b q n low e) = ((refl, (named_here _ q [], tt)), tt)
+flows_by to (Negates h a r low e) = ((refl, (named_here _ r [], tt)), tt)
+flows_by to (HandsOver h a r low e) = ((named_here _ r [], tt), tt)
+flows_by to (Calls h a name offset e) = ((refl, tt), tt)
+flows_by to (Returns h a r low e) = ((named_here _ r [], tt), tt)
+
+-- a virtual register may be read at once
+settled : (r : ℕ) (b : Bool) → 64 ≤ r → (is_virtual r || b) ≡ true
+settled r b h = or_left (is_virtual r) b (low_virtual r h)
+
+-- the machine's registers that the code reads: none
+pub settles_by : {d : Action} {left : ℕ} {pattern : MPattern} {t : Node} {ps : List Part} {ms : List Meeting} (to : ℕ) → Applied d left pattern t ps ms → Settles mips (code_results mips (code_by d ps to)) [] (code_by d ps to)
+settles_by to (Discards t r low) = tt
+settles_by to (TakesConstant h e) = tt
+settles_by to (PassesConstant t n) = tt
+settles_by to (PassesRegister t r low) = tt
+settles_by to (LoadsConstant t n e) = ((refl, tt), tt)
+settles_by to (TakesName h e) = tt
+settles_by to (CombinesRegisters op h a b q r low_q low_r e) = ((refl, (settled q _ low_q, (settled r _ low_r, tt))), tt)
+settles_by to (CombinesConstant op h a b q n low e) = ((refl, (settled q _ low, tt)), tt)
+settles_by to (Negates h a r low e) = ((refl, (settled r _ low, tt)), tt)
+settles_by to (HandsOver h a r low e) = ((settled r _ low, tt), tt)
+settles_by to (Calls h a name offset e) = ((refl, tt), tt)
+settles_by to (Returns h a r low e) = ((settled r _ low, tt), tt)
+
+-- the code uses no spill slot, and has no label
+pub slots_by : {d : Action} {left : ℕ} {pattern : MPattern} {t : Node} {ps : List Part} {ms : List Meeting} (to : ℕ) → Applied d left pattern t ps ms → UsesNoSlot mips (code_by d ps to)
+slots_by to (Discards t r low) = tt
+slots_by to (TakesConstant h e) = tt
+slots_by to (PassesConstant t n) = tt
+slots_by to (PassesRegister t r low) = tt
+slots_by to (LoadsConstant t n e) = ((λ x. x), tt)
+slots_by to (TakesName h e) = tt
+slots_by to (CombinesRegisters op h a b q r low_q low_r e) = ((λ x. x), tt)
+slots_by to (CombinesConstant op h a b q n low e) = ((λ x. x), tt)
+slots_by to (Negates h a r low e) = ((λ x. x), tt)
+slots_by to (HandsOver h a r low e) = ((λ x. x), tt)
+slots_by to (Calls h a name offset e) = ((λ x. x), tt)
+slots_by to (Returns h a r low e) = ((λ x. x), tt)
+
+pub marks_by : {d : Action} {left : ℕ} {pattern : MPattern} {t : Node} {ps : List Part} {ms : List Meeting} (to : ℕ) → Applied d left pattern t ps ms → MarkedFirst mips (code_by d ps to)
+marks_by to (Discards t r low) = tt
+marks_by to (TakesConstant h e) = tt
+marks_by to (PassesConstant t n) = tt
+marks_by to (PassesRegister t r low) = tt
+marks_by to (LoadsConstant t n e) = tt
+marks_by to (TakesName h e) = tt
+marks_by to (CombinesRegisters op h a b q r low_q low_r e) = tt
+marks_by to (CombinesConstant op h a b q n low e) = tt
+marks_by to (Negates h a r low e) = tt
+marks_by to (HandsOver h a r low e) = tt
+marks_by to (Calls h a name offset e) = tt
+marks_by to (Returns h a r low e) = tt
+
+pub no_mark_by : {d : Action} {left : ℕ} {pattern : MPattern} {t : Node} {ps : List Part} {ms : List Meeting} (to : ℕ) → Applied d left pattern t ps ms → HasNoMark mips (code_by d ps to)
+no_mark_by to (Discards t r low) = tt
+no_mark_by to (TakesConstant h e) = tt
+no_mark_by to (PassesConstant t n) = tt
+no_mark_by to (PassesRegister t r low) = tt
+no_mark_by to (LoadsConstant t n e) = ((λ x. x), tt)
+no_mark_by to (TakesName h e) = tt
+no_mark_by to (CombinesRegisters op h a b q r low_q low_r e) = ((λ x. x), tt)
+no_mark_by to (CombinesConstant op h a b q n low e) = ((λ x. x), tt)
+no_mark_by to (Negates h a r low e) = ((λ x. x), tt)
+no_mark_by to (HandsOver h a r low e) = ((λ x. x), tt)
+no_mark_by to (Calls h a name offset e) = ((λ x. x), tt)
+no_mark_by to (Returns h a r low e) = ((λ x. x), tt)
+
+-- what moves control stands last, and only a return does
+pub moves_by : {d : Action} {left : ℕ} {pattern : MPattern} {t : Node} {ps : List Part} {ms : List Meeting} (to : ℕ) → Applied d left pattern t ps ms → MovesLast mips (code_by d ps to)
+moves_by to (Discards t r low) = tt
+moves_by to (TakesConstant h e) = tt
+moves_by to (PassesConstant t n) = tt
+moves_by to (PassesRegister t r low) = tt
+moves_by to (LoadsConstant t n e) = tt
+moves_by to (TakesName h e) = tt
+moves_by to (CombinesRegisters op h a b q r low_q low_r e) = tt
+moves_by to (CombinesConstant op h a b q n low e) = tt
+moves_by to (Negates h a r low e) = tt
+moves_by to (HandsOver h a r low e) = tt
+moves_by to (Calls h a name offset e) = tt
+moves_by to (Returns h a r low e) = tt
+
+-- a RETI moves control; a CNSTI doesn't, and is no label
+return_moves : (h : Head) → reti ≡ number_of h → not (is_move h.operator.op) ≡ true → ⊥
+return_moves h e k = both_ways false refl (ap (λ o. not (is_move o)) (sym ((is_reti h e).0)) ∙ k)
+
+constant_stays : (h : Head) → cnsti ≡ number_of h → (is_label h.operator.op || is_move h.operator.op) ≡ true → ⊥
+constant_stays h e k = both_ways false refl (ap (λ o. is_label o || is_move o) (sym ((is_cnsti h e).0)) ∙ k)
+
+pub moves_only_by : {d : Action} {left : ℕ} {pattern : MPattern} {t : Node} {ps : List Part} {ms : List Meeting} (to : ℕ) → Applied d left pattern t ps ms → (is_chain pattern || not (is_move (op_at t))) ≡ true → MovesNot mips (code_by d ps to)
+moves_only_by to (Discards t r low) k = tt
+moves_only_by to (TakesConstant h e) k = tt
+moves_only_by to (PassesConstant t n) k = tt
+moves_only_by to (PassesRegister t r low) k = tt
+moves_only_by to (LoadsConstant t n e) k = (refl, tt)
+moves_only_by to (TakesName h e) k = tt
+moves_only_by to (CombinesRegisters op h a b q r low_q low_r e) k = (refl, tt)
+moves_only_by to (CombinesConstant op h a b q n low e) k = (refl, tt)
+moves_only_by to (Negates h a r low e) k = (refl, tt)
+moves_only_by to (HandsOver h a r low e) k = (refl, tt)
+moves_only_by to (Calls h a name offset e) k = (refl, tt)
+moves_only_by to (Returns h a r low e) k = absurd (return_moves h e k)
+
+-- where control moves, or at a label, no chain rule adds code
+pub silent_by : {d : Action} {left : ℕ} {pattern : MPattern} {t : Node} {ps : List Part} {ms : List Meeting} (to : ℕ) → Applied d left pattern t ps ms → is_chain pattern ≡ true → (is_label (op_at t) || is_move (op_at t)) ≡ true → code_by d ps to ≡ []
+silent_by to (Discards t r low) k moving = refl
+silent_by to (TakesConstant h e) k moving = no k
+silent_by to (PassesConstant t n) k moving = refl
+silent_by to (PassesRegister t r low) k moving = refl
+silent_by to (LoadsConstant t n e) k moving = absurd (constant_stays (head_of t) e moving)
+silent_by to (TakesName h e) k moving = no k
+silent_by to (CombinesRegisters op h a b q r low_q low_r e) k moving = no k
+silent_by to (CombinesConstant op h a b q n low e) k moving = no k
+silent_by to (Negates h a r low e) k moving = no k
+silent_by to (HandsOver h a r low e) k moving = no k
+silent_by to (Calls h a name offset e) k moving = no k
+silent_by to (Returns h a r low e) k moving = no k
+
+-- a statement and a register add code, or a part of theirs does
+pub busy_by : {d : Action} {left : ℕ} {pattern : MPattern} {t : Node} {ps : List Part} {ms : List Meeting} (to : ℕ) → Applied d left pattern t ps ms → busy left ≡ true → (1 ≤ length (code_by d ps to)) ⊎ SomeBusy mips_rules ms
+busy_by to (Discards t r low) k = inr (inl refl)
+busy_by to (TakesConstant h e) k = no k
+busy_by to (PassesConstant t n) k = no k
+busy_by to (PassesRegister t r low) k = no k
+busy_by to (LoadsConstant t n e) k = inl (omega arith)
+busy_by to (TakesName h e) k = no k
+busy_by to (CombinesRegisters op h a b q r low_q low_r e) k = inl (omega arith)
+busy_by to (CombinesConstant op h a b q n low e) k = inl (omega arith)
+busy_by to (Negates h a r low e) k = inl (omega arith)
+busy_by to (HandsOver h a r low e) k = inl (omega arith)
+busy_by to (Calls h a name offset e) k = inl (omega arith)
+busy_by to (Returns h a r low e) k = inl (omega arith)

@@ -1,0 +1,15 @@
+use vcode::Reg;
+
+/// What a nonterminal of MIPS's rules hands up.
+#[derive(Clone, Copy, Debug, PartialEq, Eq)]
+pub enum Part {
+    /// The value of a register.
+    Register(Reg),
+    /// A number.
+    Constant(u32),
+    /// The address that lies so many bytes behind that of a global, which is given by its place
+    /// among the names of the unit.
+    Name { name: u32, offset: i32 },
+    /// No value.
+    Nothing,
+}
