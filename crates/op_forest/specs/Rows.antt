@@ -1,7 +1,8 @@
 -- What each operator does with its operands' values: a row an operator. An operator without a row has no meaning here.
 -- Source: Fraser and Hanson, A Retargetable C Compiler, chapter 5; numbers as in ISO/IEC 9899:1990, 6.3, modulo 2^32.
 use Rattle.std.specs.Prelude.{ℕ, ◌+◌, ◌-◌, ◌*◌, ◌%◌, ◌^◌, ◌==◌, zero, ℤ, pos, Option, Some, None, List, [], ◌∷◌, ◌++◌, if◌then◌else◌}
-use Rattle.std.specs.Int.{cast_unsigned, w32}
+use Rattle.std.specs.Int.{int_rem_euclid}
+use Rattle.std.specs.Int.RustNames.{unsigned_abs}
 use Rattle.op_forest.specs.declared.op.Op.{Op}
 use Rattle.op_forest.specs.declared.op.Op.TheVariants as op
 use Rattle.op_forest.specs.declared.suffix.Suffix.{Suffix}
@@ -31,10 +32,14 @@ pub record Setting : Type 0 where
 abbrev pub gives : Word → Point → Effect
 gives w p = Went (w ∷ []) p Next
 
--- a constant is taken modulo 2^32, a negative one in two's complement
+-- a number modulo 2^32, a negative one in two's complement
+abbrev pub bits_of : ℤ → ℕ
+bits_of z = unsigned_abs (int_rem_euclid z (pos (2 ^ 32)))
+
+-- a constant is taken modulo 2^32
 abbrev pub constant : Option ℤ → Point → Effect
 constant None p = Stuck
-constant (Some z) p = gives (Number (cast_unsigned w32 z)) p
+constant (Some z) p = gives (Number (bits_of z)) p
 
 -- a name's value, which an offset moves where it is an object's
 abbrev pub value_at : Option Word → ℤ → Option Word

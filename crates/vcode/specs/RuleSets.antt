@@ -36,8 +36,8 @@ pub record Rules (I Part : Type 0) : Type 0 where
   pub means : Setting → Part → (ℕ → Word) → Option Word
   -- the registers that a part names
   pub registers : Part → List ℕ
-  -- whether the nonterminal may hand up the part
-  pub hands : ℕ → Part → Bool
+  -- whether the nonterminal may hand up the part at the node
+  pub hands : ℕ → Node → Part → Bool
   -- whether a derivation of the nonterminal adds code
   pub busy : ℕ → Bool
 
@@ -134,7 +134,7 @@ module _ {I Part : Type 0} (rules : Rules I Part) where
   AllHand [] [] = Unit {0}
   AllHand [] (p ∷ ps) = ⊥
   AllHand (x ∷ xs) [] = ⊥
-  AllHand (x ∷ xs) (p ∷ ps) = (rules.hands x.0 p ≡ true) × AllHand xs ps
+  AllHand (x ∷ xs) (p ∷ ps) = (rules.hands x.0 x.1 p ≡ true) × AllHand xs ps
 
   -- the rule of this number, from 1, may be applied at the node with these parts, which name virtual registers alone
   pub record Applies (number : ℕ) (row : Row) (t : Node) (ps : List Part) (to : ℕ) : Type 0 where
@@ -161,7 +161,7 @@ pub record Obeys {I Part : Type 0} (m : Machine I) (rules : Rules I Part) : Type
   pub ordered : (place : ℕ) (row : Row) → slice_get rules.rows place ≡ Some row → is_ordered row.pattern ≡ true
   -- a part's value depends on its registers alone
   pub local : (s : Setting) (p : Part) (f g : ℕ → Word) → SameAt (rules.registers p) f g → rules.means s p f ≡ rules.means s p g
-  pub hands : (number : ℕ) (row : Row) (t : Node) (ps : List Part) (to : ℕ) → Applies rules number row t ps to → rules.hands row.left (rules.part number t ps to) ≡ true
+  pub hands : (number : ℕ) (row : Row) (t : Node) (ps : List Part) (to : ℕ) → Applies rules number row t ps to → rules.hands row.left t (rules.part number t ps to) ≡ true
   -- the new part names no register but the given parts' and, where the code writes it, the node's
   pub part_registers : (number : ℕ) (row : Row) (t : Node) (ps : List Part) (to r : ℕ) → Applies rules number row t ps to → among r (rules.registers (rules.part number t ps to)) ≡ true → (among r (all_registers rules ps) ≡ true) ⊎ ((r ≡ to) × (among to (code_results m (rules.code number t ps to)) ≡ true))
   -- the code names no register but the node's, the given parts' and the machine's
