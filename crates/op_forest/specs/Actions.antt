@@ -12,8 +12,7 @@ use Rattle.op_forest.specs.Nodes.{Head}
 use Rattle.op_forest.specs.Words.{Word, Number, Pointer, Function}
 use Rattle.op_forest.specs.Traces.{Event, Wrote}
 use Rattle.op_forest.specs.Worlds.{World, with_event, Point, at_world, Move, Next, End, Effect, Went, Exits, Stuck, then_do}
-use Rattle.std.specs.Int.{cast_unsigned, w32}
-use Rattle.op_forest.specs.Rows.{Setting, constant, value_at, given, address_of, negated, sum, difference, product, of_one, of_two, handed, called, row, does}
+use Rattle.op_forest.specs.Rows.{Setting, bits_of, constant, value_at, given, address_of, negated, sum, difference, product, of_one, of_two, handed, called, row, does}
 use Rattle.op_forest.specs.Functions.{BuiltIn, Putchar, Getchar, Exit, put_character, get_character, exit_with, provided}
 use Rattle.op_forest.specs.Budgets.{Calls, with_left, with_calls}
 use Rattle.op_forest.specs.Prefixes.{Starts, starts_refl}
@@ -51,7 +50,7 @@ stuck_action w = (Meaningless, tt, λ call left. refl)
 
 constant_action : (z : Option ℤ) (w : World) → IsAction w (λ call p. constant z p)
 constant_action None w = stuck_action w
-constant_action (Some z) w = gives_action (Number (cast_unsigned w32 z)) w
+constant_action (Some z) w = gives_action (Number (bits_of z)) w
 
 given_action : (v : Option Word) (w : World) → IsAction w (λ call p. given v p)
 given_action None w = stuck_action w

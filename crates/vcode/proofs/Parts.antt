@@ -67,20 +67,20 @@ module _ {I P : Type 0} (rules : Rules I P) (rows : List Rule) (are : map row_of
       let v : slice_get rules.rows i ≡ Some row = subst (λ k. slice_get rules.rows k ≡ Some row) s a.row_is in
       applied_row rows row n t parts r d.2 (same_Some row (row_of r) (sym v ∙ w)) d.5 d.6 d.7
 
-  pub hand_more : (ms : List Meeting) (m : Meeting) (ps : List P) (p : P) → AllHand rules ms ps → rules.hands m.0 p ≡ true → AllHand rules (ms ++ m ∷ []) (ps ++ p ∷ [])
+  pub hand_more : (ms : List Meeting) (m : Meeting) (ps : List P) (p : P) → AllHand rules ms ps → rules.hands m.0 m.1 p ≡ true → AllHand rules (ms ++ m ∷ []) (ps ++ p ∷ [])
   hand_more [] m [] p h e = (e, tt)
   hand_more [] m (q ∷ ps) p h e = absurd h
   hand_more (l ∷ ms) m [] p h e = absurd h
   hand_more (l ∷ ms) m (q ∷ ps) p h e = (h.0, hand_more ms m ps p h.1 e)
 
   module _ (m : Machine I) (obeys : Obeys m rules) where
-    hands_left : (number : ℕ) (row : Row) (n : ℕ) (t : Node) (ps : List P) (to : ℕ) (parts : MParts) → Applies rules number row t ps to → Derives rows n (tree_of t) (Apply number parts) → rules.hands n (rules.part number t ps to) ≡ true
+    hands_left : (number : ℕ) (row : Row) (n : ℕ) (t : Node) (ps : List P) (to : ℕ) (parts : MParts) → Applies rules number row t ps to → Derives rows n (tree_of t) (Apply number parts) → rules.hands n t (rules.part number t ps to) ≡ true
     hands_left number row n t ps to parts a d =
         let w = applied_at number row n t ps to parts a d in
-        subst (λ k. rules.hands k (rules.part number t ps to) ≡ true) w.left (obeys.hands number row t ps to a)
+        subst (λ k. rules.hands k t (rules.part number t ps to) ≡ true) w.left (obeys.hands number row t ps to a)
 
     -- a nonterminal may hand up what its derivation hands up
-    pub hands : {x : MDerivation} {t : Node} {n : ℕ} {e : Emitted I P} → Emits rules x t n e → (k : ℕ) → Derives rows k (tree_of t) x → rules.hands k e.part ≡ true
+    pub hands : {x : MDerivation} {t : Node} {n : ℕ} {e : Emitted I P} → Emits rules x t n e → (k : ℕ) → Derives rows k (tree_of t) x → rules.hands k t e.part ≡ true
     hands (ByChain {number} {row} {x} {t} {n} {e} one chain a) k d = hands_left number row k t (e.part ∷ []) e.to (parts_of (x ∷ [])) a d
     hands (ByRule {number} {row} {xs} {meetings} {t} {n} {es} all fits chain a) k d = hands_left number row k t es.parts es.next (parts_of xs) a d
 

@@ -11,8 +11,7 @@ use Rattle.op_forest.specs.Operators.{number}
 use Rattle.op_forest.specs.Nodes.{Head, number_of}
 use Rattle.op_forest.specs.Words.{Word, Number, Pointer, Function}
 use Rattle.op_forest.specs.Worlds.{Point, Next, Effect, Went, Stuck}
-use Rattle.std.specs.Int.{cast_unsigned, w32}
-use Rattle.op_forest.specs.Rows.{Setting, constant, value_at, given, address_of, of_one, of_two, row, does}
+use Rattle.op_forest.specs.Rows.{Setting, bits_of, constant, value_at, given, address_of, of_one, of_two, row, does}
 use Rattle.vcode.specs.Patterns.{is_steady}
 
 -- values, or no meaning
@@ -28,7 +27,7 @@ never f h = (None, h)
 
 constant_steady : (v : Option ℤ) → Steadily (constant v)
 constant_steady None = (None, λ p. refl)
-constant_steady (Some z) = (Some (Number (cast_unsigned w32 z) ∷ []), λ p. refl)
+constant_steady (Some z) = (Some (Number (bits_of z) ∷ []), λ p. refl)
 
 given_steady : (w : Option Word) → Steadily (given w)
 given_steady None = (None, λ p. refl)
