@@ -22,14 +22,13 @@ pub enum Instr {
         to: Reg,
         from: Reg,
     },
-    /// `move $k,$from`, for the first four words `$4` to `$7`, and `sw $from,place($sp)` for those
-    /// behind them: hands the next argument word of the next call.
+    /// `sw $from,place($sp)`: hands the next argument word of the next call.
     Argument {
         from: Reg,
     },
-    /// `jal name`, and `move $to,$2`: calls the function with the argument words that were handed
-    /// since the last call, and the register gets its result. The name is its place among the names
-    /// of the unit.
+    /// `jal name`, between loads of the first four argument words to `$4` to `$7` and `move $to,$2`:
+    /// calls the function with the argument words that were handed since the last call, and the
+    /// register gets its result. The name is its place among the names of the unit.
     Call {
         to: Reg,
         name: u32,
