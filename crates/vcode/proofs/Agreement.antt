@@ -13,7 +13,7 @@ use Rattle.vcode.specs.Execution.{State, executed}
 use Rattle.vcode.specs.VirtualCode.{joined}
 use Rattle.vcode.specs.RuleSets.{Rules, Stands, Gets, Obeys}
 use Rattle.vcode.specs.Emission.{Emitted, Emits, EmitsRoots, NoRoot, OneRoot}
-use Rattle.vcode.proofs.RegisterRanges.{one_lies}
+use Rattle.vcode.proofs.Registers.{takes}
 use Rattle.vcode.proofs.Following.{one_follows}
 
 module _ (I P : Type 0) (m : Machine I) (rules : Rules I P) (obeys : Obeys m rules) where
@@ -37,10 +37,10 @@ module _ (I P : Type 0) (m : Machine I) (rules : Rules I P) (obeys : Obeys m rul
   roots_rooted (NoRoot {n}) low = (low, tt)
   roots_rooted (OneRoot {xs} {ts} {x} {t} {n} {n'} {stretches} {e} before one) low =
       let a = roots_rooted before low in
-      let lies = one_lies I P m rules obeys one in
+      let taken = takes m rules obeys one in
       let first = a.0 in
-      let second = lies.0 in
-      let third = lies.1 in
+      let second = taken.low in
+      let third = taken.next in
       (omega (arith, first, second, third), rooted_more ts stretches t e.code a.1 (x, n', e, a.0, refl, one))
 
   module _ (s : Setting) (roots : List Node) (whole : List I) where

@@ -19,7 +19,7 @@ use Rattle.vcode.specs.Patterns.{Meeting, pattern_effect, each_of, is_chain}
 use Rattle.vcode.specs.RuleSets.{Rules, Stands, WhenNext, Gets, is_move, is_label, op_at, all_registers, AllStand, Obeys}
 use Rattle.vcode.specs.Emission.{Emitted, EmittedAll, Emits, ByChain, ByRule, EmitsAll, Nothing, OneMore}
 use Rattle.vcode.proofs.Splits.{met, met_both, each_both, splits}
-use Rattle.vcode.proofs.RegisterRanges.{among_left, among_right, same_at, one_lies, all_lie}
+use Rattle.vcode.proofs.Registers.{among_left, among_right, same_at, takes, take_all}
 
 chain_effect : (s : Setting) (q : MPattern) (t : Node) (ws : List Word) (p : Point) → is_chain q ≡ true → pattern_effect s q t (ws ∷ []) p ≡ Went ws p Next
 chain_effect s (PHole n) t ws p h = refl
@@ -125,7 +125,7 @@ module _ (I P : Type 0) (m : Machine I) (rules : Rules I P) (obeys : Obeys m rul
     one_follows (ByChain {number} {row} {x} {t} {n} {e} one chain a) low rest st ns =
         let code = rules.code number t (e.part ∷ []) e.to in
         let part = rules.part number t (e.part ∷ []) e.to in
-        let least = (one_lies I P m rules obeys one).0 in
+        let least = (takes m rules obeys one).low in
         chain_gets e.code code rest st (evaluate s t st.point) e.part part (Below n) (Below n) (λ q k. k) (one_follows one low (code ++ rest) st ns) ns
         (λ ws p mv is away. obeys.silent number row t (e.part ∷ []) e.to a chain (or_right (is_label (op_at t)) (is_move (op_at t)) (moves_at s t st.point ws p mv is away)))
         (λ st1 ws held.
@@ -136,7 +136,7 @@ module _ (I P : Type 0) (m : Machine I) (rules : Rules I P) (obeys : Obeys m rul
     one_follows (ByRule {number} {row} {xs} {meetings} {t} {n} {es} all fits plain a) low rest st ns =
         let code = rules.code number t es.parts es.next in
         let part = rules.part number t es.parts es.next in
-        let least = (all_lie I P m rules obeys all).0 in
+        let least = (take_all m rules obeys all).low in
         let split = splits s row.pattern t meetings st.point (obeys.ordered a.place row a.row_is) plain fits ns in
         subst (λ ef. Gets m s whole (es.code ++ code) rest st ef (Held part) (Below n)) (sym split)
         (all_follow all low code rest st (λ vs p. pattern_effect s row.pattern t vs p) part (λ h. ns (split ∙ h))
@@ -148,8 +148,8 @@ module _ (I P : Type 0) (m : Machine I) (rules : Rules I P) (obeys : Obeys m rul
     all_follow (Nothing {n}) low code rest st go p ns b = b st [] tt ns
     all_follow (OneMore {xs} {meetings} {x} meeting {n} {es} {e} all one) low code rest st go p ns b =
         let t = meeting.1 in
-        let lies = all_lie I P m rules obeys all in
-        let least = lies.0 in
+        let taken = take_all m rules obeys all in
+        let least = taken.low in
         let more : List (List Word) → Point → Effect = λ vs p1. then_do (evaluate s t p1) (λ ws p2. go (vs ++ ws ∷ []) p2) in
         let same : each_of s (met (meetings ++ meeting ∷ [])) st.point go ≡ each_of s (met meetings) st.point more = ap (λ ts. each_of s ts st.point go) (met_both meetings (meeting ∷ [])) ∙ each_both s (met meetings) (t ∷ []) st.point go in
         subst (λ ef. Gets m s whole ((es.code ++ e.code) ++ code) rest st ef (Held p) (Below n)) (sym same)
@@ -161,5 +161,5 @@ module _ (I P : Type 0) (m : Machine I) (rules : Rules I P) (obeys : Obeys m rul
         (λ st2 ws held kept ns2.
         b st2 (vs ++ ws ∷ [])
         (stand_more es.parts e.part st2.registers vs ws
-        (stand_kept es.parts st2.registers st1.registers vs (λ r h. let c = lies.1 r h in let above = c.0 in kept r (omega (arith, low, above)) c.1) stand) held)
+        (stand_kept es.parts st2.registers st1.registers vs (λ r h. let c = taken.registers r h in let above = c.0 in kept r (omega (arith, low, above)) c.1) stand) held)
         ns2))))

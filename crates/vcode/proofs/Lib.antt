@@ -1,11 +1,10 @@
+pub mod Leaves
+pub mod Members
+pub mod Registers
 pub mod Steady
 pub mod Splits
-pub mod RegisterRanges
 pub mod Following
 pub mod Agreement
-pub mod Members
-pub mod Leaves
-pub mod Registers
 pub mod Parts
 pub mod Joining
 pub mod Still

@@ -7,7 +7,8 @@ use Rattle.op_forest.specs.Nodes.{Node, nodes}
 use Rattle.vcode.specs.Machines.{Machine}
 use Rattle.vcode.specs.VirtualCode.{among}
 use Rattle.vcode.specs.Patterns.{Meeting}
-use Rattle.vcode.specs.RuleSets.{Row, Rules, Applies, Obeys, InRange, all_registers}
+use Rattle.op_forest.specs.Words.{Word}
+use Rattle.vcode.specs.RuleSets.{Row, Rules, SameAt, Applies, Obeys, InRange, all_registers}
 use Rattle.vcode.specs.Emission.{Emitted, EmittedAll, with_chain, with_rule, and_one, Emits, EmitsAll, ByChain, ByRule, Nothing, OneMore}
 use Rattle.vcode.proofs.Leaves.{met, met_append, fewer_met}
 
@@ -26,6 +27,11 @@ among_left r (x ∷ xs) ys h =
 pub among_right : (r : ℕ) (xs ys : List ℕ) → among r ys ≡ true → among r (xs ++ ys) ≡ true
 among_right r [] ys h = h
 among_right r (x ∷ xs) ys h = or_right (r == x) (among r (xs ++ ys)) (among_right r xs ys h)
+
+-- registers that agree wherever the list names them
+pub same_at : (qs : List ℕ) (f g : ℕ → Word) → ((r : ℕ) → among r qs ≡ true → f r ≡ g r) → SameAt qs f g
+same_at [] f g h = tt
+same_at (q ∷ qs) f g h = (h q (or_left (q == q) (among q qs) (eq-eqb q q refl)), same_at qs f g (λ r e. h r (or_right (r == q) (among r qs) e)))
 
 -- the registers that are among these are in a range
 abbrev pub Between : ℕ → ℕ → List ℕ → Type 0

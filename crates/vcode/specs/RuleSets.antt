@@ -5,6 +5,7 @@ use Rattle.lburg_grammar.specs.declared.rule.Rule.{Rule}
 use Rattle.lburg_grammar.specs.Pattern.{MPattern, PHole, pattern_of}
 use Rattle.op_forest.specs.declared.op.Op.{Op}
 use Rattle.op_forest.specs.declared.op.Op.TheVariants as op
+pub use Rattle.op_forest.specs.Signature.{moves as is_move}
 use Rattle.op_forest.specs.Nodes.{Head, Node, head_of}
 use Rattle.op_forest.specs.Words.{Word}
 use Rattle.op_forest.specs.Worlds.{Point, Move, Next, To, End, Effect, Went, Exits, Unfinished, Stuck, goes, Outcome}
@@ -97,17 +98,6 @@ ReadsSettled pointer to_write known (o ∷ os) =
 abbrev pub Settles : {I : Type 0} → Machine I → List ℕ → List ℕ → List I → Type 0
 Settles m to_write known [] = Unit {0}
 Settles m to_write known (i ∷ is) = ReadsSettled m.stack_pointer to_write known (m.operands i) × Settles m to_write (results (m.operands i) ++ known) is
-
-abbrev pub is_move : Op → Bool
-is_move op.Ret = true
-is_move op.Jump = true
-is_move op.Eq = true
-is_move op.Ne = true
-is_move op.Lt = true
-is_move op.Le = true
-is_move op.Gt = true
-is_move op.Ge = true
-is_move o = false
 
 abbrev pub is_label : Op → Bool
 is_label op.Label = true
