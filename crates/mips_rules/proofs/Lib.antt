@@ -4,3 +4,4 @@ pub mod RuleTable
 pub mod ListTests
 pub mod ShippedDescription
 pub mod Cases
+pub mod Coverage

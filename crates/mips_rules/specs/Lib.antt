@@ -11,3 +11,4 @@ pub mod AppliedRules
 pub mod RuleLaws
 pub mod RuleMeanings
 pub mod MipsObeys
+pub mod Shipped

@@ -3,6 +3,7 @@ ghost use Rattle.lburg_grammar.specs.Pattern.{pattern_of};
 ghost use Rattle.vcode.specs.RuleSets.{row_of};
 ghost use Rattle.mips_rules.specs.MipsRows.{nonterminals, stmt, rows, costs};
 ghost use Rattle.mips_rules.specs.MipsTerminals.{terminals};
+ghost use Rattle.mips_rules.specs.Shipped.{IsShipped, DerivesStatements, CoversRoots};
 ghost use Rattle.mips_rules.specs.Tables.{terminal_of, form_pattern, row_in, cost_in};
 
 use crate::rule_line::{Form, NONTERMINALS, RULES, RuleLine, STMT};
@@ -72,7 +73,8 @@ fn rules_of(alloc: Global, lines: &[RuleLine]) -> Result<Vec<Rule>, Memory>
 
 /// The shipped description: it declares all 69 operators by their names and numbers, and has 13
 /// rules, which derive each statement of integers made of constants, sums, differences, products,
-/// negatives, argument words, calls and returns.
+/// negatives, argument words, calls and returns. So each root of a well-formed forest has a
+/// derivation.
 /// Source: Fraser and Hanson, A Retargetable C Compiler, chapter 16.
 pub fn description(alloc: Global) -> Result<Description, Memory>
     ensures terminals { IfOk result (λ d. d.terminals ≡ terminals) }
@@ -80,6 +82,9 @@ pub fn description(alloc: Global) -> Result<Description, Memory>
     ensures start { IfOk result (λ d. d.start ≡ stmt) }
     ensures rows { IfOk result (λ d. map row_of d.rules ≡ rows) }
     ensures costs { IfOk result (λ d. map (λ r. r.cost) d.rules ≡ costs) }
+    ensures shipped { IfOk result (λ d. IsShipped d) }
+    ensures derives { IfOk result (λ d. DerivesStatements d) }
+    ensures covers { IfOk result (λ d. CoversRoots d) }
 {
     let terminals = terminals_of(alloc, &TERMINALS)?;
     let nonterminals = names_of(alloc, &NONTERMINALS)?;

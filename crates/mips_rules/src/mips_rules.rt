@@ -2,6 +2,7 @@ ghost use Rattle.std.specs.Prelude.{◌≡◌, map, IfOk};
 ghost use Rattle.vcode.specs.RuleSets.{row_of};
 ghost use Rattle.mips_rules.specs.MipsRows.{nonterminals, stmt, rows, costs};
 ghost use Rattle.mips_rules.specs.MipsTerminals.{terminals};
+ghost use Rattle.mips_rules.specs.Shipped.{IsShipped, DerivesStatements, CoversRoots};
 
 use crate::expansion::{action_of, instr_by, part_by};
 use crate::instr::Instr;
@@ -46,6 +47,9 @@ pub fn rules(alloc: Global) -> Result<MipsRules, Memory>
     ensures start { IfOk result (λ d. d.start ≡ stmt) }
     ensures rows { IfOk result (λ d. map row_of d.rules ≡ rows) }
     ensures costs { IfOk result (λ d. map (λ r. r.cost) d.rules ≡ costs) }
+    ensures shipped { IfOk result (λ d. IsShipped d) }
+    ensures derives { IfOk result (λ d. DerivesStatements d) }
+    ensures covers { IfOk result (λ d. CoversRoots d) }
 {
     let description = description(alloc)?;
     Ok(MipsRules { description })

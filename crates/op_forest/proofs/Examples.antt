@@ -8,10 +8,10 @@ use Rattle.op_forest.specs.declared.suffix.Suffix.{Suffix}
 use Rattle.op_forest.specs.declared.suffix.Suffix.TheVariants.{I, P}
 use Rattle.op_forest.specs.declared.sym.Sym.{Sym}
 use Rattle.op_forest.specs.declared.sym.Sym.TheVariants as sym
-use Rattle.op_forest.specs.Nodes.{Head, Node, Leaf, One, Two}
-use Rattle.op_forest.specs.Words.{Word, Number, Function, Partly}
+use Rattle.op_forest.specs.Nodes.{Head, Node, Leaf, One}
+use Rattle.op_forest.specs.Words.{Word, Number, Function}
 use Rattle.op_forest.specs.Traces.{output_of}
-use Rattle.op_forest.specs.Worlds.{World, Point, Next, Effect, Went, Exits, Unfinished, Stuck}
+use Rattle.op_forest.specs.Worlds.{Point, Effect, Went, Exits, Unfinished, Stuck}
 use Rattle.op_forest.specs.Functions.{Body, Callee, Defined, Provided, Missing, Putchar, Program}
 use Rattle.op_forest.specs.Meaning.{call_of}
 use Rattle.op_forest.specs.Nested.{calls_at}

@@ -22,10 +22,10 @@ abbrev pub Same : Bool → List Node → Type 0
 Same taken ts = IsTrue taken ↔ IsTaken ts
 
 fit_behind : (t : Node) (ts : List Node) (taken : Bool) → Same taken ts → IsFit t (IsTrue taken) → IsFit t (IsTaken ts)
-fit_behind t ts taken same f = record { kinds = f.kinds; argument = λ a. same.0 (f.argument a) }
+fit_behind t ts taken same f = record { kinds = f.kinds; statement = f.statement; argument = λ a. same.0 (f.argument a) }
 
 fit_here : (t : Node) (ts : List Node) (taken : Bool) → Same taken ts → IsFit t (IsTaken ts) → IsFit t (IsTrue taken)
-fit_here t ts taken same f = record { kinds = f.kinds; argument = λ a. same.1 (f.argument a) }
+fit_here t ts taken same f = record { kinds = f.kinds; statement = f.statement; argument = λ a. same.1 (f.argument a) }
 
 -- the root is good, and what is told of those behind it stays
 kept : (place : ℕ) (t : Node) (ts : List Node) (fault : Option ForestFault) → IsGood t ts → IsAnswerFrom (suc place) ts fault → IsAnswerFrom place (t ∷ ts) fault

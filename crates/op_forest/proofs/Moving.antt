@@ -1,5 +1,5 @@
 -- Where a tree's run may go on: behind it, or with a return at its root to the caller; never at a label.
-use Rattle.std.proofs.Common.{◌≡◌, ℕ, zero, ℤ, pos, Option, Some, None, List, [], ◌∷◌, ◌++◌, refl, subst}
+use Rattle.std.proofs.Common.{◌≡◌, ℕ, ℤ, Option, Some, None, List, [], ◌∷◌, ◌++◌, refl, subst}
 use Rattle.op_forest.specs.declared.op.Op.{Op}
 use Rattle.op_forest.specs.declared.op.Op.TheVariants as op
 use Rattle.op_forest.specs.declared.suffix.Suffix.{Suffix}
@@ -7,7 +7,7 @@ use Rattle.op_forest.specs.declared.suffix.Suffix.TheVariants.{I, P}
 use Rattle.op_forest.specs.declared.sym.Sym.{Sym}
 use Rattle.op_forest.specs.declared.sym.Sym.TheVariants as sym
 use Rattle.op_forest.specs.Nodes.{Head, Node, Leaf, One, Two, head_of}
-use Rattle.op_forest.specs.Words.{Word, Number, Pointer, Function}
+use Rattle.op_forest.specs.Words.{Word, Number, Function}
 use Rattle.op_forest.specs.Worlds.{Point, Move, Next, To, End, Effect, Went, Exits, Unfinished, Stuck, then_do}
 use Rattle.op_forest.specs.Rows.{Setting, constant, value_at, given, address_of, of_one, of_two, handed, called, row, does}
 use Rattle.op_forest.specs.Bodies.{evaluate}

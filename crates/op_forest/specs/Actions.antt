@@ -1,6 +1,6 @@
 -- What an operator does with its operands' values, and a function of the library with its arguments, apart from the
 -- steps that are left: none takes a step, so it is the same for each number of them, and for each meaning of calls.
-use Rattle.std.specs.Prelude.{◌≡◌, ℕ, zero, ◌+◌, ◌%◌, ℤ, pos, Option, Some, None, List, [], ◌∷◌, ◌++◌}
+use Rattle.std.specs.Prelude.{◌≡◌, ℕ, ◌%◌, ℤ, Option, Some, None, List, [], ◌∷◌, ◌++◌}
 use Rattle.std.proofs.Common.{refl}
 use Rattle.op_forest.specs.declared.op.Op.{Op}
 use Rattle.op_forest.specs.declared.op.Op.TheVariants as op
@@ -9,7 +9,7 @@ use Rattle.op_forest.specs.declared.suffix.Suffix.TheVariants.{I, P}
 use Rattle.op_forest.specs.declared.sym.Sym.{Sym}
 use Rattle.op_forest.specs.declared.sym.Sym.TheVariants as sym
 use Rattle.op_forest.specs.Nodes.{Head}
-use Rattle.op_forest.specs.Words.{Word, Number, Pointer, Function}
+use Rattle.op_forest.specs.Words.{Word, Number, Function}
 use Rattle.op_forest.specs.Traces.{Event, Wrote}
 use Rattle.op_forest.specs.Worlds.{World, with_event, Point, at_world, Move, Next, End, Effect, Went, Exits, Stuck, then_do}
 use Rattle.op_forest.specs.Rows.{Setting, bits_of, constant, value_at, given, address_of, negated, sum, difference, product, of_one, of_two, handed, called, row, does}

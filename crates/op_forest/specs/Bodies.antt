@@ -6,8 +6,8 @@ use Rattle.op_forest.specs.declared.op.Op.{Op}
 use Rattle.op_forest.specs.declared.op.Op.TheVariants as op
 use Rattle.op_forest.specs.declared.sym.Sym.{Sym}
 use Rattle.op_forest.specs.declared.sym.Sym.TheVariants as sym
-use Rattle.op_forest.specs.Nodes.{Head, Node, Leaf, One, Two, head_of}
-use Rattle.op_forest.specs.Worlds.{World, Point, Move, Next, To, End, Effect, then_do, goes, Outcome, Finished, Going, Failed}
+use Rattle.op_forest.specs.Nodes.{Node, Leaf, One, Two, head_of}
+use Rattle.op_forest.specs.Worlds.{Point, Move, Next, To, End, Effect, then_do, goes, Outcome, Finished, Going, Failed}
 use Rattle.op_forest.specs.Rows.{Setting, does}
 
 abbrev pub evaluate : Setting → Node → Point → Effect

@@ -1,11 +1,11 @@
 -- Functions and programs of forests, and what a call of each does around its body.
-use Rattle.std.specs.Prelude.{ℕ, zero, suc, ◌+◌, ◌%◌, ◌==◌, Bool, true, false, Option, Some, None, List, [], ◌∷◌, ◌++◌, map, length, replicate, if◌then◌else◌}
+use Rattle.std.specs.Prelude.{ℕ, zero, suc, ◌%◌, ◌==◌, true, false, Option, Some, None, List, [], ◌∷◌, ◌++◌, map, length, replicate, if◌then◌else◌}
 use Rattle.lcc_base.specs.declared.order.Order.{Order}
 use Rattle.op_forest.specs.declared.frame.Slot.{Slot}
 use Rattle.op_forest.specs.Nodes.{Node}
-use Rattle.op_forest.specs.Words.{Word, Number, Function, Byte, unknown, unknown_byte, bytes_of}
-use Rattle.op_forest.specs.Traces.{Event, Wrote, Opened, Closed}
-use Rattle.op_forest.specs.Worlds.{Object, World, with_event, Point, at_world, Next, Effect, Went, Exits, Unfinished, Stuck, Outcome, Finished, Exited, Going, Failed}
+use Rattle.op_forest.specs.Words.{Word, Number, Byte, unknown, unknown_byte, bytes_of}
+use Rattle.op_forest.specs.Traces.{Wrote, Opened, Closed}
+use Rattle.op_forest.specs.Worlds.{Object, World, with_event, Point, at_world, Effect, Exits, Unfinished, Stuck, Outcome, Finished, Exited, Going, Failed}
 use Rattle.op_forest.specs.Rows.{Home, Setting, gives}
 
 -- a function: the number of its parameter words, its frame and its roots

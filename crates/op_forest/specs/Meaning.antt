@@ -1,11 +1,11 @@
 -- Forest meaning: a program's calls with so many root steps for all of them together. A label is a root step as any
 -- other root, and so is the end of the roots.
 -- Source: Fraser and Hanson, A Retargetable C Compiler, chapter 5.
-use Rattle.std.specs.Prelude.{ℕ, zero, suc, List, [], ◌∷◌, Option, Some, None}
+use Rattle.std.specs.Prelude.{ℕ, zero, suc, List, [], ◌∷◌, None}
 use Rattle.op_forest.specs.Nodes.{Node}
-use Rattle.op_forest.specs.Worlds.{World, Point, Effect, Unfinished, Stuck, Outcome, Finished, Going}
+use Rattle.op_forest.specs.Worlds.{World, Point, Effect, Unfinished, Outcome, Finished, Going}
 use Rattle.op_forest.specs.Rows.{Setting}
-use Rattle.op_forest.specs.Bodies.{act, body_run}
+use Rattle.op_forest.specs.Bodies.{act}
 use Rattle.op_forest.specs.Functions.{Program, call_by}
 
 -- one of the steps that are left is taken, where there is one

@@ -1,5 +1,5 @@
 -- A node of its parts.
-use Rattle.std.specs.Prelude.{ℕ, ◌+◌, ◌≤◌, Option, ℤ, List, [], ◌∷◌, length}
+use Rattle.std.specs.Prelude.{◌+◌, ◌≤◌, Option, ℤ, List, [], ◌∷◌, length}
 use Rattle.std.proofs.Common.{arith}
 use denote.Param.Weighed.{most}
 use Rattle.op_forest.specs.declared.operator.Operator.{Operator}

@@ -1,6 +1,6 @@
 -- The 69 operators, in the order of their numbers from 1, and what is a value of its parts as numbers.
 -- Source: Fraser and Hanson, A Retargetable C Compiler, chapter 5, without floating point.
-use Rattle.std.specs.Prelude.{◌≡◌, ℕ, refl}
+use Rattle.std.specs.Prelude.{ℕ}
 use Rattle.op_forest.specs.declared.op.Op.{Op}
 use Rattle.op_forest.specs.declared.op.Op.TheVariants.{Cnst, Addrg, Addrf, Addrl, Indir, Asgn, Arg, Call, Ret, Cvc, Cvs, Cvi, Cvu, Cvp, Neg, Bcom, Add, Sub, Mul, Div, Mod, Lsh, Rsh, Band, Bor, Bxor, Eq, Ne, Lt, Le, Gt, Ge, Jump, Label}
 use Rattle.op_forest.specs.declared.suffix.Suffix.{Suffix}

@@ -1,6 +1,6 @@
 -- What each operator does with its operands' values: a row an operator. An operator without a row has no meaning here.
 -- Source: Fraser and Hanson, A Retargetable C Compiler, chapter 5; numbers as in ISO/IEC 9899:1990, 6.3, modulo 2^32.
-use Rattle.std.specs.Prelude.{ℕ, ◌+◌, ◌-◌, ◌*◌, ◌%◌, ◌^◌, ◌==◌, zero, ℤ, pos, Option, Some, None, List, [], ◌∷◌, ◌++◌, if◌then◌else◌}
+use Rattle.std.specs.Prelude.{ℕ, ◌+◌, ◌-◌, ◌*◌, ◌%◌, ◌^◌, zero, ℤ, pos, Option, Some, None, List, [], ◌∷◌, ◌++◌}
 use Rattle.std.specs.Int.{int_rem_euclid}
 use Rattle.std.specs.Int.RustNames.{unsigned_abs}
 use Rattle.op_forest.specs.declared.op.Op.{Op}
@@ -11,8 +11,8 @@ use Rattle.op_forest.specs.declared.sym.Sym.{Sym}
 use Rattle.op_forest.specs.declared.sym.Sym.TheVariants as sym
 use Rattle.op_forest.specs.declared.frame.Slot.{Slot}
 use Rattle.op_forest.specs.Nodes.{Head}
-use Rattle.op_forest.specs.Words.{Word, Number, Pointer, Function, Label, Partly}
-use Rattle.op_forest.specs.Worlds.{World, Point, at_world, Move, Next, End, Effect, Went, Stuck, then_do}
+use Rattle.op_forest.specs.Words.{Word, Number, Pointer, Function}
+use Rattle.op_forest.specs.Worlds.{Point, at_world, Next, End, Effect, Went, Stuck, then_do}
 
 -- The function whose body runs: its name, its frame's slots, which are the objects from `first` on, and the number of
 -- its parameter words, which are the objects behind these.

@@ -1,7 +1,7 @@
 -- Well-formed roots: each node has the operands, the symbol and the constant that its operator needs, and each
 -- argument is taken by a call.
 -- Source: Fraser and Hanson, A Retargetable C Compiler, chapter 5.
-use Rattle.std.specs.Prelude.{◌≡◌, ◌≢◌, ◌≤◌, ◌⊎◌, ℤ, Option, IsSomeAnd, IsTrue, IsFalse, FitsSigned, List, [], ◌∷◌, length}
+use Rattle.std.specs.Prelude.{◌≡◌, ◌≢◌, ◌≤◌, ◌⊎◌, ℤ, pos, Option, IsSomeAnd, IsTrue, IsFalse, FitsSigned, List, [], ◌∷◌, length}
 use Rattle.std.specs.Int.{w32}
 use Rattle.op_forest.specs.declared.op.Op.{Op}
 use Rattle.op_forest.specs.declared.op.Op.TheVariants as op
@@ -34,13 +34,14 @@ AreOperands [] (k ∷ ks) = ⊥
 AreOperands (s ∷ ss) [] = ⊥
 AreOperands (s ∷ ss) (k ∷ ks) = IsOperand s k × AreOperands ss ks
 
+-- a name itself: no instruction so far has a place behind a name
 abbrev pub IsGlobal : Sym → Type 0
-IsGlobal (sym.Global name offset) = Unit {0}
+IsGlobal (sym.Global name offset) = offset ≡ pos 0
 IsGlobal x = ⊥
 
 -- the symbol or the constant that an operator needs
 abbrev pub HasPart : Op → Suffix → Sym → Option ℤ → Type 0
-HasPart op.Cnst I x value = IsSomeAnd value (λ z. FitsSigned w32 z)
+HasPart op.Cnst I x value = (x ≡ sym.Nothing) × IsSomeAnd value (λ z. FitsSigned w32 z)
 HasPart op.Addrg P x value = IsGlobal x
 HasPart o s x value = Unit {0}
 
@@ -69,9 +70,11 @@ abbrev pub IsTaken : List Node → Type 0
 IsTaken [] = ⊥
 IsTaken (t ∷ ts) = IsTakenFrom t (IsTaken ts)
 
--- a root of the kinds that its operators need, which is taken if it is an argument
+-- a root of the kinds that its operators need, which is taken if it is an argument; no rule so far adds code for an
+-- address alone
 pub record IsFit (t : Node) (taken : Type 0) : Type 0 where
   pub kinds : HasKinds t
+  pub statement : op_of t ≢ op.Addrg
   pub argument : op_of t ≡ op.Arg → taken
 
 -- a good root, before these roots

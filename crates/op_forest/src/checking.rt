@@ -54,9 +54,10 @@ fn root_fault(root: usize, tree: &Tree, is_taken: bool) -> Option<ForestFault>
     None
 }
 
-/// Whether the operators have what they need, and whether the root is taken if it is an argument.
+/// Whether the operators have what they need, the root is no address alone, and it is taken if it is
+/// an argument.
 fn is_fit(tree: &Tree, is_taken: bool) -> bool
     ensures { IsTrue result ↔ IsFit tree.now (IsTrue is_taken) }
 {
-    has_kinds(tree) && (tree.operator.op != Op::Arg || is_taken)
+    has_kinds(tree) && tree.operator.op != Op::Addrg && (tree.operator.op != Op::Arg || is_taken)
 }

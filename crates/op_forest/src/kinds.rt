@@ -40,11 +40,11 @@ fn has_part(tree: &Tree) -> bool
     ensures { IsTrue result ↔ HasPart (op_of tree.now) (suffix_of tree.now) (head_of tree.now).sym (head_of tree.now).value }
 {
     match (tree.operator.op, tree.operator.suffix) {
-        (Op::Cnst, Suffix::I) => match tree.value {
-            Some(value) => LEAST_INT <= value && value <= MOST_INT,
-            None => false,
+        (Op::Cnst, Suffix::I) => match (tree.sym, tree.value) {
+            (Sym::Nothing, Some(value)) => LEAST_INT <= value && value <= MOST_INT,
+            _ => false,
         },
-        (Op::Addrg, Suffix::P) => matches!(tree.sym, Sym::Global { .. }),
+        (Op::Addrg, Suffix::P) => matches!(tree.sym, Sym::Global { name: _, offset: 0 }),
         _ => true,
     }
 }

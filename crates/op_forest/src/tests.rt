@@ -19,6 +19,8 @@ enum Part {
 
 const NAME: Sym = Sym::Global { name: 7, offset: 0 };
 
+const BEHIND: Sym = Sym::Global { name: 7, offset: 4 };
+
 const ADDRESS: Part = Part::With(Op::Addrg, Suffix::P, NAME, None);
 
 const FIVE: Part = Part::With(Op::Cnst, Suffix::I, Sym::Nothing, Some(5));
@@ -98,14 +100,13 @@ fn good_forests(rt: HostRuntime) -> Result<(), Fail> {
         [].as_slice(),
         [FIVE, RET].as_slice(),
         [FIVE, NEG, FIVE, ADD, FIVE, SUB, FIVE, MUL].as_slice(),
-        [ADDRESS].as_slice(),
         [ADDRESS, CALL].as_slice(),
         // The ints.
         [Part::With(Op::Cnst, Suffix::I, Sym::Nothing, Some(2_147_483_647))].as_slice(),
         [Part::With(Op::Cnst, Suffix::I, Sym::Nothing, Some(-2_147_483_648))].as_slice(),
         // A symbol or a constant that no operator asks for.
         [Part::With(Op::Cnst, Suffix::I, NAME, Some(0))].as_slice(),
-        [Part::With(Op::Addrg, Suffix::P, NAME, Some(0))].as_slice(),
+        [Part::With(Op::Addrg, Suffix::P, NAME, Some(0)), CALL].as_slice(),
         // Arguments and the call that takes them.
         [FIVE, ARG, FIVE, ARG, ADDRESS, CALL].as_slice(),
         [FIVE, ARG, FIVE, ADDRESS, CALL, RET].as_slice(),
@@ -218,6 +219,14 @@ fn kinds(rt: HostRuntime) -> Result<(), Fail> {
             .as_slice(),
             0,
         ),
+        // A place behind a name.
+        (
+            [Part::With(Op::Addrg, Suffix::P, BEHIND, None), CALL].as_slice(),
+            0,
+        ),
+        // An address alone.
+        ([ADDRESS].as_slice(), 0),
+        ([FIVE, RET, ADDRESS, FIVE, RET].as_slice(), 1),
         // No call takes an argument.
         ([FIVE, ARG].as_slice(), 0),
         ([ADDRESS, CALL, ARG].as_slice(), 0),

@@ -1,0 +1,28 @@
+-- The shipped description of MIPS as one fact, and that it derives each root of a well-formed forest.
+-- Source: Fraser and Hanson, A Retargetable C Compiler, chapters 14 and 16.
+use Rattle.std.specs.Prelude.{◌≡◌, ◌≢◌, List, All, map}
+use Rattle.lburg_grammar.specs.Derivation.{MDerivation, Derives}
+use Rattle.lburg_grammar.specs.Description.{MDescription}
+use Rattle.lburg_grammar.specs.Best.{HasNone}
+use Rattle.op_forest.specs.declared.op.Op.TheVariants as op
+use Rattle.op_forest.specs.Nodes.{Node, tree_of}
+use Rattle.op_forest.specs.WellFormed.{IsWellFormed, HasKinds, op_of}
+use Rattle.vcode.specs.RuleSets.{row_of}
+use Rattle.mips_rules.specs.MipsRows.{nonterminals, stmt, rows, costs}
+use Rattle.mips_rules.specs.MipsTerminals.{terminals}
+
+-- the terminals, the nonterminals, the start symbol and the rules with their costs are those of the tables
+pub record IsShipped (d : MDescription) : Type 0 where
+  pub terminals : d.terminals ≡ terminals
+  pub nonterminals : d.nonterminals ≡ nonterminals
+  pub start : d.start ≡ stmt
+  pub rows : map row_of d.rules ≡ rows
+  pub costs : map (λ r. r.cost) d.rules ≡ costs
+
+-- the start symbol derives each tree that is no address alone and whose operators have what they need
+abbrev pub DerivesStatements : MDescription → Type 0
+DerivesStatements d = (t : Node) → HasKinds t → op_of t ≢ op.Addrg → (x : MDerivation) × Derives d.rules d.start (tree_of t) x
+
+-- each root of a well-formed forest has a derivation
+abbrev pub CoversRoots : MDescription → Type 0
+CoversRoots d = (roots : List Node) → IsWellFormed roots → All (λ t. HasNone d (tree_of t) → ⊥) roots
