@@ -16,3 +16,4 @@ pub mod Making
 pub mod MadeProgram
 pub mod Written
 pub mod Printed
+pub mod BlankLines

@@ -24,7 +24,7 @@ abbrev pub Fits : List Spaced → Type 0
 Fits [] = Unit {0}
 Fits (t ∷ ts) = IsToken t.tok × Ends t.tok (written ts) × Fits ts
 
-next_of : (t : Tok) (rest : List ℕ) → IsToken t → Ends t rest → IsNext (text_of t ++ rest) t rest
+pub next_of : (t : Tok) (rest : List ℕ) → IsToken t → Ends t rest → IsNext (text_of t ++ rest) t rest
 next_of (Word n) rest p e = word_is_next n rest p e
 next_of (Number n) rest p e = number_is_next n rest p.0 p.1 e
 next_of (Minus n) rest p e = minus_is_next n rest p.0 p.1 e
@@ -44,7 +44,7 @@ symbol_feed b h = grind (arith, nat_tests)
 pub digit_symbol : (b : ℕ) → in_class Digit b ≡ true → in_class Symbol b ≡ true
 digit_symbol b h = grind (arith, nat_tests)
 
-starts_of : (t : Tok) (rest : List ℕ) → IsToken t → Starts (text_of t ++ rest)
+pub starts_of : (t : Tok) (rest : List ℕ) → IsToken t → Starts (text_of t ++ rest)
 starts_of (Word []) rest p = absurd p
 starts_of (Word (b ∷ n)) rest p = (symbol_space b p.1.0, symbol_hash b p.1.0)
 starts_of (Number []) rest p = absurd p.0

@@ -1,5 +1,5 @@
 -- A steady operator's values depend on its operands' values alone, and so does what a pattern of such operators gives.
-use Rattle.std.proofs.Common.{◌≡◌, ℕ, zero, ◌+◌, true, ℤ, pos, Option, Some, None, List, [], ◌∷◌, refl, sym}
+use Rattle.std.proofs.Common.{◌≡◌, ℕ, true, ℤ, Option, Some, None, List, [], ◌∷◌, refl}
 use Rattle.std.proofs.lemmas.Bool.{false≢true}
 use Rattle.op_forest.specs.declared.op.Op.{Op}
 use Rattle.op_forest.specs.declared.op.Op.TheVariants as op
@@ -9,7 +9,7 @@ use Rattle.op_forest.specs.declared.sym.Sym.{Sym}
 use Rattle.op_forest.specs.declared.sym.Sym.TheVariants as sym
 use Rattle.op_forest.specs.Operators.{number}
 use Rattle.op_forest.specs.Nodes.{Head, number_of}
-use Rattle.op_forest.specs.Words.{Word, Number, Pointer, Function}
+use Rattle.op_forest.specs.Words.{Word, Number}
 use Rattle.op_forest.specs.Worlds.{Point, Next, Effect, Went, Stuck}
 use Rattle.op_forest.specs.Rows.{Setting, bits_of, constant, value_at, given, address_of, of_one, of_two, row, does}
 use Rattle.vcode.specs.Patterns.{is_steady}

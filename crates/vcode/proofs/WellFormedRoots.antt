@@ -1,16 +1,15 @@
 -- Labels and moves of control stand at the roots of a well-formed forest alone, as no operand is one.
-use Rattle.std.proofs.Common.{◌≡◌, ℕ, zero, suc, ◌<◌, List, [], ◌∷◌, length, All, refl, arith}
+use Rattle.std.proofs.Common.{◌≡◌, zero, suc, List, [], ◌∷◌, All, refl, arith}
 use Rattle.std.proofs.lemmas.Bool.{both_ways}
-use Rattle.std.specs.Prelude.{◌||◌, Bool, true, false, IsTrue, slice_index_or}
+use Rattle.std.specs.Prelude.{◌||◌, false, IsTrue}
 use Rattle.op_forest.specs.declared.op.Op.{Op}
-use Rattle.op_forest.specs.declared.op.Op.TheVariants.{Cnst, Addrg, Addrf, Addrl, Indir, Asgn, Arg, Call, Ret, Cvc, Cvs, Cvi, Cvu, Cvp, Neg, Bcom, Add, Sub, Mul, Div, Mod, Lsh, Rsh, Band, Bor, Bxor, Eq, Ne, Lt, Le, Gt, Ge, Jump, Label}
+use Rattle.op_forest.specs.declared.op.Op.TheVariants.{Ret, Eq, Ne, Lt, Le, Gt, Ge, Jump, Label}
 use Rattle.op_forest.specs.declared.suffix.Suffix.{Suffix}
-use Rattle.op_forest.specs.Nodes.{Head, Node, Leaf, One, Two}
-use Rattle.op_forest.specs.Signature.{takes, gives_value, has_rule}
-use Rattle.op_forest.specs.EachNode.{AtEachNode}
-use Rattle.op_forest.specs.WellFormed.{op_of, suffix_of, IsOperand, AreOperands, HasKind, HasKinds, IsWellFormed}
+use Rattle.op_forest.specs.Nodes.{Node, Leaf, One, Two}
+use Rattle.op_forest.specs.Signature.{gives_value, has_rule}
+use Rattle.op_forest.specs.WellFormed.{op_of, suffix_of, IsOperand, AreOperands, HasKinds, IsWellFormed}
 use Rattle.vcode.specs.RuleSets.{is_label, is_move}
-use Rattle.vcode.specs.Roots.{IsStill, AllStill, IsQuiet}
+use Rattle.vcode.specs.Roots.{AllStill, IsQuiet}
 
 -- an operator that gives a value is neither a label nor a move of control
 gives_still : (o : Op) (s : Suffix) → IsTrue (gives_value o s) → (is_label o || is_move o) ≡ false

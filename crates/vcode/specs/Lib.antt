@@ -8,3 +8,4 @@ pub mod Emission
 pub mod Templates
 pub mod Adding
 pub mod Roots
+pub mod Maps

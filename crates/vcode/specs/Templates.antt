@@ -1,12 +1,12 @@
 -- Templates: what a rule's template says once its marks are filled in, and which texts and instruction lines the
 -- templates of derivations give.
 -- Source: Fraser and Hanson, A Retargetable C Compiler, chapter 13 (templates) and chapter 14.
-use Rattle.std.specs.Prelude.{◌≡◌, ℕ, ◌+◌, ◌-◌, ◌<◌, ◌==◌, ◌&&◌, nat_le, List, [], ◌∷◌, ◌++◌, Bool, true, false, Option, Some, None, ℤ, pos, negsuc, decimal, get_or, slice_get, if◌then◌else◌}
+use Rattle.std.specs.Prelude.{◌≡◌, ℕ, ◌+◌, ◌-◌, ◌<◌, ◌==◌, ◌&&◌, List, [], ◌∷◌, ◌++◌, Bool, true, false, Option, Some, None, ℤ, pos, negsuc, decimal, get_or, slice_get, if◌then◌else◌}
 use Rattle.lburg_grammar.specs.Derivation.{MDerivation, Apply}
 use Rattle.lburg_grammar.specs.DerivationOf.{parts_of}
 use Rattle.op_forest.specs.declared.sym.Sym.{Sym}
 use Rattle.op_forest.specs.declared.sym.Sym.TheVariants as sym
-use Rattle.op_forest.specs.Nodes.{Head, Node, head_of}
+use Rattle.op_forest.specs.Nodes.{Node, head_of}
 use Rattle.vcode.specs.Patterns.{Meeting, leaves_at}
 use Rattle.vcode.specs.RuleSets.{Row}
 

@@ -1,7 +1,7 @@
 -- What virtual code keeps: it uses no spill slot, and it is cut into stretches, in each of which a virtual register is
 -- read only after it was written there; a label stands first in its stretch, and what moves control last.
 -- Source: Fraser and Hanson, A Retargetable C Compiler, chapter 15 (basic blocks and virtual registers).
-use Rattle.std.specs.Prelude.{◌≡◌, ℕ, zero, suc, ◌+◌, ◌<◌, ◌≤◌, ◌^◌, ◌==◌, ◌||◌, ◌&&◌, not, nat_le, List, [], ◌∷◌, ◌++◌, Bool, true, false, length, All, IsTrue, Some, None, Option, if◌then◌else◌}
+use Rattle.std.specs.Prelude.{◌≡◌, ℕ, ◌+◌, ◌<◌, ◌≤◌, ◌^◌, ◌==◌, ◌||◌, not, nat_le, List, [], ◌∷◌, ◌++◌, Bool, false, length, All, IsTrue, if◌then◌else◌}
 use Rattle.vcode.specs.declared.operand.Operand.{Operand}
 use Rattle.vcode.specs.Machines.{Machine, Kind, Plain, Mark, Load, Store, Copy}
 
