@@ -1,0 +1,6 @@
+pub mod FirstForest
+pub mod Size
+pub mod Meaning
+pub mod WellFormedRoots
+pub mod Small
+pub mod Running
