@@ -1,0 +1,75 @@
+-- The instructions of a function's roots, from their allocated code.
+use Rattle.std.proofs.Common.{◌≡◌, IfOk, Result, Ok, Err, ℕ, ◌+◌, ◌*◌, ◌≤◌, List, length, sum_by, All, sym, ap, ◌∙◌, subst, arith}
+use Rattle.asm_text.specs.declared.instruction.Instruction.{Instruction}
+use Rattle.op_forest.specs.Nodes.{Node, nodes, head_of}
+use Rattle.op_forest.specs.EachNode.{AtEachNode}
+use Rattle.op_forest.specs.WellFormed.{IsWellFormed}
+use Rattle.op_forest.specs.Lowered.{LoweredUnit, IsKnown, IsUnitName}
+use Rattle.vcode.specs.VirtualCode.{MAllocated}
+use Rattle.mips_rules.specs.declared.instr.Instr.{Instr}
+use Rattle.mips_target.specs.declared.layout.Layout.{Layout}
+use Rattle.mips_target.specs.FunctionCode.{argument_words, function_code}
+use Rattle.mips_target.specs.Sizes.{Fits}
+use Rattle.mips_target.specs.Emits.{Emits}
+use Rattle.mips_target.specs.Generated.{allotted_code, layout_of, IsAllocated, IsCodeOf}
+use Rattle.mips_target.proofs.Emission.{code_slots, allotted_length, argument_words_few, code_fits, code_names_among}
+use Rattle.mips_target.proofs.EmittedLines.{code_emits}
+use Rattle.mips_target.proofs.Lengths.{code_small, frame_small}
+
+-- the layout of allocated code
+abbrev pub layout_for : MAllocated Instr → Layout
+layout_for c = record { arguments = argument_words c.code; slots = c.slots }
+
+module _ (roots : List Node) (c : MAllocated Instr) (a : IsAllocated roots c) where
+  same_layout : layout_of a.virtual ≡ layout_for c
+  same_layout = (λ i. record { arguments = argument_words (sym a.code i); slots = sym a.slots i })
+
+  pub length_few : length c.code ≤ 4 * sum_by nodes roots
+  length_few = let e = ap length a.code in let f = allotted_length roots a.selected.derivations a.virtual a.selected.linearised in omega (arith, e, f)
+
+  pub words_few : argument_words c.code + c.slots ≤ 4 + 2 * sum_by nodes roots
+  words_few =
+      let e = ap argument_words a.code in
+      let f = argument_words_few roots a.selected.derivations a.virtual a.selected.linearised in
+      let g = code_slots roots a.selected.derivations a.virtual a.selected.linearised in
+      let h = a.slots in
+      omega (arith, e, f, g, h)
+
+  pub fits : (u : LoweredUnit) → IsWellFormed roots → All (AtEachNode (λ t. IsKnown u roots (head_of t).sym)) roots → Fits u.names (layout_for c) 0 c.code
+  fits u w k =
+      subst (Fits u.names (layout_for c) 0) (sym a.code) (subst (λ l. Fits u.names l 0 (allotted_code a.virtual)) same_layout (code_fits roots a.selected.derivations a.virtual a.selected.linearised u w k))
+
+  -- the instructions are those of a function of the roots
+  pub is_code : (u : LoweredUnit) → IsWellFormed roots → All IsUnitName u.names → All (AtEachNode (λ t. IsKnown u roots (head_of t).sym)) roots → (code : List Instruction) → code ≡ function_code u.names (layout_for c) c.code → IsCodeOf u.names roots code
+  is_code u w n k code made =
+      let v = a.virtual in
+      let s = a.selected in
+      let is : code ≡ function_code u.names (layout_of v) (allotted_code v) = made ∙ ap (λ l. function_code u.names l c.code) (sym same_layout) ∙ ap (λ is. function_code u.names (layout_of v) is) a.code in
+      let long = allotted_length roots s.derivations v s.linearised in
+      let short = code_small u.names (layout_of v) (allotted_code v) (sum_by nodes roots) long in
+      let e = ap length is in
+      record {
+        virtual = v;
+        selected = s;
+        made = is;
+        emits = subst (Emits u.names (layout_of v) s.derivations roots) (sym is) (code_emits u roots s.derivations v s.linearised s.description s.shipped s.best w k n);
+        fits = code_fits roots s.derivations v s.linearised u w k;
+        registers = code_names_among roots s.derivations v s.linearised;
+        frame = frame_small (layout_of v) (sum_by nodes roots) (argument_words_few roots s.derivations v s.linearised) (code_slots roots s.derivations v s.linearised);
+        short = omega (arith, short, e);
+      }
+
+  pub are_code : {E : Type 0} (u : LoweredUnit) (result : Result (List Instruction) E) → IsWellFormed roots → All IsUnitName u.names → All (AtEachNode (λ t. IsKnown u roots (head_of t).sym)) roots → IfOk result (λ code. code ≡ function_code u.names (layout_for c) c.code) → IfOk result (λ code. IsCodeOf u.names roots code)
+  are_code u (Ok code) w n k made = is_code u w n k code made
+  are_code u (Err e) w n k made = tt
+
+-- a layout of these numbers
+pub layout_is : (c : MAllocated Instr) (arguments slots : ℕ) (code : List Instr) → code ≡ c.code → arguments ≡ argument_words code → slots ≡ c.slots → record { arguments = arguments; slots = slots } ≡ layout_for c
+layout_is c arguments slots code e a s = λ i. record { arguments = (a ∙ ap argument_words e) i; slots = s i }
+
+pub fits_same : (names names' : List (List ℕ)) (l l' : Layout) (code code' : List Instr) → names' ≡ names → l' ≡ l → code' ≡ code → Fits names l 0 code → Fits names' l' 0 code'
+fits_same names names' l l' code code' n e c h = subst (λ x. Fits x l' 0 code') (sym n) (subst (λ x. Fits names x 0 code') (sym e) (subst (λ x. Fits names l 0 x) (sym c) h))
+
+pub made_same : {E : Type 0} (names names' : List (List ℕ)) (l l' : Layout) (code code' : List Instr) (result : Result (List Instruction) E) → names' ≡ names → l' ≡ l → code' ≡ code → IfOk result (λ is. is ≡ function_code names' l' code') → IfOk result (λ is. is ≡ function_code names l code)
+made_same names names' l l' code code' (Ok is) n e c h = h ∙ ap (λ x. function_code x l' code') n ∙ ap (λ x. function_code names x code') e ∙ ap (λ x. function_code names l x) c
+made_same names names' l l' code code' (Err x) n e c h = tt

@@ -1,0 +1,82 @@
+-- A function's instructions, but for those that keep its frame, are the expanded templates of its roots' derivations.
+use Rattle.std.proofs.Common.{◌≡◌, ◌<◌, List, decimal, length, map, All, Some, None, Option, sym, ap, ◌∙◌, subst, arith}
+use Rattle.std.specs.Prelude.{ℤ, FitsSigned, IsSomeAnd}
+use Rattle.std.specs.Int.{w32}
+use Rattle.std.specs.List.{AllZip, AllByRecursion}
+use Rattle.std.proofs.lemmas.List.Elements.{recursion_from_All}
+use Rattle.lburg_grammar.specs.Derivation.{MDerivation}
+use Rattle.lburg_grammar.specs.Description.{MDescription}
+use Rattle.tree_labeller.specs.AreBest.{AreBest}
+use Rattle.op_forest.specs.declared.op.Op.TheVariants as op
+use Rattle.op_forest.specs.declared.suffix.Suffix.TheVariants as suffix
+use Rattle.op_forest.specs.declared.sym.Sym.{Sym}
+use Rattle.op_forest.specs.declared.sym.Sym.TheVariants as symbol
+use Rattle.op_forest.specs.Nodes.{Node, head_of, tree_of}
+use Rattle.op_forest.specs.EachNode.{AtEachNode}
+use Rattle.op_forest.specs.WellFormed.{op_of, suffix_of, IsGlobal, HasPart, HasKind, HasKinds, IsWellFormed}
+use Rattle.op_forest.specs.Lowered.{LoweredUnit, IsKnown, IsUnitName}
+use Rattle.vcode.specs.VirtualCode.{MCode}
+use Rattle.vcode.specs.Emission.{IsLinearised}
+use Rattle.mips_rules.specs.declared.instr.Instr.{Instr}
+use Rattle.mips_rules.specs.Mips.{mips}
+use Rattle.mips_rules.specs.MipsRules.{mips_rules}
+use Rattle.mips_rules.specs.OperatorNumbers.{is_cnsti, is_addrgp}
+use Rattle.mips_rules.specs.Shipped.{IsShipped}
+use Rattle.mips_target.specs.Frame.{frame_size}
+use Rattle.mips_target.specs.FunctionCode.{function_code}
+use Rattle.mips_target.specs.Sizes.{Fits}
+use Rattle.mips_target.specs.Emits.{Says, Emits, from_templates}
+use Rattle.mips_target.specs.Generated.{allotted_code, layout_of}
+use Rattle.mips_target.proofs.PlainCode.{plain_all, code_plain}
+use Rattle.mips_target.proofs.Deriving.{roots_derived}
+use Rattle.mips_target.proofs.Writing.{IsConstant, IsPlainName, HasText, roots_written}
+use Rattle.mips_target.proofs.Emission.{each_both, each_root, kinds_of, is_global, code_named, code_fits, allotted_put}
+
+module _ (u : LoweredUnit) (roots : List Node) where
+  abbrev IsKnownNode : Node → Type 0
+  IsKnownNode t = IsKnown u roots (head_of t).sym
+
+  constant_alone : (x : Sym) (v : Option ℤ) → x ≡ symbol.Nothing → IsSomeAnd v (λ z. FitsSigned w32 z) → IsConstant x v
+  constant_alone symbol.Nothing None e h = absurd h
+  constant_alone symbol.Nothing (Some z) e h = h
+  constant_alone (symbol.Global name offset) v e h = absurd cc
+  constant_alone (symbol.Label l) v e h = absurd cc
+  constant_alone (symbol.Block size align) v e h = absurd cc
+
+  plain_name : (x : Sym) → IsGlobal x → IsKnown u roots x → IsPlainName u.names x
+  plain_name symbol.Nothing g k = absurd g
+  plain_name (symbol.Global name offset) g k = (g, k)
+  plain_name (symbol.Label l) g k = absurd g
+  plain_name (symbol.Block size align) g k = absurd g
+
+  is_constant : (t : Node) → HasKind t → (op_of t ≡ op.Cnst) × (suffix_of t ≡ suffix.I) → ((head_of t).sym ≡ symbol.Nothing) × IsSomeAnd (head_of t).value (λ z. FitsSigned w32 z)
+  is_constant t h e =
+      subst (λ s. HasPart op.Cnst s (head_of t).sym (head_of t).value) e.1 (subst (λ o. HasPart o (suffix_of t) (head_of t).sym (head_of t).value) e.0 h.part)
+
+  has_text : (t : Node) → HasKind t → IsKnownNode t → HasText u.names t
+  has_text t h k = (
+    (λ e. let c = is_constant t h (is_cnsti (head_of t) e) in constant_alone (head_of t).sym (head_of t).value c.0 c.1),
+    (λ e. plain_name (head_of t).sym (is_global t h (is_addrgp (head_of t) e)) k),
+  )
+
+  roots_text : IsWellFormed roots → All (AtEachNode IsKnownNode) roots → AllByRecursion (AtEachNode (HasText u.names)) roots
+  roots_text w k =
+      each_root HasKinds (AtEachNode IsKnownNode) (AtEachNode (HasText u.names)) (each_both HasKind IsKnownNode (HasText u.names) has_text) roots (kinds_of roots w) (recursion_from_All (AtEachNode IsKnownNode) roots k)
+
+  module _ (derivations : List MDerivation) (c : MCode Instr) (h : IsLinearised mips mips_rules roots derivations c) where
+    -- the instructions of templates are those that the rules add, over the temporaries
+    templates_plain : IsWellFormed roots → All (AtEachNode IsKnownNode) roots → from_templates (layout_of c) (function_code u.names (layout_of c) (allotted_code c)) ≡ plain_all u.names c.code
+    templates_plain w k =
+        let put = allotted_put roots derivations c h in
+        ap (λ a. from_templates (layout_of c) (function_code u.names (layout_of c) a)) put
+        ∙ code_plain u.names (layout_of c) (λ name. name < length u.names) h.next c.code (omega arith) (code_named roots derivations c h u w k)
+        (subst (Fits u.names (layout_of c) 0) put (code_fits roots derivations c h u w k))
+
+    pub code_emits : (d : MDescription) → IsShipped d → AreBest d (map tree_of roots) derivations → IsWellFormed roots → All (AtEachNode (λ t. IsKnown u roots (head_of t).sym)) roots → All IsUnitName u.names → Emits u.names (layout_of c) derivations roots (function_code u.names (layout_of c) (allotted_code c))
+    code_emits d shipped best w k names =
+        let written = roots_written u.names (decimal (frame_size (layout_of c))) names d.rules shipped.rows d.start h.emits (roots_derived d roots derivations best) (roots_text w k) in
+        record {
+          texts = written.texts;
+          writes = written.writes;
+          say = subst (AllZip Says written.texts) (ap (plain_all u.names) (sym h.code) ∙ sym (templates_plain w k)) written.say;
+        }

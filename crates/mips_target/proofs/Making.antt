@@ -1,0 +1,203 @@
+-- Generated lines make a program: each function's name is a label of its own, and each name that is called is one of
+-- them or putchar.
+use Rattle.std.proofs.Common.{◌≡◌, ℕ, zero, suc, ◌+◌, ◌<◌, List, [], ◌∷◌, ◌++◌, length, map, get_or, codes, Some, refl, sym, ap, ◌∙◌, subst, inl, inr, arith}
+use Rattle.std.specs.Prelude.{All, slice_get, option_map}
+use Rattle.std.specs.List.{AllZip}
+use Rattle.std.proofs.lemmas.List.Elements.{All-get_or}
+use Rattle.std.proofs.lemmas.Option.{slice_get-map, slice_get-get_or, slice_get_read, slice_get_within, get_or_from_slice_get, none-some, same_Some}
+use Rattle.lburg_grammar.specs.Description.{AreDistinct}
+use Rattle.asm_text.specs.declared.instruction.Instruction.{Instruction}
+use Rattle.asm_text.specs.declared.line.Line.{Line}
+use Rattle.asm_text.specs.declared.line.Statement.TheVariants as statement
+use Rattle.asm_text.specs.declared.line.Directive.TheVariants as directive
+use Rattle.asm_text.specs.declared.program.Program.{Program}
+use Rattle.asm_text.specs.declared.program.Label.{Label}
+use Rattle.asm_text.specs.Program.{code_of, code_in, numbers_in, label_at, labels_from, names_of, names_in, AreDistinct as HaveDistinctNames, IsKnown, Makes}
+use Rattle.op_forest.specs.declared.lowered.LoweredFunction.{LoweredFunction}
+use Rattle.op_forest.specs.Nodes.{head_of}
+use Rattle.op_forest.specs.EachNode.{AtEachNode}
+use Rattle.op_forest.specs.Lowered.{LoweredUnit, IsFunctionOf, IsLowered}
+use Rattle.op_forest.specs.WellFormed.{IsWellFormed}
+use Rattle.mips_rules.specs.declared.instr.Instr.{Instr}
+use Rattle.mips_rules.specs.declared.instr.Instr.TheVariants as instr
+use Rattle.mips_target.specs.UnitLines.{Item, Coded, plain, numbered, instruction_items, items_of, unit_lines}
+use Rattle.mips_target.specs.Generated.{layout_of, allotted_code, IsFunction, IsGenerated}
+use Rattle.mips_target.specs.Callable.{IsCallable, HasCallable, AreCallable}
+use Rattle.mips_target.proofs.Speaking.{EachName, CodeSpeaks, ItemsSpeak, CallHas, CallsHave, FunctionSpeaks, function_speaks, items_speak, functions_speak}
+use Rattle.mips_target.proofs.Calls.{calls_callable}
+
+-- ---- the labels are the functions' names
+
+abbrev label_name : Label → List ℕ
+label_name l = l.name
+
+abbrev item_labels : List Item → List (List ℕ)
+item_labels [] = []
+item_labels (x ∷ xs) = x.labels ++ item_labels xs
+
+names_append : (place : ℕ) (names : List (List ℕ)) (more : List Label) → map label_name (map (label_at place) names ++ more) ≡ names ++ map label_name more
+names_append place [] more = refl
+names_append place (n ∷ names) more = ap (λ l. n ∷ l) (names_append place names more)
+
+numbered_labels : (place n : ℕ) (xs : List Item) → map label_name (labels_from place (numbered n xs)) ≡ item_labels xs
+numbered_labels place n [] = refl
+numbered_labels place n (x ∷ xs) =
+    let next = place + length (code_of x.statement) in
+    names_append place x.labels (labels_from next (numbered (n + 1) xs)) ∙ ap (λ l. x.labels ++ l) (numbered_labels next (n + 1) xs)
+
+code_labels : (code : List Instruction) (more : List Item) → item_labels (instruction_items code ++ more) ≡ item_labels more
+code_labels [] more = refl
+code_labels (i ∷ is) more = code_labels is more
+
+function_labels : (fs : List Coded) → item_labels (items_of fs) ≡ map (λ f. f.name) fs
+function_labels [] = refl
+function_labels (f ∷ fs) = ap (λ l. f.name ∷ l) (code_labels f.code (items_of fs) ∙ function_labels fs)
+
+-- the function's name, as bytes
+abbrev name_in : List (List ℕ) → LoweredFunction → List ℕ
+name_in names f = get_or names f.name []
+
+own_names_are : (names : List (List ℕ)) (fs : List LoweredFunction) (cs : List Coded) → AllZip (IsFunction names) fs cs → map (λ c. c.name) cs ≡ map (name_in names) fs
+own_names_are names [] [] z = refl
+own_names_are names [] (c ∷ cs) z = absurd z
+own_names_are names (f ∷ fs) [] z = absurd z
+own_names_are names (f ∷ fs) (c ∷ cs) z = let e : c.name ≡ name_in names f = z.0.name in let r = own_names_are names fs cs z.1 in cc
+
+-- ---- no two are the same
+
+-- the function of a place
+function_at : (names : List (List ℕ)) (fs : List LoweredFunction) (i : ℕ) (n : List ℕ) → slice_get (map (name_in names) fs) i ≡ Some n → (f : LoweredFunction) × (slice_get fs i ≡ Some f) × (name_in names f ≡ n)
+function_at names [] i n e = absurd (none-some n e)
+function_at names (f ∷ fs) zero n e = (f, refl, same_Some (name_in names f) n e)
+function_at names (f ∷ fs) (suc i) n e = function_at names fs i n e
+
+own_name_at : (fs : List LoweredFunction) (more : List ℕ) (i : ℕ) (f : LoweredFunction) → slice_get fs i ≡ Some f → slice_get (map (λ g. g.name) fs ++ more) i ≡ Some f.name
+own_name_at [] more i f e = absurd (none-some f e)
+own_name_at (g ∷ fs) more zero f e = ap (λ (x : LoweredFunction). Some x.name) (same_Some g f e)
+own_name_at (g ∷ fs) more (suc i) f e = own_name_at fs more i f e
+
+name_there : (u : LoweredUnit) → IsLowered u → (i : ℕ) (f : LoweredFunction) → slice_get u.functions i ≡ Some f → slice_get u.names f.name ≡ Some (name_in u.names f)
+name_there u lowered i f e =
+    let d : get_or u.functions i f ≡ f = get_or_from_slice_get u.functions i f f e in
+    let of = subst (IsFunctionOf u) d (All-get_or (IsFunctionOf u) u.functions i f (slice_get_within u.functions i f e) lowered.functions) in
+    slice_get-get_or u.names f.name [] of.name
+
+distinct_functions : (u : LoweredUnit) → IsLowered u → AreDistinct (map (name_in u.names) u.functions)
+distinct_functions u lowered = λ i j n e f.
+    let a = function_at u.names u.functions i n e in
+    let b = function_at u.names u.functions j n f in
+    let c : slice_get u.names a.0.name ≡ Some n = name_there u lowered i a.0 a.1 ∙ ap Some a.2 in
+    let d : slice_get u.names b.0.name ≡ Some n = name_there u lowered j b.0 b.1 ∙ ap Some b.2 in
+    let same : a.0.name ≡ b.0.name = lowered.distinct a.0.name b.0.name n c d in
+    let more = map (λ o. o.name) u.objects in
+    lowered.owners i j a.0.name (own_name_at u.functions more i a.0 a.1) (own_name_at u.functions more j b.0 b.1 ∙ ap Some (sym same))
+
+label_name_at : (labels : List Label) (i : ℕ) (l : Label) → slice_get labels i ≡ Some l → slice_get (map label_name labels) i ≡ Some l.name
+label_name_at labels i l e = slice_get-map label_name labels i ∙ ap (λ o. option_map label_name o) e
+
+distinct_labels : (labels : List Label) (names : List (List ℕ)) → map label_name labels ≡ names → AreDistinct names → HaveDistinctNames labels
+distinct_labels labels names are h = λ i j a b e f g.
+    let at : slice_get names i ≡ Some b.name = ap (λ l. slice_get l i) (sym are) ∙ label_name_at labels i a e ∙ ap Some g in
+    let there : slice_get names j ≡ Some b.name = ap (λ l. slice_get l j) (sym are) ∙ label_name_at labels j b f in
+    h i j b.name at there
+
+-- ---- each name is known
+
+label_of : (labels : List Label) (i : ℕ) (n : List ℕ) → slice_get (map label_name labels) i ≡ Some n → (l : Label) × (slice_get labels i ≡ Some l) × (l.name ≡ n)
+label_of [] i n e = absurd (none-some n e)
+label_of (l ∷ labels) zero n e = (l, refl, same_Some l.name n e)
+label_of (l ∷ labels) (suc i) n e = label_of labels i n e
+
+function_known : (labels : List Label) (names : List (List ℕ)) (fs : List LoweredFunction) (i : ℕ) (f : LoweredFunction) → map label_name labels ≡ map (name_in names) fs → slice_get fs i ≡ Some f → IsKnown labels (name_in names f)
+function_known labels names fs i f are e =
+    let at : slice_get (map label_name labels) i ≡ Some (name_in names f) = ap (λ l. slice_get l i) are ∙ slice_get-map (name_in names) fs i ∙ ap (λ o. option_map (name_in names) o) e in
+    let l = label_of labels i (name_in names f) at in
+    inl (i, l.0, l.1, l.2)
+
+callable_known : (u : LoweredUnit) (labels : List Label) (name : ℕ) → map label_name labels ≡ map (name_in u.names) u.functions → IsCallable u name → IsKnown labels (get_or u.names name [])
+callable_known u labels name are h = elim h [
+  | inl a ↦
+      let at : slice_get u.functions a.0 ≡ Some a.1 = slice_get_read u.functions (length u.functions) a.0 a.1 refl a.2 (sym a.3) in
+      subst (λ n. IsKnown labels (get_or u.names n [])) a.4 (function_known labels u.names u.functions a.0 a.1 are at)
+  | inr b ↦ inr (get_or_from_slice_get u.names name (codes "putchar") [] b)
+]
+
+call_weaker : (Q R : ℕ → Type 0) (i : Instr) → ((n : ℕ) → Q n → R n) → CallHas Q i → CallHas R i
+call_weaker Q R (instr.LoadNumber to n) go h = tt
+call_weaker Q R (instr.Binary op to from x) go h = tt
+call_weaker Q R (instr.Negate to from) go h = tt
+call_weaker Q R (instr.Argument from) go h = tt
+call_weaker Q R (instr.Call to name) go h = go name h
+call_weaker Q R (instr.Return from) go h = tt
+call_weaker Q R (instr.Copy to from) go h = tt
+call_weaker Q R (instr.LoadSlot to slot) go h = tt
+call_weaker Q R (instr.StoreSlot from slot) go h = tt
+
+calls_weaker : (Q R : ℕ → Type 0) (code : List Instr) → ((n : ℕ) → Q n → R n) → CallsHave Q code → CallsHave R code
+calls_weaker Q R [] go h = tt
+calls_weaker Q R (i ∷ is) go h = (call_weaker Q R i go h.0, calls_weaker Q R is go h.1)
+
+-- a function of the unit, with well-formed roots, that calls what can be called
+abbrev IsFit : LoweredUnit → LoweredFunction → Type 0
+IsFit u f = IsCallable u f.name × IsWellFormed f.forest.roots × All (AtEachNode (λ t. HasCallable u (head_of t).sym)) f.forest.roots
+
+all_fit : (u : LoweredUnit) → All (λ f. IsWellFormed f.forest.roots) u.functions → AreCallable u → All (IsFit u) u.functions
+all_fit u good callable = λ k d below. (inl (k, get_or u.functions k d, below, same_at u.functions k d below, refl), good k d below, callable k d below)
+  where
+    same_at : (fs : List LoweredFunction) (k : ℕ) (d : LoweredFunction) → k < length fs → get_or fs k (get_or fs k d) ≡ get_or fs k d
+    same_at [] k d h = absurd (omega (arith, h))
+    same_at (f ∷ fs) zero d h = refl
+    same_at (f ∷ fs) (suc k) d h = same_at fs k d (omega (arith, h))
+
+abbrev AnyName : List ℕ → Type 0
+AnyName n = Unit {0}
+
+function_knows : (u : LoweredUnit) (labels : List Label) → map label_name labels ≡ map (name_in u.names) u.functions → (f : LoweredFunction) (c : Coded) → IsFunction u.names f c → IsFit u f → FunctionSpeaks AnyName (IsKnown labels) c
+function_knows u labels are f c is fit =
+    let P : List ℕ → Type 0 = λ n. IsKnown labels n in
+    let virtual = is.code.virtual in
+    let own : P c.name = subst P (sym is.name) (callable_known u labels f.name are fit.0) in
+    let calls = calls_callable u f.forest.roots virtual is.code.selected fit.1 fit.2 in
+    let known = calls_weaker (IsCallable u) (λ n. P (get_or u.names n [])) (allotted_code virtual) (λ n h. callable_known u labels n are h) calls in
+    let code = function_speaks P u.names (layout_of virtual) (allotted_code virtual) known in
+    (tt, own, subst (CodeSpeaks P) (sym is.code.made) code)
+
+each_append : (P : List ℕ → Type 0) (xs ys : List (List ℕ)) → EachName P xs → EachName P ys → EachName P (xs ++ ys)
+each_append P [] ys a b = b
+each_append P (x ∷ xs) ys a b = (a.0, each_append P xs ys a.1 b)
+
+numbered_speak : (L P : List ℕ → Type 0) (n : ℕ) (xs : List Item) → ItemsSpeak L P xs → EachName P (names_in (numbered n xs))
+numbered_speak L P n [] h = tt
+numbered_speak L P n (x ∷ xs) h = each_append P (names_of x.statement) (names_in (numbered (n + 1) xs)) h.1 (numbered_speak L P (n + 1) xs h.2)
+
+each_at : (P : List ℕ → Type 0) (names : List (List ℕ)) (i : ℕ) (name : List ℕ) → EachName P names → slice_get names i ≡ Some name → P name
+each_at P [] i name h e = absurd (none-some name e)
+each_at P (n ∷ names) zero name h e = subst P (same_Some n name e) h.0
+each_at P (n ∷ names) (suc i) name h e = each_at P names i name h.1 e
+
+-- ---- the program
+
+abbrev pub program_of : List Line → Program
+program_of lines = record { code = code_in lines; numbers = numbers_in lines; labels = labels_from 0 lines }
+
+unit_makes : (u : LoweredUnit) (cs : List Coded) → IsLowered u → All (λ f. IsWellFormed f.forest.roots) u.functions → AreCallable u → AllZip (IsFunction u.names) u.functions cs → Makes (unit_lines cs) (program_of (unit_lines cs))
+unit_makes u cs lowered good callable each =
+    let lines = unit_lines cs in
+    let items = plain (statement.Directive directive.Text) ∷ items_of cs in
+    let labels = labels_from 0 lines in
+    let P : List ℕ → Type 0 = λ n. IsKnown labels n in
+    let are : map label_name labels ≡ map (name_in u.names) u.functions = numbered_labels 0 1 items ∙ function_labels cs ∙ own_names_are u.names u.functions cs each in
+    let fs = functions_speak AnyName P (IsFit u) u.names u.functions cs each (all_fit u good callable) (function_knows u labels are) in
+    let known = numbered_speak AnyName P 1 items (tt, tt, items_speak AnyName P cs fs) in
+    record {
+      code = refl;
+      numbers = refl;
+      labels = refl;
+      distinct = distinct_labels labels (map (name_in u.names) u.functions) are (distinct_functions u lowered);
+      known = λ i name e. each_at P (names_in lines) i name known e;
+    }
+
+pub makes : (u : LoweredUnit) (lines : List Line) → IsLowered u → All (λ f. IsWellFormed f.forest.roots) u.functions → AreCallable u → IsGenerated u lines → (p : Program) × Makes lines p
+makes u lines lowered good callable g =
+    let made = unit_makes u g.functions lowered good callable g.each in
+    (program_of lines, subst (λ l. Makes l (program_of l)) (sym g.lines_are) made)

@@ -1,0 +1,118 @@
+-- The instructions of templates in a function's code: those that rules add, over temporaries.
+use Rattle.std.proofs.Common.{◌≡◌, ℕ, zero, suc, ◌+◌, ◌*◌, ◌≤◌, ◌<◌, min, Bool, true, false, List, [], ◌∷◌, ◌++◌, get_or, refl, ap, ◌∙◌, arith}
+use Rattle.std.specs.Prelude.{if◌then◌else◌}
+use Rattle.std.specs.Int.RustNames.{unsigned_abs}
+use Rattle.std.proofs.lemmas.Bool.{lt-ltb, cond-true}
+use Rattle.asm_text.specs.declared.instruction.Instruction.{Instruction}
+use Rattle.asm_text.specs.declared.instruction.Instruction.TheVariants as machine
+use Rattle.asm_text.specs.declared.instruction.BinaryOp.TheVariants as binary
+use Rattle.asm_text.specs.declared.instruction.UnaryOp.TheVariants as unary
+use Rattle.asm_text.specs.declared.instruction.LoadOp.TheVariants as load
+use Rattle.asm_text.specs.declared.instruction.StoreOp.TheVariants as store
+use Rattle.asm_text.specs.declared.instruction.Operand.TheVariants as operand
+use Rattle.asm_text.specs.declared.instruction.Target.TheVariants as target
+use Rattle.slot_allocator.specs.Slots.{slot_of}
+use Rattle.mips_rules.specs.declared.instr.Instr.{Instr}
+use Rattle.mips_rules.specs.declared.instr.Instr.TheVariants as instr
+use Rattle.mips_rules.specs.declared.instr.Source.TheVariants as source
+use Rattle.mips_target.specs.declared.layout.Layout.{Layout}
+use Rattle.mips_target.specs.Frame.{slot_place, return_place, frame_size}
+use Rattle.mips_target.specs.FunctionCode.{in_frame, loads_of, epilogue, body_of, function_code}
+use Rattle.mips_target.specs.Sizes.{Fits}
+use Rattle.mips_target.specs.Emits.{keeps_frame, is_frame_word, from_templates}
+use Rattle.mips_target.proofs.Added.{IsAdded, AddsNumber, AddsRegisters, AddsWithNumber, AddsNegate, AddsArgument, AddsCall, AddsReturn, AreAdded}
+use Rattle.mips_target.proofs.Allotted.{put, put_all}
+
+-- the template's instruction for one that a rule adds, over the temporaries
+abbrev pub plain : List (List ℕ) → Instr → List Instruction
+plain names (instr.LoadNumber to n) = machine.LoadNumber 8 n ∷ []
+plain names (instr.Binary op to from (source.Register r)) = machine.Binary op 8 9 (operand.Register 10) ∷ []
+plain names (instr.Binary op to from (source.Number n)) = machine.Binary op 8 9 (operand.Number n) ∷ []
+plain names (instr.Negate to from) = machine.Unary unary.Negate 8 9 ∷ []
+plain names (instr.Call to name) = machine.Call (target.Label (get_or names name [])) ∷ []
+plain names i = []
+
+abbrev pub plain_all : List (List ℕ) → List Instr → List Instruction
+plain_all names [] = []
+plain_all names (i ∷ is) = plain names i ++ plain_all names is
+
+module _ (names : List (List ℕ)) (l : Layout) where
+  skipped : (i : Instruction) (is : List Instruction) → keeps_frame l i ≡ true → from_templates l (i ∷ is) ≡ from_templates l is
+  skipped i is h = cond-true (keeps_frame l i) (from_templates l is) (i ∷ from_templates l is) h
+
+  frame_word : (place : ℕ) → place < 4 * (l.arguments + l.slots + 1) → is_frame_word l (in_frame place) ≡ true
+  frame_word place h = lt-ltb place (4 * (l.arguments + l.slots + 1)) h
+
+  load_skipped : (r place : ℕ) (is : List Instruction) → place < 4 * (l.arguments + l.slots + 1) → from_templates l (machine.Load load.Word r (in_frame place) ∷ is) ≡ from_templates l is
+  load_skipped r place is h = skipped (machine.Load load.Word r (in_frame place)) is (frame_word place h)
+
+  store_skipped : (r place : ℕ) (is : List Instruction) → place < 4 * (l.arguments + l.slots + 1) → from_templates l (machine.Store store.Word r (in_frame place) ∷ is) ≡ from_templates l is
+  store_skipped r place is h = skipped (machine.Store store.Word r (in_frame place)) is (frame_word place h)
+
+  slot_skipped : (k r q : ℕ) (is : List Instr) → unsigned_abs (slot_of q) < l.slots → from_templates l (body_of names l k (instr.LoadSlot r (slot_of q) ∷ is)) ≡ from_templates l (body_of names l k is)
+  slot_skipped k r q is h = load_skipped r (slot_place l (slot_of q)) (body_of names l k is) (omega (arith, h))
+
+  kept_skipped : (k r q : ℕ) (is : List Instr) → unsigned_abs (slot_of q) < l.slots → from_templates l (body_of names l k (instr.StoreSlot r (slot_of q) ∷ is)) ≡ from_templates l (body_of names l k is)
+  kept_skipped k r q is h = store_skipped r (slot_place l (slot_of q)) (body_of names l k is) (omega (arith, h))
+
+  one_or_none : (b : Bool) (i : Instruction) (xs ys : List Instruction) → (if b then xs ++ ys else i ∷ (xs ++ ys)) ≡ (if b then xs else i ∷ xs) ++ ys
+  one_or_none true i xs ys = refl
+  one_or_none false i xs ys = refl
+
+  templates_append : (a b : List Instruction) → from_templates l (a ++ b) ≡ from_templates l a ++ from_templates l b
+  templates_append [] b = refl
+  templates_append (i ∷ a) b =
+      ap (λ x. if keeps_frame l i then x else i ∷ x) (templates_append a b) ∙ one_or_none (keeps_frame l i) i (from_templates l a) (from_templates l b)
+
+  loads_skipped : (k : ℕ) → k ≤ l.arguments → from_templates l (loads_of k) ≡ []
+  loads_skipped zero h = refl
+  loads_skipped (suc k) h =
+      let lt : 4 * k < 4 * (l.arguments + l.slots + 1) = omega (arith, h) in
+      templates_append (loads_of k) (machine.Load load.Word (4 + k) (in_frame (4 * k)) ∷ [])
+      ∙ ap (λ x. x ++ from_templates l (machine.Load load.Word (4 + k) (in_frame (4 * k)) ∷ [])) (loads_skipped k (omega (arith, h)))
+      ∙ load_skipped (4 + k) (4 * k) [] lt
+
+  epilogue_skipped : (is : List Instruction) → from_templates l (epilogue l ++ is) ≡ from_templates l is
+  epilogue_skipped is =
+      let rest : List Instruction = machine.Binary binary.Add 29 29 (operand.Number (frame_size l)) ∷ machine.Jump (target.Register 31) ∷ is in
+      load_skipped 31 (return_place l) rest (omega arith)
+
+  -- what stands for the instructions behind an instruction
+  abbrev Behind : List Instr → Type 0
+  Behind is = (k : ℕ) → Fits names l k (put_all is) → from_templates l (body_of names l k (put_all is)) ≡ plain_all names is
+
+  one_plain : {named : ℕ → Type 0} {limit : ℕ} {i : Instr} (is : List Instr) → 4 ≤ l.arguments → IsAdded named limit i → Behind is → (k : ℕ) → Fits names l k (put i ++ put_all is) → from_templates l (body_of names l k (put i ++ put_all is)) ≡ plain names i ++ plain_all names is
+  one_plain is four (AddsNumber to n a) h k f =
+      ap (λ x. machine.LoadNumber 8 n ∷ x) (kept_skipped k 8 to (put_all is) f.1.0.1 ∙ h k f.1.1)
+  one_plain is four (AddsRegisters op to from r a b c) h k f =
+      let last : List Instr = instr.Binary op 8 9 (source.Register 10) ∷ instr.StoreSlot 8 (slot_of to) ∷ put_all is in
+      slot_skipped k 9 from (instr.LoadSlot 10 (slot_of r) ∷ last) f.0.1
+      ∙ slot_skipped k 10 r last f.1.0.1
+      ∙ ap (λ x. machine.Binary op 8 9 (operand.Register 10) ∷ x) (kept_skipped k 8 to (put_all is) f.1.1.1.0.1 ∙ h k f.1.1.1.1)
+  one_plain is four (AddsWithNumber op to from n a b) h k f =
+      slot_skipped k 9 from (instr.Binary op 8 9 (source.Number n) ∷ instr.StoreSlot 8 (slot_of to) ∷ put_all is) f.0.1
+      ∙ ap (λ x. machine.Binary op 8 9 (operand.Number n) ∷ x) (kept_skipped k 8 to (put_all is) f.1.1.0.1 ∙ h k f.1.1.1)
+  one_plain is four (AddsNegate to from a b) h k f =
+      slot_skipped k 9 from (instr.Negate 8 9 ∷ instr.StoreSlot 8 (slot_of to) ∷ put_all is) f.0.1
+      ∙ ap (λ x. machine.Unary unary.Negate 8 9 ∷ x) (kept_skipped k 8 to (put_all is) f.1.1.0.1 ∙ h k f.1.1.1)
+  one_plain is four (AddsArgument from a) h k f =
+      let g = f.1.0.1 in
+      let lt : 4 * k < 4 * (l.arguments + l.slots + 1) = omega (arith, g) in
+      slot_skipped k 8 from (instr.Argument 8 ∷ put_all is) f.0.1 ∙ store_skipped 8 (4 * k) (body_of names l (suc k) (put_all is)) lt ∙ h (suc k) f.1.1
+  one_plain is four (AddsCall to name a b) h k f =
+      let le : min k 4 ≤ l.arguments = omega (arith, four) in
+      let call : List Instruction = machine.Call (target.Label (get_or names name [])) ∷ machine.Move 8 2 ∷ [] in
+      let behind : List Instruction = body_of names l 0 (instr.StoreSlot 8 (slot_of to) ∷ put_all is) in
+      templates_append (loads_of (min k 4) ++ call) behind
+      ∙ ap (λ x. x ++ from_templates l behind) (templates_append (loads_of (min k 4)) call ∙ ap (λ x. x ++ from_templates l call) (loads_skipped (min k 4) le))
+      ∙ ap (λ x. machine.Call (target.Label (get_or names name [])) ∷ x) (kept_skipped 0 8 to (put_all is) f.1.0.1 ∙ h 0 f.1.1)
+  one_plain is four (AddsReturn from a) h k f =
+      slot_skipped k 8 from (instr.Return 8 ∷ put_all is) f.0.1 ∙ epilogue_skipped (body_of names l k (put_all is)) ∙ h k f.1.1
+
+  body_plain : (named : ℕ → Type 0) (limit : ℕ) (code : List Instr) → 4 ≤ l.arguments → AreAdded named limit code → Behind code
+  body_plain named limit [] four h = λ k f. epilogue_skipped []
+  body_plain named limit (i ∷ is) four h = λ k f. one_plain is four h.0 (body_plain named limit is four h.1) k f
+
+  pub code_plain : (named : ℕ → Type 0) (limit : ℕ) (code : List Instr) → 4 ≤ l.arguments → AreAdded named limit code → Fits names l 0 (put_all code) → from_templates l (function_code names l (put_all code)) ≡ plain_all names code
+  code_plain named limit code four h f =
+      store_skipped 31 (return_place l) (body_of names l 0 (put_all code)) (omega arith) ∙ body_plain named limit code four h 0 f

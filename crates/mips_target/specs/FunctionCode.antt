@@ -1,0 +1,93 @@
+-- The instructions of a function, given its allocated code: each as one or a few of the machine's, between those that
+-- make the frame and those that give it back.
+-- Calls are those of MIPS: the first four argument words go in $4 to $7, the others behind 16 bytes on the stack, and the
+-- result comes in $2. A caller keeps all argument words at the low end of its frame.
+-- Source: Fraser and Hanson, A Retargetable C Compiler, chapter 16; G. Kane and J. Heinrich, MIPS RISC Architecture, 1992.
+use Rattle.std.specs.Prelude.{ℕ, zero, suc, ◌+◌, ◌*◌, max, min, List, [], ◌∷◌, ◌++◌, get_or}
+use Rattle.asm_text.specs.declared.instruction.Instruction.{Instruction}
+use Rattle.asm_text.specs.declared.instruction.Instruction.TheVariants.{LoadNumber, Move, Binary, Unary, Load, Store, Jump, Call}
+use Rattle.asm_text.specs.declared.instruction.BinaryOp.TheVariants as binary
+use Rattle.asm_text.specs.declared.instruction.UnaryOp.TheVariants as unary
+use Rattle.asm_text.specs.declared.instruction.LoadOp.TheVariants as load
+use Rattle.asm_text.specs.declared.instruction.StoreOp.TheVariants as store
+use Rattle.asm_text.specs.declared.instruction.Operand.{Operand}
+use Rattle.asm_text.specs.declared.instruction.Operand.TheVariants as operand
+use Rattle.asm_text.specs.declared.instruction.Target.TheVariants as target
+use Rattle.asm_text.specs.declared.instruction.Address.{Address}
+use Rattle.mips_rules.specs.declared.instr.Instr.{Instr}
+use Rattle.mips_rules.specs.declared.instr.Instr.TheVariants as instr
+use Rattle.mips_rules.specs.declared.instr.Source.{Source}
+use Rattle.mips_rules.specs.declared.instr.Source.TheVariants as source
+use Rattle.mips_target.specs.declared.layout.Layout.{Layout}
+use Rattle.mips_target.specs.Frame.{slot_place, return_place, frame_size}
+
+-- a place in the frame, in bytes from the stack pointer, which is $29
+abbrev pub in_frame : ℕ → Address
+in_frame place = record { offset = place; base = 29 }
+
+abbrev pub operand_of : Source → Operand
+operand_of (source.Register r) = operand.Register r
+operand_of (source.Number n) = operand.Number n
+
+abbrev pub prologue : Layout → List Instruction
+prologue l =
+    Binary binary.Subtract 29 29 (operand.Number (frame_size l))
+    ∷ Store store.Word 31 (in_frame (return_place l))
+    ∷ []
+
+abbrev pub epilogue : Layout → List Instruction
+epilogue l =
+    Load load.Word 31 (in_frame (return_place l))
+    ∷ Binary binary.Add 29 29 (operand.Number (frame_size l))
+    ∷ Jump (target.Register 31)
+    ∷ []
+
+-- the first k argument words go to $4 and the registers behind it
+abbrev pub loads_of : ℕ → List Instruction
+loads_of zero = []
+loads_of (suc k) = loads_of k ++ Load load.Word (4 + k) (in_frame (4 * k)) ∷ []
+
+-- a call with k argument words
+abbrev pub call_of : List (List ℕ) → ℕ → ℕ → ℕ → List Instruction
+call_of names k to name = loads_of (min k 4) ++ Call (target.Label (get_or names name [])) ∷ Move to 2 ∷ []
+
+-- the instructions of one, where k argument words were handed since the last call
+abbrev pub instructions_of : List (List ℕ) → Layout → ℕ → Instr → List Instruction
+instructions_of names l k (instr.LoadNumber to n) = LoadNumber to n ∷ []
+instructions_of names l k (instr.Binary op to from x) = Binary op to from (operand_of x) ∷ []
+instructions_of names l k (instr.Negate to from) = Unary unary.Negate to from ∷ []
+instructions_of names l k (instr.Argument from) = Store store.Word from (in_frame (4 * k)) ∷ []
+instructions_of names l k (instr.Call to name) = call_of names k to name
+instructions_of names l k (instr.Return from) = Move 2 from ∷ epilogue l
+instructions_of names l k (instr.Copy to from) = Move to from ∷ []
+instructions_of names l k (instr.LoadSlot to slot) = Load load.Word to (in_frame (slot_place l slot)) ∷ []
+instructions_of names l k (instr.StoreSlot from slot) = Store store.Word from (in_frame (slot_place l slot)) ∷ []
+
+-- how many argument words were handed since the last call behind an instruction
+abbrev pub handed_behind : ℕ → Instr → ℕ
+handed_behind k (instr.LoadNumber to n) = k
+handed_behind k (instr.Binary op to from x) = k
+handed_behind k (instr.Negate to from) = k
+handed_behind k (instr.Argument from) = suc k
+handed_behind k (instr.Call to name) = zero
+handed_behind k (instr.Return from) = k
+handed_behind k (instr.Copy to from) = k
+handed_behind k (instr.LoadSlot to slot) = k
+handed_behind k (instr.StoreSlot from slot) = k
+
+-- the most argument words that are handed before a call
+abbrev pub most_handed : ℕ → List Instr → ℕ
+most_handed k [] = k
+most_handed k (i ∷ is) = max k (most_handed (handed_behind k i) is)
+
+-- there is room for four argument words in each frame
+abbrev pub argument_words : List Instr → ℕ
+argument_words code = max 4 (most_handed 0 code)
+
+-- the instructions of code, where k argument words were handed, and those that end the function
+abbrev pub body_of : List (List ℕ) → Layout → ℕ → List Instr → List Instruction
+body_of names l k [] = epilogue l
+body_of names l k (i ∷ is) = instructions_of names l k i ++ body_of names l (handed_behind k i) is
+
+abbrev pub function_code : List (List ℕ) → Layout → List Instr → List Instruction
+function_code names l code = prologue l ++ body_of names l 0 code

@@ -1,0 +1,10 @@
+pub mod Frame
+pub mod Registers
+pub mod FunctionCode
+pub mod Sizes
+pub mod UnitLines
+pub mod Emits
+pub mod Generated
+pub mod Callable
+pub mod Bounds
+pub mod NamedBelow

@@ -1,0 +1,202 @@
+//! The instructions of a function.
+ghost use Rattle.std.specs.Prelude.{◌≡◌, ◌+◌, ◌*◌, ◌≤◌, ◌<◌, ◌^◌, ◌++◌, [], ◌∷◌, max, min, length, get_or, drop, IfOk, OnOk};
+ghost use Rattle.mips_rules.specs.Mips.{mips};
+ghost use Rattle.mips_target.specs.Frame.{slot_place, return_place, frame_size};
+ghost use Rattle.mips_target.specs.FunctionCode.{in_frame, operand_of, prologue, epilogue, loads_of, call_of, instructions_of, handed_behind, most_handed, argument_words, body_of, function_code};
+ghost use Rattle.mips_target.specs.Sizes.{IsSourceWithin, FitsOne, Fits};
+
+use crate::layout::Layout;
+use asm_text::{
+    Address, BinaryOp, Instruction, LoadOp, Operand, Register, StoreOp, Target, UnaryOp,
+};
+use lcc_base::{Bytes, Items, Memory};
+use mips_rules::{Instr, Source};
+use std::alloc::Global;
+use vcode::Reg;
+
+/// The register of this number.
+fn register(number: Reg) -> Register
+    requires { number < 32 }
+    ensures { result ≡ number }
+{
+    match Register::new(number as u8) {
+        Some(register) => register,
+        None => unreachable!(),
+    }
+}
+
+/// A place in the frame, in bytes from the stack pointer, which is `$29`.
+fn in_frame(place: u32) -> Address
+    ensures { result ≡ in_frame place }
+{
+    Address {
+        offset: place,
+        base: register(29),
+    }
+}
+
+/// The register of this number gets the word at the place in the frame.
+fn load(to: Reg, place: u32) -> Instruction
+    requires { to < 32 }
+    ensures { result ≡ Instruction.Load LoadOp.Word to (in_frame place) }
+{
+    Instruction::Load(LoadOp::Word, register(to), in_frame(place))
+}
+
+/// The register of this number is stored at the place in the frame.
+fn store(from: Reg, place: u32) -> Instruction
+    requires { from < 32 }
+    ensures { result ≡ Instruction.Store StoreOp.Word from (in_frame place) }
+{
+    Instruction::Store(StoreOp::Word, register(from), in_frame(place))
+}
+
+/// The stack pointer moves by so many bytes.
+fn move_stack_pointer(op: BinaryOp, bytes: u32) -> Instruction
+    ensures { result ≡ Instruction.Binary op 29 29 (Operand.Number bytes) }
+{
+    Instruction::Binary(op, register(29), register(29), Operand::Number(bytes))
+}
+
+/// Adds the instructions that make the frame.
+fn push_prologue(layout: Layout, into: &mut Items<Instruction>) -> Result<(), Memory>
+    requires { layout.arguments + layout.slots < 2 ^ 28 }
+    ensures { OnOk result (into.new ≡ into.old ++ prologue layout) }
+{
+    into.push(move_stack_pointer(BinaryOp::Subtract, layout.frame_size()))?;
+    into.push(store(31, layout.return_place()))
+}
+
+/// Adds the instructions that give the frame back and return.
+fn push_epilogue(layout: Layout, into: &mut Items<Instruction>) -> Result<(), Memory>
+    requires { layout.arguments + layout.slots < 2 ^ 28 }
+    ensures { OnOk result (into.new ≡ into.old ++ epilogue layout) }
+{
+    into.push(load(31, layout.return_place()))?;
+    into.push(move_stack_pointer(BinaryOp::Add, layout.frame_size()))?;
+    into.push(Instruction::Jump(Target::Register(register(31))))
+}
+
+/// The last operand of an operation.
+fn operand_of(source: Source) -> Operand
+    requires { IsSourceWithin source }
+    ensures { result ≡ operand_of source }
+{
+    match source {
+        Source::Register(reg) => Operand::Register(register(reg)),
+        Source::Number(number) => Operand::Number(number),
+    }
+}
+
+/// Adds a call of a name with so many argument words, of which the first four go in registers. The
+/// register gets its result.
+fn push_call(
+    alloc: Global,
+    names: &[Bytes],
+    words: u32,
+    to: Reg,
+    name: u32,
+    into: &mut Items<Instruction>,
+) -> Result<(), Memory>
+    requires register { to < 32 }
+    requires name { name < length names.now }
+    ensures { OnOk result (into.new ≡ into.old ++ call_of names.now words to name) }
+{
+    for word in 0..words.min(4) {
+        into.push(load(4 + word, 4 * word))?;
+    }
+    let label = Bytes::copied(alloc, names[name as usize].as_slice())?;
+    into.push(Instruction::Call(Target::Label(label)))?;
+    into.push(Instruction::Move(register(to), register(2)))
+}
+
+/// Adds the instructions of one, where so many argument words were handed since the last call.
+fn push_instructions(
+    alloc: Global,
+    names: &[Bytes],
+    layout: Layout,
+    handed: u32,
+    instr: Instr,
+    into: &mut Items<Instruction>,
+) -> Result<(), Memory>
+    requires fits { FitsOne names.now layout handed instr }
+    requires frame { layout.arguments + layout.slots < 2 ^ 28 }
+    ensures { OnOk result (into.new ≡ into.old ++ instructions_of names.now layout handed instr) }
+{
+    match instr {
+        Instr::LoadNumber { to, number } => into.push(Instruction::LoadNumber(
+            register(to),
+            number,
+        )),
+        Instr::Binary {
+            op,
+            to,
+            from,
+            operand,
+        } => into.push(Instruction::Binary(op, register(to), register(from), operand_of(operand))),
+        Instr::Negate { to, from } => into.push(Instruction::Unary(
+            UnaryOp::Negate,
+            register(to),
+            register(from),
+        )),
+        Instr::Argument { from } => into.push(store(from, 4 * handed)),
+        Instr::Call { to, name } => push_call(alloc, names, handed, to, name, into),
+        Instr::Return { from } => {
+            into.push(Instruction::Move(register(2), register(from)))?;
+            push_epilogue(layout, into)
+        }
+        Instr::Copy { to, from } => into.push(Instruction::Move(register(to), register(from))),
+        Instr::LoadSlot { to, slot } => into.push(load(to, layout.slot_place(slot))),
+        Instr::StoreSlot { from, slot } => into.push(store(from, layout.slot_place(slot))),
+    }
+}
+
+/// How many argument words were handed since the last call behind an instruction.
+fn handed_behind(handed: u32, instr: Instr) -> u32
+    requires { handed < 2 ^ 31 }
+    ensures { result ≡ handed_behind handed instr }
+{
+    match instr {
+        Instr::Argument { from: _ } => handed + 1,
+        Instr::Call { to: _, name: _ } => 0,
+        _ => handed,
+    }
+}
+
+/// How many words a frame has for argument words: as many as are handed before a call, and four at
+/// least.
+pub(crate) fn argument_words(code: &[Instr]) -> u32
+    requires { length code.now < 2 ^ 31 }
+    ensures { result ≡ argument_words code.now }
+{
+    let mut handed = 0;
+    let mut most = 4;
+    for instr in code {
+        handed = handed_behind(handed, *instr);
+        most = most.max(handed);
+    }
+    most
+}
+
+/// The instructions of a function with this allocated code.
+pub(crate) fn function_code(
+    alloc: Global,
+    names: &[Bytes],
+    layout: Layout,
+    code: &[Instr],
+) -> Result<Items<Instruction>, Memory>
+    requires fits { Fits names.now layout 0 code.now }
+    requires frame { layout.arguments + layout.slots < 2 ^ 28 }
+    requires size { length code.now < 2 ^ 31 }
+    ensures { IfOk result (λ is. is ≡ function_code names.now layout code.now) }
+{
+    let mut into = Items::new(alloc);
+    push_prologue(layout, &mut into)?;
+    let mut handed = 0;
+    for instr in code {
+        push_instructions(alloc, names, layout, handed, *instr, &mut into)?;
+        handed = handed_behind(handed, *instr);
+    }
+    push_epilogue(layout, &mut into)?;
+    Ok(into)
+}

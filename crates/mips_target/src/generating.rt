@@ -1,0 +1,96 @@
+//! A lowered unit as lines of assembly.
+ghost use Rattle.std.specs.Prelude.{◌≡◌, ◌≤◌, ◌<◌, ◌^◌, ◌+◌, ◌++◌, length, sum_by, All, get_or, IfOk, OnOk};
+ghost use Rattle.op_forest.specs.Nodes.{nodes};
+ghost use Rattle.op_forest.specs.WellFormed.{IsWellFormed};
+ghost use Rattle.mips_rules.specs.Shipped.{IsShipped, CoversRoots};
+ghost use Rattle.op_forest.specs.Lowered.{IsUnitName, IsFunctionOf};
+ghost use Rattle.asm_text.specs.declared.program.Program.{Program};
+ghost use Rattle.asm_text.specs.Program.{Makes};
+ghost use Rattle.asm_text.specs.Printable.{ArePrintable};
+ghost use Rattle.mips_target.specs.Callable.{AreCallable};
+ghost use Rattle.mips_target.specs.Generated.{IsAllocated, IsCodeOf, IsGenerated};
+
+use crate::function_code::{argument_words, function_code};
+use crate::layout::Layout;
+use crate::unit_lines::{push_function, push_plain};
+use asm_text::{Directive, Instruction, Lines, Statement};
+use lcc_base::{Items, Memory};
+use mips_rules::{Mips, MipsRules, rules};
+use op_forest::{Forest, Lowered, LoweredFunction, WellFormed, check_forest};
+use slot_allocator::give_slots;
+use std::alloc::Global;
+use tree_labeller::best_derivations;
+use vcode::{Code, Reg, RuleSet, linearise};
+
+/// The registers that hold spilled values for one instruction.
+const TEMPORARIES: [Reg; 3] = [8, 9, 10];
+
+/// A forest that is known to be well formed. It has no fault, so that memory alone can be refused.
+fn well_formed(alloc: Global, forest: &Forest) -> Result<WellFormed, Memory>
+    requires { IsWellFormed forest.now.roots }
+    ensures { IfOk result (λ w. w ≡ forest.now) }
+{
+    match check_forest(alloc, forest) {
+        Ok(well_formed) => Ok(well_formed),
+        Err(_) => Err(Memory),
+    }
+}
+
+/// The code of a forest over the machine's registers and spill slots, by the best derivations of
+/// its roots.
+fn allocated(alloc: Global, rules: &MipsRules, forest: &WellFormed) -> Result<Code<Mips>, Memory>
+    requires shipped { IsShipped rules.now }
+    requires covers { CoversRoots rules.now }
+    requires size { sum_by nodes forest.now.roots ≤ 2 ^ 24 }
+    ensures { IfOk result (λ c. IsAllocated forest.now.roots c) }
+{
+    let roots = forest.forest().roots.as_slice();
+    let cover = best_derivations(alloc, rules.description(), roots)?;
+    let code = linearise(alloc, &Mips, forest, cover.as_slice(), rules)?;
+    give_slots(alloc, &Mips, code, &TEMPORARIES)
+}
+
+/// The instructions of a function of a unit.
+fn code_of(
+    alloc: Global,
+    lowered: &Lowered,
+    rules: &MipsRules,
+    function: &LoweredFunction,
+) -> Result<Items<Instruction>, Memory>
+    requires shipped { IsShipped rules.now }
+    requires covers { CoversRoots rules.now }
+    requires names { All IsUnitName lowered.now.names }
+    requires function { IsFunctionOf lowered.now function.now }
+    requires well_formed { IsWellFormed function.now.forest.roots }
+    requires size { sum_by nodes function.now.forest.roots ≤ 2 ^ 24 }
+    ensures { IfOk result (λ code. IsCodeOf lowered.now.names function.now.forest.roots code) }
+{
+    let forest = well_formed(alloc, &function.forest)?;
+    let code = allocated(alloc, rules, &forest)?;
+    let layout = Layout {
+        arguments: argument_words(code.code()),
+        slots: code.slots(),
+    };
+    function_code(alloc, lowered.names(), layout, code.code())
+}
+
+/// The lines of a unit: its functions in order, each by the best derivations of its roots. `Memory`
+/// comes where an allocation is refused.
+/// Source: Fraser and Hanson, A Retargetable C Compiler, chapters 13 to 16.
+pub fn generate(alloc: Global, lowered: &Lowered) -> Result<Lines, Memory>
+    requires well_formed { All (λ f. IsWellFormed f.forest.roots) lowered.now.functions }
+    requires size { All (λ f. sum_by nodes f.forest.roots ≤ 2 ^ 24) lowered.now.functions }
+    ensures value { IfOk result (λ lines. IsGenerated lowered.now lines) }
+    ensures printable { IfOk result (λ lines. ArePrintable lines) }
+    ensures program { IfOk result (λ lines. AreCallable lowered.now → (p : Program) × Makes lines p) }
+{
+    let rules = rules(alloc)?;
+    let mut lines = Items::new(alloc);
+    push_plain(alloc, &mut lines, Statement::Directive(Directive::Text))?;
+    for function in lowered.functions() {
+        let code = code_of(alloc, lowered, &rules, function)?;
+        let name = &lowered.names()[function.name as usize];
+        push_function(alloc, &mut lines, name.as_slice(), code)?;
+    }
+    Ok(lines)
+}

@@ -1,0 +1,74 @@
+//! The lines of a unit.
+ghost use Rattle.std.specs.Prelude.{◌≡◌, ◌+◌, ◌++◌, [], ◌∷◌, length, IfOk, OnOk};
+ghost use Rattle.mips_target.specs.UnitLines.{Item, plain, numbered, instruction_items, function_items};
+
+use asm_text::{Directive, Instruction, Line, Lines, Statement};
+use lcc_base::{Bytes, Items, Memory};
+use std::alloc::Global;
+
+/// The number of the line behind these. Where it has no 32 bits there is no memory for the line.
+fn next_number(lines: &Lines) -> Result<u32, Memory>
+    ensures { IfOk result (λ n. n ≡ length lines.now + 1) }
+{
+    match u32::try_from(lines.len()) {
+        Ok(before) => before.checked_add(1).ok_or(Memory),
+        Err(_) => Err(Memory),
+    }
+}
+
+/// Adds a line with these labels and this statement, with the next number.
+fn push_item(lines: &mut Lines, labels: Items<Bytes>, statement: Statement) -> Result<(), Memory>
+    ensures { OnOk result (lines.new ≡ lines.old ++ numbered (length lines.old + 1) (record { labels = labels; statement = statement } ∷ [])) }
+{
+    let number = next_number(lines)?;
+    lines.push(Line {
+        labels,
+        statement,
+        number,
+    })
+}
+
+/// Adds a line without a label.
+pub(crate) fn push_plain(
+    alloc: Global,
+    lines: &mut Lines,
+    statement: Statement,
+) -> Result<(), Memory>
+    ensures { OnOk result (lines.new ≡ lines.old ++ numbered (length lines.old + 1) (plain statement ∷ [])) }
+{
+    push_item(lines, Items::new(alloc), statement)
+}
+
+/// Adds a line with this label alone.
+fn push_label(alloc: Global, lines: &mut Lines, name: &[u8]) -> Result<(), Memory>
+    ensures { OnOk result (lines.new ≡ lines.old ++ numbered (length lines.old + 1) (record { labels = name.now ∷ []; statement = Statement.Nothing } ∷ [])) }
+{
+    let mut labels = Items::new(alloc);
+    labels.push(Bytes::copied(alloc, name)?)?;
+    push_item(lines, labels, Statement::Nothing)
+}
+
+/// Adds a line for each instruction.
+fn push_code(alloc: Global, lines: &mut Lines, code: Items<Instruction>) -> Result<(), Memory>
+    ensures { OnOk result (lines.new ≡ lines.old ++ numbered (length lines.old + 1) (instruction_items code)) }
+{
+    for instruction in code.into_vec() {
+        push_plain(alloc, lines, Statement::Instruction(instruction))?;
+    }
+    Ok(())
+}
+
+/// Adds the lines of a function: its name, which is seen from outside, and its instructions.
+pub(crate) fn push_function(
+    alloc: Global,
+    lines: &mut Lines,
+    name: &[u8],
+    code: Items<Instruction>,
+) -> Result<(), Memory>
+    ensures { OnOk result (lines.new ≡ lines.old ++ numbered (length lines.old + 1) (function_items name.now code)) }
+{
+    let global = Directive::Global(Bytes::copied(alloc, name)?);
+    push_plain(alloc, lines, Statement::Directive(global))?;
+    push_label(alloc, lines, name)?;
+    push_code(alloc, lines, code)
+}
