@@ -1,5 +1,5 @@
 -- Which status a call has, by what its input is.
-use Rattle.std.proofs.Common.{◌≡◌, ℕ, ◌+◌, ◌≤◌, ◌⊎◌, inl, inr, List, [], ◌++◌, length, refl, sym, ap, subst, ◌∙◌, append-nil, length-append, arith, None, Some}
+use Rattle.std.proofs.Common.{◌≡◌, ℕ, ◌+◌, ◌≤◌, ◌⊎◌, inl, inr, List, [], ◌∷◌, ◌++◌, length, refl, sym, ap, subst, ◌∙◌, append-nil, length-append, arith, None, Some}
 use Rattle.std.specs.declared.option.Option.{Option}
 use Rattle.std.specs.Prelude.{Result, Ok}
 use Rattle.std.specs.Io.KnownBytes.{Appends, Consumes, IsAtEnd}
@@ -19,11 +19,13 @@ use Rattle.asm_text.specs.AssemblyText.{IsAssembly}
 use Rattle.asm_text.proofs.Exact.{program_read}
 use Rattle.lcc_base.specs.declared.order.Order.TheVariants.{Big}
 use Rattle.mips_machine.specs.Run.{HasMain, mrun}
-use Rattle.lcc_top.specs.Words.{AreCover, AreSimrun, AreAccepted}
-use Rattle.lcc_top.specs.Simulation.{IsBadAssembly, IsIdle, IsOutcome}
+use Rattle.lcc_top.specs.Words.{AreCover, AreSimrun, AreRcc, AreAccepted}
+use Rattle.lcc_top.specs.Compilation.{IsCompilation, IsBadProgram}
+use Rattle.first_form.specs.FirstForm.{IsFirst}
+use Rattle.lcc_top.specs.Simulation.{IsIdle, IsOutcome}
 use Rattle.lcc_top.specs.Headline.{IsAnswer, CoverHeadline, IsRunStatus, RunHeadline}
 use Rattle.lcc_top.specs.Cover.{IsCover, IsBadText}
-use Rattle.lcc_top.specs.Call.{Call, ReadAll, Covered, Simulated, WriteFailed, IsCaused, IsFree, NoFault}
+use Rattle.lcc_top.specs.Call.{Call, ReadAll, Covered, Simulated, WriteFailed, WriteOfAssemblyFailed, IsBadFor, IsCaused, IsFree, NoFault}
 
 -- what was read to the end is what was left
 the_input : (left after : Option (List ℕ)) (input bytes : List ℕ) → Consumes left after input → IsAtEnd after → left ≡ Some bytes → input ≡ bytes
@@ -33,11 +35,11 @@ the_input (Some xs) (Some ys) input bytes took end is =
     let same : xs ≡ bytes = cc in
     sym (append-nil input) ∙ ap (λ (l : List ℕ). input ++ l) (sym end) ∙ sym took ∙ same
 
-read_input : (call : Call) (input bytes : List ℕ) → ReadAll call input → call.left ≡ Some bytes → input ≡ bytes
+pub read_input : (call : Call) (input bytes : List ℕ) → ReadAll call input → call.left ≡ Some bytes → input ≡ bytes
 read_input call input bytes all is = the_input call.left call.left_after input bytes all.taken all.end is
 
 -- no more came than was left
-not_more : (left after : Option (List ℕ)) (bytes : List ℕ) → left ≡ Some bytes → length bytes ≤ 16777216 → TookMore left after 16777216 → ⊥
+pub not_more : (left after : Option (List ℕ)) (bytes : List ℕ) → left ≡ Some bytes → length bytes ≤ 16777216 → TookMore left after 16777216 → ⊥
 not_more None after bytes is small more = cc
 not_more (Some xs) None bytes is small more = more.1
 not_more (Some xs) (Some ys) bytes is small more =
@@ -51,9 +53,19 @@ not_bad call input bytes text n all is cover bad =
     let Bad : List ℕ → Type 0 = λ l. IsBadText l in
     subst Bad (sym (read_input call input bytes all is)) bad cover.description cover.trees cover.is_text cover.is_tail
 
--- words aren't those of both commands
+-- words aren't those of two commands
 not_both : (words : List (List ℕ)) → AreCover words → AreSimrun words → ⊥
 not_both words cover simrun = let sizes : 2 ≡ 3 = ap length (sym cover ∙ simrun) in absurd (omega (arith, sizes))
+
+pub not_cover_rcc : (words : List (List ℕ)) → AreCover words → AreRcc words → ⊥
+not_cover_rcc words cover rcc = let sizes : 2 ≡ 3 = ap length (sym cover ∙ rcc) in absurd (omega (arith, sizes))
+
+abbrev first_length : List (List ℕ) → ℕ
+first_length [] = 0
+first_length (w ∷ ws) = length w
+
+pub not_simrun_rcc : (words : List (List ℕ)) → AreSimrun words → AreRcc words → ⊥
+not_simrun_rcc words simrun rcc = let sizes : 6 ≡ 3 = ap first_length (sym simrun ∙ rcc) in absurd (omega (arith, sizes))
 
 -- a text is one program's
 same_program : (text : List ℕ) (p q : Program) → IsAssembly text p → IsAssembly text q → p ≡ q
@@ -69,24 +81,36 @@ this_program call input bytes p q all is mine its =
 
 -- an input that nothing is done on
 abbrev Useless : Call → List ℕ → Type 0
-Useless call bytes = (AreCover call.words × IsBadText bytes) ⊎ (AreSimrun call.words × IsIdle bytes)
+Useless call bytes = (AreCover call.words × IsBadText bytes) ⊎ (AreSimrun call.words × IsIdle bytes) ⊎ (AreRcc call.words × IsBadProgram bytes)
 
 accepted_of : (call : Call) (bytes : List ℕ) → Useless call bytes → AreAccepted call.words
 accepted_of call bytes (inl h) = inl h.0
-accepted_of call bytes (inr h) = inr h.0
+accepted_of call bytes (inr (inl h)) = inr (inl h.0)
+accepted_of call bytes (inr (inr h)) = inr (inr h.0)
 
 no_cover_of : (call : Call) (input bytes text : List ℕ) (n : ℕ) → AreCover call.words → ReadAll call input → call.left ≡ Some bytes → IsCover input text n → Useless call bytes → ⊥
 no_cover_of call input bytes text n words all is cover (inl h) = not_bad call input bytes text n all is cover h.1
-no_cover_of call input bytes text n words all is cover (inr h) = not_both call.words words h.0
+no_cover_of call input bytes text n words all is cover (inr (inl h)) = not_both call.words words h.0
+no_cover_of call input bytes text n words all is cover (inr (inr h)) = not_cover_rcc call.words words h.0
 
 no_run_of : (call : Call) (o : Outcome) (bytes : List ℕ) → Simulated call o → call.left ≡ Some bytes → Useless call bytes → ⊥
 no_run_of call o bytes h is (inl k) = not_both call.words k.0 h.accepted
-no_run_of call o bytes h is (inr k) =
+no_run_of call o bytes h is (inr (inr k)) = not_simrun_rcc call.words h.accepted k.0
+no_run_of call o bytes h is (inr (inl k)) =
     let Text : List ℕ → Type 0 = λ l. IsAssembly l h.program in
     k.1 h.program h.main (subst Text (read_input call h.input bytes h.read is) h.is_assembly) h.has_main
 
+-- the program of the input, in the words of what was left
+no_compilation_of : (call : Call) (input bytes text : List ℕ) → AreRcc call.words → ReadAll call input → call.left ≡ Some bytes → IsCompilation input text → Useless call bytes → ⊥
+no_compilation_of call input bytes text words all is h (inl k) = not_cover_rcc call.words k.0 words
+no_compilation_of call input bytes text words all is h (inr (inl k)) = not_simrun_rcc call.words k.0 words
+no_compilation_of call input bytes text words all is h (inr (inr k)) =
+    let Text : List ℕ → Type 0 = λ l. IsFirst l h.program in
+    k.1 h.program (subst Text (read_input call input bytes all is) h.is_first)
+
 pub bad_or_free : (call : Call) (o : Outcome) (bytes : List ℕ) → IsCaused call o → Useless call bytes → call.left ≡ Some bytes → length bytes ≤ 16777216 → NoFault call.read_faults call.read_faults_after → (status_of o ≡ status.BadText) ⊎ IsFree (status_of o)
 bad_or_free call outcome.Covered bytes h useless is small fine = absurd (no_cover_of call h.input bytes h.text 0 h.accepted h.read is h.cover useless)
+bad_or_free call outcome.Compiled bytes h useless is small fine = absurd (no_compilation_of call h.input bytes h.text h.accepted h.read is h.compilation useless)
 bad_or_free call (outcome.NoCover n) bytes (h, some) useless is small fine = absurd (no_cover_of call h.input bytes h.text n h.accepted h.read is h.cover useless)
 bad_or_free call (outcome.Exited s) bytes h useless is small fine = absurd (no_run_of call (outcome.Exited s) bytes h is useless)
 bad_or_free call (outcome.Stuck cause pc step) bytes h useless is small fine = absurd (no_run_of call (outcome.Stuck cause pc step) bytes h is useless)
@@ -106,16 +130,19 @@ not_accepted call input bytes d trees all is bad text tail =
     let Bad : List ℕ → Type 0 = λ l. IsBadText l in
     subst Bad (read_input call input bytes all is) bad d trees text tail
 
-no_bad_cover : (call : Call) (input bytes : List ℕ) (d : MDescription) (trees : List MTree) → AreCover call.words → ReadAll call input → call.left ≡ Some bytes → IsText d bytes → IsTail d trees bytes → (AreCover call.words × IsBadText input) ⊎ (AreSimrun call.words × IsBadAssembly input) → ⊥
+no_bad_cover : (call : Call) (input bytes : List ℕ) (d : MDescription) (trees : List MTree) → AreCover call.words → ReadAll call input → call.left ≡ Some bytes → IsText d bytes → IsTail d trees bytes → IsBadFor call.words input → ⊥
 no_bad_cover call input bytes d trees words all is text tail (inl h) = not_accepted call input bytes d trees all is h.1 text tail
-no_bad_cover call input bytes d trees words all is text tail (inr h) = not_both call.words words h.0
+no_bad_cover call input bytes d trees words all is text tail (inr (inl h)) = not_both call.words words h.0
+no_bad_cover call input bytes d trees words all is text tail (inr (inr h)) = not_cover_rcc call.words words h.0
 
-no_fault_of : (call : Call) → WriteFailed call ⊎ Simulated call outcome.WriteFault → NoFault call.write_faults call.write_faults_after → ⊥
+pub no_fault_of : (call : Call) → WriteFailed call ⊎ WriteOfAssemblyFailed call ⊎ Simulated call outcome.WriteFault → NoFault call.write_faults call.write_faults_after → ⊥
 no_fault_of call (inl h) sound = sound h.fault
-no_fault_of call (inr h) sound = sound h.ran.0
+no_fault_of call (inr (inl h)) sound = sound h.fault
+no_fault_of call (inr (inr h)) sound = sound h.ran.0
 
 pub covered_or_memory : (call : Call) (o : Outcome) (bytes : List ℕ) (d : MDescription) (trees : List MTree) → IsCaused call o → AreCover call.words → call.left ≡ Some bytes → length bytes ≤ 16777216 → IsText d bytes → IsTail d trees bytes → NoFault call.read_faults call.read_faults_after → NoFault call.write_faults call.write_faults_after → (status_of o ≡ status.Ok) ⊎ (status_of o ≡ status.NoCover) ⊎ (status_of o ≡ status.Memory)
 covered_or_memory call outcome.Covered bytes d trees h words is small text tail fine sound = inl refl
+covered_or_memory call outcome.Compiled bytes d trees h words is small text tail fine sound = absurd (not_cover_rcc call.words words h.accepted)
 covered_or_memory call (outcome.NoCover n) bytes d trees h words is small text tail fine sound = inr (inl refl)
 covered_or_memory call (outcome.Exited s) bytes d trees h words is small text tail fine sound = absurd (not_both call.words words h.accepted)
 covered_or_memory call (outcome.Stuck cause pc step) bytes d trees h words is small text tail fine sound = absurd (not_both call.words words h.accepted)
@@ -134,21 +161,23 @@ not_without_main call input bytes p q main all is mine none its has =
     let Main : Program → Type 0 = λ r. HasMain r main in
     none main (subst Main (sym (this_program call input bytes p q all is mine its)) has)
 
-no_bad_assembly : (call : Call) (input bytes : List ℕ) (p : Program) → AreSimrun call.words → ReadAll call input → call.left ≡ Some bytes → IsAssembly bytes p → (AreCover call.words × IsBadText input) ⊎ (AreSimrun call.words × IsBadAssembly input) → ⊥
+no_bad_assembly : (call : Call) (input bytes : List ℕ) (p : Program) → AreSimrun call.words → ReadAll call input → call.left ≡ Some bytes → IsAssembly bytes p → IsBadFor call.words input → ⊥
 no_bad_assembly call input bytes p words all is its (inl h) = not_both call.words h.0 words
-no_bad_assembly call input bytes p words all is its (inr h) =
+no_bad_assembly call input bytes p words all is its (inr (inr h)) = not_simrun_rcc call.words words h.0
+no_bad_assembly call input bytes p words all is its (inr (inl h)) =
     let Text : List ℕ → Type 0 = λ l. IsAssembly l p in
     h.1 p (subst Text (sym (read_input call input bytes all is)) its)
 
 pub ran_or_memory : (call : Call) (o : Outcome) (bytes : List ℕ) (p : Program) (main : ℕ) → IsCaused call o → AreSimrun call.words → call.left ≡ Some bytes → length bytes ≤ 16777216 → IsAssembly bytes p → HasMain p main → NoFault call.read_faults call.read_faults_after → NoFault call.write_faults call.write_faults_after → IsRunStatus (status_of o) ⊎ (status_of o ≡ status.Memory)
 ran_or_memory call outcome.Covered bytes p main h words is small its has fine sound = inl tt
+ran_or_memory call outcome.Compiled bytes p main h words is small its has fine sound = inl tt
 ran_or_memory call (outcome.NoCover n) bytes p main (h, some) words is small its has fine sound = absurd (not_both call.words h.accepted words)
 ran_or_memory call (outcome.Exited s) bytes p main h words is small its has fine sound = inl tt
 ran_or_memory call (outcome.Stuck cause pc step) bytes p main h words is small its has fine sound = inl tt
 ran_or_memory call (outcome.StackOut pc step) bytes p main h words is small its has fine sound = inl tt
 ran_or_memory call (outcome.OutOfSteps n) bytes p main h words is small its has fine sound = inl tt
 ran_or_memory call outcome.NoMain bytes p main h words is small its has fine sound = absurd (not_without_main call h.input bytes h.program p main h.read is h.is_assembly h.none its has)
-ran_or_memory call outcome.Usage bytes p main h words is small its has fine sound = absurd (h.refused (inr words))
+ran_or_memory call outcome.Usage bytes p main h words is small its has fine sound = absurd (h.refused (inr (inl words)))
 ran_or_memory call outcome.ReadFault bytes p main h words is small its has fine sound = absurd (fine h.fault)
 ran_or_memory call outcome.WriteFault bytes p main h words is small its has fine sound = absurd (no_fault_of call h sound)
 ran_or_memory call outcome.Memory bytes p main h words is small its has fine sound = inr refl
@@ -163,6 +192,7 @@ ran call o bytes report report_after h is did told =
 -- the headline of simrun
 pub ran_headline : (call : Call) (o : Outcome) (bytes : List ℕ) (report report_after : Option (List ℕ)) → IsCaused call o → AreSimrun call.words → call.left ≡ Some bytes → Appends report report_after (line_of o) → IsRunStatus (status_of o) → RunHeadline bytes call.taken call.taken_after report report_after (status_of o)
 ran_headline call outcome.Covered bytes report report_after h words is told good = absurd (not_both call.words h.accepted words)
+ran_headline call outcome.Compiled bytes report report_after h words is told good = absurd (not_simrun_rcc call.words words h.accepted)
 ran_headline call (outcome.NoCover n) bytes report report_after h words is told good = absurd good
 ran_headline call (outcome.Exited s) bytes report report_after h words is told good = ran call (outcome.Exited s) bytes report report_after h is h.ran told
 ran_headline call (outcome.Stuck cause pc step) bytes report report_after h words is told good = ran call (outcome.Stuck cause pc step) bytes report report_after h is h.ran told
@@ -194,6 +224,7 @@ is_cover_status s (inr is) = subst IsCoverStatus (sym is) tt
 -- the headline of lburg cover
 pub cover_headline : (call : Call) (o : Outcome) (bytes : List ℕ) (report report_after : Option (List ℕ)) → IsCaused call o → AreCover call.words → call.left ≡ Some bytes → Appends report report_after (line_of o) → (status_of o ≡ status.Ok) ⊎ (status_of o ≡ status.NoCover) → CoverHeadline bytes call.taken call.taken_after report report_after (status_of o)
 cover_headline call outcome.Covered bytes report report_after h words is told good = covered call bytes 0 status.Ok report report_after h is (inl (refl, refl, told))
+cover_headline call outcome.Compiled bytes report report_after h words is told good = absurd (not_cover_rcc call.words words h.accepted)
 cover_headline call (outcome.NoCover n) bytes report report_after (h, some) words is told good = covered call bytes n status.NoCover report report_after h is (inr (some, refl, told))
 cover_headline call (outcome.Exited s) bytes report report_after h words is told good = absurd (not_both call.words words h.accepted)
 cover_headline call (outcome.Stuck cause pc step) bytes report report_after h words is told good = absurd (not_both call.words words h.accepted)

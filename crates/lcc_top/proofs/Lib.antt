@@ -7,3 +7,7 @@ pub mod Causes
 pub mod Running
 pub mod RunOf
 pub mod Answered
+pub mod FirstBounds
+pub mod Assembled
+pub mod FirstRuns
+pub mod Compiling

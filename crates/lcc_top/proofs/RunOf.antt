@@ -12,6 +12,7 @@ use Rattle.lcc_top.specs.Work.{RunOf}
 
 by_outcome : (p : Program) (main stack steps : ℕ) (taken taken_after : Option (List ℕ)) (faults faults_after : ℕ) (o : Outcome) → HasMain p main → stack ≡ 1048576 → steps ≡ 10000000 → HasRun (λ n. mrun p Big stack main [] n) steps taken taken_after faults faults_after o → RunOf p taken taken_after faults faults_after o
 by_outcome p main stack steps taken taken_after faults faults_after outcome.Covered has size count ran = absurd ran
+by_outcome p main stack steps taken taken_after faults faults_after outcome.Compiled has size count ran = absurd ran
 by_outcome p main stack steps taken taken_after faults faults_after (outcome.NoCover n) has size count ran = absurd ran
 by_outcome p main stack steps taken taken_after faults faults_after (outcome.Exited s) has size count ran = (main, stack, steps, has, size, count, ran)
 by_outcome p main stack steps taken taken_after faults faults_after (outcome.Stuck cause pc step) has size count ran = (main, stack, steps, has, size, count, ran)

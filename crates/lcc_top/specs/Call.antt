@@ -13,9 +13,10 @@ use Rattle.asm_text.specs.declared.program.Program.{Program}
 use Rattle.asm_text.specs.AssemblyText.{IsAssembly}
 use Rattle.mips_machine.specs.Run.{HasMain, mrun}
 use Rattle.lcc_base.specs.declared.order.Order.TheVariants.{Big}
-use Rattle.lcc_top.specs.Words.{AreCover, AreSimrun, AreAccepted}
+use Rattle.lcc_top.specs.Words.{AreCover, AreSimrun, AreRcc, AreAccepted}
 use Rattle.lcc_top.specs.Simulation.{IsBadAssembly, HasRun}
 use Rattle.lcc_top.specs.Cover.{IsCover, IsBadText}
+use Rattle.lcc_top.specs.Compilation.{IsCompilation, IsBadProgram}
 
 -- The words; what the input had left and has left, where it tells; what the output had taken and has taken, where
 -- it tells; and the counts of faults of both, before and after.
@@ -49,11 +50,23 @@ pub record Covered (call : Call) (uncovered : ℕ) : Type 0 where
   pub cover : IsCover input text uncovered
   pub written : Appends call.taken call.taken_after text
 
+-- all was read, and the output took the text of the assembly of the input's program
+pub record Compiled (call : Call) : Type 0 where
+  pub accepted : AreRcc call.words
+  pub input : List ℕ
+  pub read : ReadAll call input
+  pub text : List ℕ
+  pub compilation : IsCompilation input text
+  pub written : Appends call.taken call.taken_after text
+
 -- the input isn't of the command's form
+abbrev pub IsBadFor : List (List ℕ) → List ℕ → Type 0
+IsBadFor words input = (AreCover words × IsBadText input) ⊎ (AreSimrun words × IsBadAssembly input) ⊎ (AreRcc words × IsBadProgram input)
+
 pub record BadInput (call : Call) : Type 0 where
   pub input : List ℕ
   pub read : ReadAll call input
-  pub bad : (AreCover call.words × IsBadText input) ⊎ (AreSimrun call.words × IsBadAssembly input)
+  pub bad : IsBadFor call.words input
   pub nothing : TookNothing call
 
 -- the input is the text of a program without a label main
@@ -109,9 +122,20 @@ pub record WriteFailed (call : Call) : Type 0 where
   pub cover : IsCover input text uncovered
   pub part : TookPrefix call.taken call.taken_after text
 
+-- the same, and it took a first part of the text of the assembly
+pub record WriteOfAssemblyFailed (call : Call) : Type 0 where
+  pub accepted : AreRcc call.words
+  pub fault : Rose call.write_faults call.write_faults_after
+  pub input : List ℕ
+  pub read : ReadAll call input
+  pub text : List ℕ
+  pub compilation : IsCompilation input text
+  pub part : TookPrefix call.taken call.taken_after text
+
 -- what the outcome says of the call
 abbrev pub IsCaused : Call → Outcome → Type 0
 IsCaused call outcome.Covered = Covered call 0
+IsCaused call outcome.Compiled = Compiled call
 IsCaused call (outcome.NoCover n) = Covered call n × (0 < n)
 IsCaused call outcome.Usage = WrongWords call
 IsCaused call outcome.ReadFault = ReadFailed call
@@ -120,7 +144,7 @@ IsCaused call (outcome.Stuck cause pc step) = Simulated call (outcome.Stuck caus
 IsCaused call (outcome.StackOut pc step) = Simulated call (outcome.StackOut pc step)
 IsCaused call (outcome.OutOfSteps n) = Simulated call (outcome.OutOfSteps n)
 IsCaused call outcome.NoMain = WithoutMain call
-IsCaused call outcome.WriteFault = WriteFailed call ⊎ Simulated call outcome.WriteFault
+IsCaused call outcome.WriteFault = WriteFailed call ⊎ WriteOfAssemblyFailed call ⊎ Simulated call outcome.WriteFault
 IsCaused call outcome.Memory = TookNothing call
 IsCaused call outcome.InputTooLong = TooLong call
 IsCaused call outcome.BadText = BadInput call

@@ -4,6 +4,8 @@ pub mod Status
 pub mod Outcome
 pub mod Cover
 pub mod Simulation
+pub mod Compilation
+pub mod FirstRuns
 pub mod Call
 pub mod Headline
 pub mod Work

@@ -11,6 +11,7 @@ use Rattle.lcc_top.specs.declared.outcome.Outcome.TheVariants as outcome
 
 abbrev pub status_of : Outcome → Status
 status_of outcome.Covered = status.Ok
+status_of outcome.Compiled = status.Ok
 status_of (outcome.NoCover n) = status.NoCover
 status_of (outcome.Exited s) = status.Ok
 status_of (outcome.Stuck cause pc step) = status.Stuck
@@ -45,6 +46,7 @@ place_line what pc step = (what ++ codes " at 0x" ++ hex_word pc) ++ (codes ", s
 
 abbrev pub line_of : Outcome → List ℕ
 line_of outcome.Covered = []
+line_of outcome.Compiled = []
 line_of (outcome.NoCover n) = codes "no cover: " ++ decimal n ++ codes "\n"
 line_of (outcome.Exited s) = codes "exit " ++ signed_decimal s ++ codes "\n"
 line_of (outcome.Stuck cause pc step) = place_line (codes "stuck: " ++ cause_name cause) pc step

@@ -9,5 +9,9 @@ AreCover words = words ≡ codes "lburg" ∷ (codes "cover" ∷ [])
 abbrev pub AreSimrun : List (List ℕ) → Type 0
 AreSimrun words = words ≡ codes "simrun" ∷ (codes "--target" ∷ (codes "mipseb" ∷ []))
 
+-- rcc --target mipseb
+abbrev pub AreRcc : List (List ℕ) → Type 0
+AreRcc words = words ≡ codes "rcc" ∷ (codes "--target" ∷ (codes "mipseb" ∷ []))
+
 abbrev pub AreAccepted : List (List ℕ) → Type 0
-AreAccepted words = AreCover words ⊎ AreSimrun words
+AreAccepted words = AreCover words ⊎ AreSimrun words ⊎ AreRcc words

@@ -14,6 +14,7 @@ use Rattle.lcc_top.specs.declared.words.Command.{Command}
 use Rattle.lcc_top.specs.declared.words.Command.TheVariants as command
 use Rattle.lcc_top.specs.Cover.{IsCover, IsBadText}
 use Rattle.lcc_top.specs.Simulation.{IsBadAssembly, HasRun}
+use Rattle.lcc_top.specs.Compilation.{IsCompilation, IsBadProgram}
 
 -- the output took this cover text, or a first part of it where a write failed
 abbrev pub IsWritten : Option (List ℕ) → Option (List ℕ) → ℕ → ℕ → List ℕ → ℕ → Outcome → Type 0
@@ -43,6 +44,16 @@ IsSimulated taken taken_after faults faults_after input outcome.Memory = Keeps t
 IsSimulated taken taken_after faults faults_after input outcome =
     (p : Program) × IsAssembly input p × RunOf p taken taken_after faults faults_after outcome
 
+-- the input's program was compiled and its assembly's text written so, or there is none and the output took nothing
+abbrev pub IsCompiledSo : Option (List ℕ) → Option (List ℕ) → ℕ → ℕ → List ℕ → Outcome → Type 0
+IsCompiledSo taken taken_after faults faults_after input outcome.BadText = IsBadProgram input × Keeps taken taken_after
+IsCompiledSo taken taken_after faults faults_after input outcome.Memory = Keeps taken taken_after
+IsCompiledSo taken taken_after faults faults_after input outcome.Compiled = (text : List ℕ) × IsCompilation input text × Appends taken taken_after text
+IsCompiledSo taken taken_after faults faults_after input outcome.WriteFault =
+    (text : List ℕ) × IsCompilation input text × TookPrefix taken taken_after text × Rose faults faults_after
+IsCompiledSo taken taken_after faults faults_after input outcome = ⊥
+
 abbrev pub IsDoneBy : Command → Option (List ℕ) → Option (List ℕ) → ℕ → ℕ → List ℕ → Outcome → Type 0
 IsDoneBy command.Cover = IsDone
 IsDoneBy command.Simrun = IsSimulated
+IsDoneBy command.Rcc = IsCompiledSo

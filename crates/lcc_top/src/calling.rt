@@ -7,11 +7,14 @@ ghost use Rattle.lburg_grammar.specs.TailText.{IsTail};
 ghost use Rattle.asm_text.specs.declared.program.Program.{Program};
 ghost use Rattle.asm_text.specs.AssemblyText.{IsAssembly};
 ghost use Rattle.mips_machine.specs.Run.{HasMain};
-ghost use Rattle.lcc_top.specs.Words.{AreCover, AreSimrun, AreAccepted};
+ghost use Rattle.lcc_top.specs.Words.{AreCover, AreSimrun, AreRcc, AreAccepted};
 ghost use Rattle.lcc_top.specs.Cover.{IsBadText};
 ghost use Rattle.lcc_top.specs.Simulation.{IsIdle};
+ghost use Rattle.lcc_top.specs.Compilation.{IsBadProgram};
+ghost use Rattle.first_form.specs.FirstProgram.{MProgram};
+ghost use Rattle.first_form.specs.FirstForm.{IsFirst};
 ghost use Rattle.lcc_top.specs.Call.{Call, IsCaused, IsReported, IsFree, NoFault};
-ghost use Rattle.lcc_top.specs.Headline.{CoverHeadline, IsRunStatus, RunHeadline};
+ghost use Rattle.lcc_top.specs.Headline.{CoverHeadline, IsRunStatus, RunHeadline, CompilerHeadline};
 ghost use Rattle.lcc_top.specs.declared.outcome.Outcome.{Outcome};
 
 use crate::outcome::status;
@@ -24,10 +27,11 @@ use std::alloc::Global;
 /// All the work of the program: does what the words behind the program's name ask, with the
 /// input, the output and the report that it is given.
 ///
-/// It knows two commands so far. `lburg cover` reads a description with trees in its tail, at most
+/// It knows three commands so far. `lburg cover` reads a description with trees in its tail, at most
 /// 16,777,216 bytes, and writes a line for each tree: its least-cost derivation from the start
 /// symbol, or that it has none. `simrun --target mipseb` reads MIPS assembly and runs it, for
 /// 10,000,000 steps in big-endian order with a stack of 1,048,576 bytes; what it prints is written.
+/// `rcc --target mipseb` reads a program of the first form of C and writes its MIPS assembly.
 /// Nothing is written before all memory is taken. The report takes one line that tells how the
 /// call ended, or nothing.
 pub fn top<S: Source, K: Sink, E: Sink>(
@@ -58,6 +62,10 @@ pub fn top<S: Source, K: Sink, E: Sink>(
     ensures simrun_headline { (bytes : List ℕ) → AreSimrun (map string_bytes words.now) → S.left input.old ≡ Some bytes → IsRunStatus result
         → RunHeadline bytes (K.taken output.old) (K.taken output.new) (E.taken report.old) (E.taken report.new) result }
 
+    // The headline of `rcc`, where the input tells what it had left.
+    ensures compiler_headline { (bytes : List ℕ) → AreRcc (map string_bytes words.now) → S.left input.old ≡ Some bytes → result ≡ Status.Ok
+        → CompilerHeadline bytes (K.taken output.old) (K.taken output.new) }
+
     // Only a rising count of faults gives an answer of reading or writing.
     ensures read_fault { result ≡ Status.ReadFault → Rose (S.faults input.old) (S.faults input.new) }
     ensures write_fault { result ≡ Status.WriteFault → Rose (K.faults output.old) (K.faults output.new) ⊎ Rose (E.faults report.old) (E.faults report.new) }
@@ -71,7 +79,10 @@ pub fn top<S: Source, K: Sink, E: Sink>(
     ensures bad_assembly { (bytes : List ℕ) → AreSimrun (map string_bytes words.now) → S.left input.old ≡ Some bytes → length bytes ≤ 16777216
         → IsIdle bytes → NoFault (S.faults input.old) (S.faults input.new) → (result ≡ Status.BadText) ⊎ IsFree result }
 
-    // What is accepted is covered or run, unless memory was wanted or a stream failed.
+    ensures bad_program { (bytes : List ℕ) → AreRcc (map string_bytes words.now) → S.left input.old ≡ Some bytes → length bytes ≤ 16777216
+        → IsBadProgram bytes → NoFault (S.faults input.old) (S.faults input.new) → (result ≡ Status.BadText) ⊎ IsFree result }
+
+    // What is accepted is covered, run or compiled, unless memory was wanted or a stream failed.
     ensures complete { (bytes : List ℕ) (d : MDescription) (trees : List MTree) → AreCover (map string_bytes words.now)
         → S.left input.old ≡ Some bytes → length bytes ≤ 16777216 → IsText d bytes → IsTail d trees bytes
         → NoFault (S.faults input.old) (S.faults input.new) → NoFault (K.faults output.old) (K.faults output.new) → NoFault (E.faults report.old) (E.faults report.new)
@@ -80,6 +91,10 @@ pub fn top<S: Source, K: Sink, E: Sink>(
         → S.left input.old ≡ Some bytes → length bytes ≤ 16777216 → IsAssembly bytes p → HasMain p main
         → NoFault (S.faults input.old) (S.faults input.new) → NoFault (K.faults output.old) (K.faults output.new) → NoFault (E.faults report.old) (E.faults report.new)
         → IsRunStatus result ⊎ (result ≡ Status.Memory) }
+    ensures complete_compile { (bytes : List ℕ) (p : MProgram) → AreRcc (map string_bytes words.now)
+        → S.left input.old ≡ Some bytes → length bytes ≤ 16777216 → IsFirst bytes p
+        → NoFault (S.faults input.old) (S.faults input.new) → NoFault (K.faults output.old) (K.faults output.new) → NoFault (E.faults report.old) (E.faults report.new)
+        → (result ≡ Status.Ok) ⊎ (result ≡ Status.Memory) }
 {
     let outcome = run(alloc, words, input, output);
     match write_line(report, outcome) {

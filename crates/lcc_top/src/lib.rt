@@ -5,6 +5,7 @@ mod calling;
 mod cover;
 mod outcome;
 mod printer;
+mod rcc;
 mod report;
 mod simulate;
 mod status;
@@ -14,5 +15,9 @@ mod work;
 pub use calling::top;
 pub use status::Status;
 
+#[cfg(test)]
+mod calls;
+#[cfg(test)]
+mod rcc_tests;
 #[cfg(test)]
 mod tests;

@@ -9,6 +9,8 @@ use asm_text::StuckCause;
 pub(crate) enum Outcome {
     /// Each tree has a line with its derivation.
     Covered,
+    /// The program was compiled.
+    Compiled,
     /// So many trees have no derivation.
     NoCover(u64),
     /// The run has ended with this status.
@@ -41,6 +43,7 @@ pub(crate) fn status(outcome: Outcome) -> Status
 {
     match outcome {
         Outcome::Covered => Status::Ok,
+        Outcome::Compiled => Status::Ok,
         Outcome::NoCover(_) => Status::NoCover,
         Outcome::Exited(_) => Status::Ok,
         Outcome::Stuck(_, _, _) => Status::Stuck,

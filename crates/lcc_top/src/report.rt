@@ -115,6 +115,7 @@ pub(crate) fn write_line<E: Sink>(report: &mut E, outcome: Outcome) -> Result<()
         Outcome::InputTooLong => write_all(report, b"input too long\n"),
         Outcome::BadText => write_all(report, b"bad text\n"),
         Outcome::Covered => write_all(report, b""),
+        Outcome::Compiled => write_all(report, b""),
         Outcome::ReadFault => write_all(report, b""),
         Outcome::WriteFault => write_all(report, b""),
         Outcome::Memory => write_all(report, b""),

@@ -1,5 +1,6 @@
+use crate::calls::{Ran, call, simulate};
 use crate::{Status, top};
-use lcc_base::{CountSink, FullSource, MemSink, MemSource};
+use lcc_base::{CountSink, FullSource, MemSink};
 use std::alloc::{AllocError, Global};
 use std::test::Fail;
 
@@ -23,14 +24,6 @@ fn cover_words(alloc: Global) -> Result<Vec<String>, AllocError> {
     Ok(words)
 }
 
-/// What a call gave: its status, and what output and report took.
-#[derive(Drop)]
-struct Ran {
-    status: Status,
-    output: Vec<u8>,
-    report: Vec<u8>,
-}
-
 /// Covers the text behind the eight rules, with reads and writes of these numbers failing.
 fn cover(
     alloc: Global,
@@ -41,21 +34,7 @@ fn cover(
 ) -> Result<Ran, AllocError> {
     let mut bytes = text.as_bytes().to_vec(alloc)?;
     bytes.extend_from_slice(tail.as_bytes())?;
-    let mut input = MemSource::new(bytes, reads.to_vec(alloc)?);
-    let mut output = MemSink::new(alloc, writes.to_vec(alloc)?);
-    let mut report = MemSink::new(alloc, Vec::new(alloc));
-    let status = top(
-        alloc,
-        &cover_words(alloc)?,
-        &mut input,
-        &mut output,
-        &mut report,
-    );
-    Ok(Ran {
-        status,
-        output: output.taken().to_vec(alloc)?,
-        report: report.taken().to_vec(alloc)?,
-    })
+    call(alloc, &["lburg", "cover"], bytes, reads, writes)
 }
 
 #[test]
@@ -195,23 +174,6 @@ fn ten_thousand_trees(rt: HostRuntime) -> Result<(), Fail> {
     Ok(())
 }
 
-/// Runs a text of assembly.
-fn simulate(alloc: Global, text: &str) -> Result<Ran, AllocError> {
-    let mut words = Vec::new(alloc);
-    words.push(String::from_str(alloc, "simrun")?)?;
-    words.push(String::from_str(alloc, "--target")?)?;
-    words.push(String::from_str(alloc, "mipseb")?)?;
-    let mut input = MemSource::new(text.as_bytes().to_vec(alloc)?, Vec::new(alloc));
-    let mut output = MemSink::new(alloc, Vec::new(alloc));
-    let mut report = MemSink::new(alloc, Vec::new(alloc));
-    let status = top(alloc, &words, &mut input, &mut output, &mut report);
-    Ok(Ran {
-        status,
-        output: output.taken().to_vec(alloc)?,
-        report: report.taken().to_vec(alloc)?,
-    })
-}
-
 #[test]
 fn simulates(rt: HostRuntime) -> Result<(), Fail> {
     let alloc = rt.alloc();
@@ -323,7 +285,7 @@ fn simulates(rt: HostRuntime) -> Result<(), Fail> {
         ),
     ];
     for (text, status, output, report) in table {
-        let ran = simulate(alloc, text)?;
+        let ran = simulate(alloc, text.as_bytes())?;
         assert_eq!(rt; ran.status, status);
         assert_eq!(rt; ran.output.as_slice(), output.as_bytes());
         assert_eq!(rt; ran.report.as_slice(), report.as_bytes());

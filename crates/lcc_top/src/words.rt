@@ -1,5 +1,5 @@
 ghost use Rattle.std.specs.Prelude.{◌≡◌, ◌↔◌, IsTrue, IfSome, IfNone, map, string_bytes};
-ghost use Rattle.lcc_top.specs.Words.{AreCover, AreSimrun, AreAccepted};
+ghost use Rattle.lcc_top.specs.Words.{AreCover, AreSimrun, AreRcc, AreAccepted};
 ghost use Rattle.lcc_top.specs.Commands.{AreWordsOf};
 
 /// What the words ask for.
@@ -9,6 +9,8 @@ pub(crate) enum Command {
     Cover,
     /// `simrun --target mipseb`
     Simrun,
+    /// `rcc --target mipseb`
+    Rcc,
 }
 
 fn is(word: &String, text: &str) -> bool
@@ -34,6 +36,13 @@ fn are_simrun(words: &[String]) -> bool
         && is(&words[2], "mipseb")
 }
 
+#[tactic(auto, using(crate::proofs::SomeWords::three_words))]
+fn are_rcc(words: &[String]) -> bool
+    ensures { IsTrue result ↔ AreRcc (map string_bytes words.now) }
+{
+    words.len() == 3 && is(&words[0], "rcc") && is(&words[1], "--target") && is(&words[2], "mipseb")
+}
+
 /// The command that the words behind the program's name are, if they are one.
 pub(crate) fn command_of(words: &[String]) -> Option<Command>
     ensures some { IfSome result (λ c. AreWordsOf c (map string_bytes words.now)) }
@@ -44,6 +53,9 @@ pub(crate) fn command_of(words: &[String]) -> Option<Command>
     }
     if are_simrun(words) {
         return Some(Command::Simrun);
+    }
+    if are_rcc(words) {
+        return Some(Command::Rcc);
     }
     None
 }

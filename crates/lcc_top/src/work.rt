@@ -1,11 +1,12 @@
-ghost use Rattle.std.specs.Prelude.{◌≡◌, ◌≤◌, map, string_bytes};
+ghost use Rattle.std.specs.Prelude.{◌≡◌, ◌≤◌, length, map, string_bytes};
 ghost use Rattle.lcc_top.specs.Call.{Call, IsCaused};
 ghost use Rattle.lcc_top.specs.Commands.{AreWordsOf};
 ghost use Rattle.asm_text.specs.IsProgram.{IsProgram};
-ghost use Rattle.lcc_top.specs.Work.{IsDone, IsWritten, IsDoneBy, IsSimulated, RunOf};
+ghost use Rattle.lcc_top.specs.Work.{IsDone, IsWritten, IsDoneBy, IsSimulated, IsCompiledSo, RunOf};
 
 use crate::cover::{Cover, CoverEnd, cover_text};
 use crate::outcome::Outcome;
+use crate::rcc::{CompileEnd, compile};
 use crate::simulate::run_machine;
 use crate::words::{Command, command_of};
 use asm_text::{AsmFault, Isa, Program};
@@ -84,14 +85,32 @@ fn run_input<K: Sink>(alloc: Global, input: &[u8], output: &mut K) -> Outcome
     }
 }
 
+/// Compiles the program that the input is the text of.
+fn compile_input<K: Sink>(alloc: Global, input: &[u8], output: &mut K) -> Outcome
+    requires { length input.now ≤ 16777216 }
+    ensures done { IsCompiledSo (K.taken output.old) (K.taken output.new) (K.faults output.old) (K.faults output.new) input.now result }
+    ensures later { K.faults output.old ≤ K.faults output.new }
+{
+    match compile(alloc, input) {
+        Ok(text) => match write_all(output, text.as_slice()) {
+            Ok(()) => Outcome::Compiled,
+            Err(Failed) => Outcome::WriteFault,
+        },
+        Err(CompileEnd::BadText) => Outcome::BadText,
+        Err(CompileEnd::Memory) => Outcome::Memory,
+    }
+}
+
 /// Does a command's work on the input.
 fn work<K: Sink>(alloc: Global, command: Command, input: &[u8], output: &mut K) -> Outcome
+    requires { length input.now ≤ 16777216 }
     ensures done { IsDoneBy command (K.taken output.old) (K.taken output.new) (K.faults output.old) (K.faults output.new) input.now result }
     ensures later { K.faults output.old ≤ K.faults output.new }
 {
     match command {
         Command::Cover => cover_input(alloc, input, output),
         Command::Simrun => run_input(alloc, input, output),
+        Command::Rcc => compile_input(alloc, input, output),
     }
 }
 

@@ -1,9 +1,10 @@
-use Rattle.std.proofs.Common.{◌≡◌, ◌⊎◌, inl, inr, sym, subst}
+use Rattle.std.proofs.Common.{◌≡◌, ◌⊎◌, inl, inr, sym, ◌∙◌, subst}
 use Rattle.lcc_top.specs.declared.status.Status.{Status}
 use Rattle.lcc_top.specs.declared.status.Status.TheVariants as status
 use Rattle.lcc_top.specs.Call.{IsFree}
 use Rattle.lcc_top.specs.Headline.{CoverHeadline, IsRunStatus, RunHeadline}
 use Rattle.lcc_top.proofs.Answered.{bad_or_free, covered_or_memory, ran_or_memory, cover_headline, ran_headline}
+use Rattle.lcc_top.proofs.Compiling.{compiled_or_memory, compiler_headline}
 use Rattle.lcc_top.proofs.calling.top.Goals as goal
 
 pub returns-in-Ok-clause-cover_headline : goal.returns-in-Ok-clause-cover_headline
@@ -25,7 +26,7 @@ returns-in-Ok-clause-bad_text g c = λ bytes words is small bad fine.
 pub returns-in-Ok-clause-bad_assembly : goal.returns-in-Ok-clause-bad_assembly
 returns-in-Ok-clause-bad_assembly g c = λ bytes words is small idle fine.
     (let Answer : Status → Type 0 = λ s. (s ≡ status.BadText) ⊎ IsFree s in
-    subst Answer (sym c.status.ensures) (bad_or_free _ c.run-outcome.result bytes c.run-outcome.ensures.caused (inr (words, idle)) is small fine))
+    subst Answer (sym c.status.ensures) (bad_or_free _ c.run-outcome.result bytes c.run-outcome.ensures.caused (inr (inl (words, idle))) is small fine))
 
 pub returns-in-Ok-clause-complete : goal.returns-in-Ok-clause-complete
 returns-in-Ok-clause-complete g c = λ bytes d trees words is small text tail fine sound _.
@@ -36,3 +37,17 @@ pub returns-in-Ok-clause-complete_run : goal.returns-in-Ok-clause-complete_run
 returns-in-Ok-clause-complete_run g c = λ bytes p main words is small text has fine sound _.
     (let Answer : Status → Type 0 = λ s. IsRunStatus s ⊎ (s ≡ status.Memory) in
     subst Answer (sym c.status.ensures) (ran_or_memory _ c.run-outcome.result bytes p main c.run-outcome.ensures.caused words is small text has fine sound))
+
+pub returns-in-Ok-clause-compiler_headline : goal.returns-in-Ok-clause-compiler_headline
+returns-in-Ok-clause-compiler_headline g c = λ bytes words is good.
+    compiler_headline _ c.run-outcome.result bytes c.run-outcome.ensures.caused words is (sym c.status.ensures ∙ good)
+
+pub returns-in-Ok-clause-bad_program : goal.returns-in-Ok-clause-bad_program
+returns-in-Ok-clause-bad_program g c = λ bytes words is small bad fine.
+    (let Answer : Status → Type 0 = λ s. (s ≡ status.BadText) ⊎ IsFree s in
+    subst Answer (sym c.status.ensures) (bad_or_free _ c.run-outcome.result bytes c.run-outcome.ensures.caused (inr (inr (words, bad))) is small fine))
+
+pub returns-in-Ok-clause-complete_compile : goal.returns-in-Ok-clause-complete_compile
+returns-in-Ok-clause-complete_compile g c = λ bytes p words is small text fine sound _.
+    (let Answer : Status → Type 0 = λ s. (s ≡ status.Ok) ⊎ (s ≡ status.Memory) in
+    subst Answer (sym c.status.ensures) (compiled_or_memory _ c.run-outcome.result bytes p c.run-outcome.ensures.caused words is small text fine sound))
