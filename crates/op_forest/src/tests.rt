@@ -104,8 +104,7 @@ fn good_forests(rt: HostRuntime) -> Result<(), Fail> {
         // The ints.
         [Part::With(Op::Cnst, Suffix::I, Sym::Nothing, Some(2_147_483_647))].as_slice(),
         [Part::With(Op::Cnst, Suffix::I, Sym::Nothing, Some(-2_147_483_648))].as_slice(),
-        // A symbol or a constant that no operator asks for.
-        [Part::With(Op::Cnst, Suffix::I, NAME, Some(0))].as_slice(),
+        // A constant that no operator asks for.
         [Part::With(Op::Addrg, Suffix::P, NAME, Some(0)), CALL].as_slice(),
         // Arguments and the call that takes them.
         [FIVE, ARG, FIVE, ARG, ADDRESS, CALL].as_slice(),
@@ -194,6 +193,11 @@ fn kinds(rt: HostRuntime) -> Result<(), Fail> {
         ([ADDRESS, ARG, ADDRESS, CALL].as_slice(), 0),
         // A constant or a symbol is missing, of another kind, or doesn't fit.
         ([Part::With(Op::Cnst, Suffix::I, NAME, None)].as_slice(), 0),
+        // A constant with a symbol.
+        (
+            [Part::With(Op::Cnst, Suffix::I, NAME, Some(0))].as_slice(),
+            0,
+        ),
         (
             [
                 Part::With(Op::Cnst, Suffix::I, Sym::Nothing, Some(2_147_483_648)),
