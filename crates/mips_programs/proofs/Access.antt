@@ -22,7 +22,7 @@ use Rattle.mips_programs.specs.Working.{Working, Gets}
 use Rattle.mips_programs.specs.Frames.{Frame, IsSound, stack_of, frame_word}
 use Rattle.mips_programs.specs.Following.{StandsAt}
 use Rattle.mips_programs.specs.Matches.{Alike, IsResult, Returned}
-use Rattle.mips_programs.proofs.Steps.{with_cpu, with_register, with_stack, index_set, index_other, both_gets, once, stepped, written, pointed, accessed}
+use Rattle.mips_programs.proofs.Steps.{with_cpu, with_register, with_stack, index_set, index_other, both_gets, once, stepped, written, pointed, accessed, further}
 use Rattle.mips_programs.proofs.Words.{with_stack_word}
 use Rattle.mips_programs.proofs.Keep.{set_leaves, frame_inside}
 
@@ -91,6 +91,3 @@ leave p order room map f i s h v sound a result at stands =
 
     bottom : length h.cpu.stack ≡ stack_of f → floor_of (length h.cpu.stack) ≤ f.low + frame_size f.layout
     bottom room_is = let x = sound.above in omega (arith, x, room_is)
-
-    further : (j pc : ℕ) → pc ≡ code_start + 4 * j → pc + 4 ≡ code_start + 4 * suc j
-    further j pc e = omega (arith, e)

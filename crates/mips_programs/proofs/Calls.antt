@@ -1,6 +1,6 @@
 -- Progress, and what a call leaves.
-use Rattle.std.specs.Prelude.{◌≡◌, ◌≤◌, ◌<◌, ℕ, zero, suc, ◌+◌, ◌-◌, ◌*◌, ◌==◌, true, false, pos, List, [], ◌∷◌, ◌++◌, length, IsTrue}
-use Rattle.std.proofs.Common.{refl, sym, ap, ◌∙◌, subst, inl, inr, ⊎_elim, append_assoc, append-nil, arith}
+use Rattle.std.specs.Prelude.{◌≡◌, ◌≤◌, ◌<◌, ℕ, zero, suc, ◌+◌, ◌-◌, ◌*◌, ◌==◌, true, false, pos, List, [], ◌∷◌, length, IsTrue}
+use Rattle.std.proofs.Common.{refl, sym, ◌∙◌, subst, inl, inr, ⊎_elim, arith}
 use Rattle.std.proofs.lemmas.Bool.{both_ways, eqb-true, or_cases, cond-true}
 use Rattle.std.specs.Int.Bits.{and_zero_r}
 use Rattle.lcc_base.specs.declared.order.Order.{Order}
@@ -16,21 +16,16 @@ use Rattle.mips_machine.specs.Run.{Run}
 use Rattle.mips_machine.specs.StepTable.{register}
 use Rattle.mips_rules.specs.Instructions.{lost_at_calls}
 use Rattle.mips_target.specs.Generated.{temporaries}
-use Rattle.mips_programs.specs.Working.{Working, runs, Gets, Starts}
+use Rattle.mips_programs.specs.Working.{Working, runs, Gets}
 use Rattle.mips_programs.specs.Frames.{Waiting, IsOwn, Frame, stack_of, frame_word}
 use Rattle.mips_programs.specs.Matches.{Handed, Alike, Spent, Comes, CameBack}
+use Rattle.mips_programs.proofs.Prefixes.{starts_more}
 use Rattle.mips_programs.proofs.Steps.{runs_more, both_gets}
 use Rattle.mips_programs.proofs.Words.{small_index}
 
 -- a run that goes on from where the machine gets
 pub runs_on : (p : Program) (order : Order) (h h' : Working) (g : Gets p order h h') (n : ℕ) (r : Run) → runs p order h' n ≡ r → runs p order h (g.0 + n) ≡ r
 runs_on p order h h' g n r e = runs_more p order h h' g.0 n g.2 ∙ e
-
-pub starts_more : (a b c : List ℕ) → Starts a b → Starts b c → Starts a c
-starts_more a b c x y = (x.0 ++ y.0, sym (append_assoc a x.0 y.0) ∙ ap (λ z. z ++ y.0) x.1 ∙ y.1)
-
-pub starts_same : (a : List ℕ) → Starts a a
-starts_same a = ([], append-nil a)
 
 -- an instruction at least was run, so another one is paid for
 paid : (n m j long len less : ℕ) → n ≤ m * long + len → len < long → 1 ≤ j → suc n ≤ (j + m) * long + less

@@ -13,7 +13,7 @@ use Rattle.mips_programs.specs.Working.{Starts}
 use Rattle.mips_programs.specs.Reached.{printed_by, depth_by, IsDone}
 use Rattle.mips_programs.specs.Agrees.{IsStackOut, Agrees}
 use Rattle.mips_programs.specs.Meant.{HasMeaning}
-use Rattle.mips_programs.proofs.Points.{starts_same, starts_more}
+use Rattle.mips_programs.proofs.Prefixes.{starts_same, starts_more}
 
 pub meant_not_stuck : (e : Effect) → HasMeaning e → e ≡ Stuck → ⊥
 meant_not_stuck e m is = subst HasMeaning is m

@@ -25,7 +25,7 @@ use Rattle.mips_programs.specs.Working.{Working, Gets}
 use Rattle.mips_programs.specs.Frames.{Waiting, Frame, IsSound, memory_of, Leaves}
 use Rattle.mips_programs.specs.Following.{StandsAt}
 use Rattle.mips_programs.specs.Matches.{IsBare, Alike, Entry, Spent}
-use Rattle.mips_programs.proofs.Steps.{with_cpu, with_register, with_stack, index_set, index_other, both_gets, once, once_out, stepped, pointed, out_of_stack}
+use Rattle.mips_programs.proofs.Steps.{with_cpu, with_register, with_stack, index_set, index_other, both_gets, once, once_out, stepped, pointed, out_of_stack, further}
 use Rattle.mips_programs.proofs.Words.{with_stack_word, small_index}
 use Rattle.mips_programs.proofs.Keep.{bare_lies, set_leaves, put_leaves, frame_word_same}
 use Rattle.mips_programs.proofs.Access.{store_word}
@@ -93,9 +93,6 @@ module _ (p : Program) (order : Order) (room : ℕ → ℕ) (map : Map) (outer :
     where
       apart : (a b : ℕ) → b < a → a ≡ b → ⊥
       apart a b g e = omega (arith, g, e)
-
-      further : (j pc : ℕ) → pc ≡ code_start + 4 * j → pc + 4 ≡ code_start + 4 * suc j
-      further j pc e = omega (arith, e)
 
   pub enters_alike : floor_of (length h.cpu.stack) + frame_size l ≤ register h.cpu 29 → Alike order room map (frame_of l outer name q.world h) (initial forest_order name fn q) (entered_machine order l h)
   enters_alike fits =

@@ -1,7 +1,7 @@
 -- The machine follows the allocated code of a function.
 use Rattle.std.specs.Prelude.{◌≡◌, ◌≤◌, ◌<◌, ℕ, zero, suc, ◌+◌, ◌-◌, ◌*◌, ◌%◌, ◌^◌, ◌==◌, min, nat_lt, if◌then◌else◌, pos, negsuc, false, List, [], ◌∷◌, ◌++◌, length, get_or, Option, None, Some, slice_get, slice_set, IsTrue}
 use Rattle.std.proofs.Common.{refl, sym, ap, ◌∙◌, subst, inl, inr, ⊎_elim, length-append, arith}
-use Rattle.std.proofs.lemmas.Bool.{both_ways, eqb-true, or_cases, or_from, ne_eqb, cond-true, cond-false, lt-ltb, le-ltb, cases_lt, cases_eq}
+use Rattle.std.proofs.lemmas.Bool.{or_from, ne_eqb, cond-true, cond-false, lt-ltb, le-ltb, cases_lt, cases_eq}
 use Rattle.std.proofs.lemmas.Option.{slice_get_within}
 use Rattle.lcc_base.specs.declared.order.Order.{Order}
 use Rattle.asm_text.specs.declared.program.Program.{Program}
@@ -38,9 +38,10 @@ use Rattle.mips_programs.specs.Frames.{Kept, Frame, stack_of, IsSound, stack_wor
 use Rattle.mips_programs.specs.Following.{StandsAt}
 use Rattle.mips_programs.specs.Matches.{IsBare, Handed, Alike, Spent, Comes, passed_word, Entry, Answers, Calling}
 use Rattle.mips_programs.specs.Programs.{CanBeNamed, ArePlain, CallsAre, IsAddressed}
-use Rattle.mips_programs.proofs.Steps.{with_register, with_stack, with_cpu, index_set, index_other, runs_more, both_gets, once, stepped, wrote}
+use Rattle.mips_programs.proofs.Steps.{with_register, with_stack, with_cpu, index_set, index_other, runs_more, both_gets, once, stepped, wrote, further}
 use Rattle.mips_programs.proofs.Words.{small_word, small_get, with_stack_word}
-use Rattle.mips_programs.proofs.Keep.{set_temporary, set_other, put_slot, put_argument, with_argument}
+use Rattle.mips_programs.proofs.Called.{stands_behind}
+use Rattle.mips_programs.proofs.Keep.{temporary_range, set_temporary, set_other, put_slot, put_argument, with_argument}
 use Rattle.mips_programs.proofs.Access.{load_word, store_word, leave}
 use Rattle.mips_programs.proofs.Grow.{executed_begins}
 use Rattle.mips_programs.proofs.Calls.{runs_on, spent_later, spent_in, later_by, grown_same, waiting_in, called_alike}
@@ -57,16 +58,6 @@ same_combined binary.Multiply x y = refl
 
 negated_small : (x : ℕ) → negated x < 2 ^ 32
 negated_small x = omega arith
-
--- a place moves on with an instruction
-further : (i pc : ℕ) → pc ≡ code_start + 4 * i → pc + 4 ≡ code_start + 4 * suc i
-further i pc e = omega arith
-
-pub temporary_range : (d : ℕ) → IsTrue (among d temporaries) → (8 ≤ d) × (d ≤ 10)
-temporary_range d h = ⊎_elim (λ e. at 8 (omega arith) (omega arith) (eqb-true d 8 e)) (λ x. ⊎_elim (λ e. at 9 (omega arith) (omega arith) (eqb-true d 9 e)) (λ y. ⊎_elim (λ e. at 10 (omega arith) (omega arith) (eqb-true d 10 e)) (λ z. absurd (both_ways false refl z)) (or_cases (d == 10) false y)) (or_cases (d == 9) (among d (10 ∷ [])) x)) (or_cases (d == 8) (among d (9 ∷ 10 ∷ [])) h)
-  where
-    at : (n : ℕ) → 8 ≤ n → n ≤ 10 → d ≡ n → (8 ≤ d) × (d ≤ 10)
-    at n low high e = (omega arith, omega arith)
 
 above_zero : (d : ℕ) → IsTrue (among d temporaries) → 0 < d
 above_zero d t = let r = temporary_range d t in omega (arith, r.0)
@@ -118,10 +109,6 @@ of_name C t (Some (Partly mask bits)) q go stuck went = stuck
 pub front_stands : (code : List Instruction) (i : ℕ) (xs ys : List Instruction) → StandsAt code i (xs ++ ys) → StandsAt code i xs
 front_stands code i [] ys h = tt
 front_stands code i (x ∷ xs) ys h = (h.0, front_stands code (suc i) xs ys h.1)
-
-pub back_stands : (code : List Instruction) (i : ℕ) (xs ys : List Instruction) → StandsAt code i (xs ++ ys) → StandsAt code (i + length xs) ys
-back_stands code i [] ys h = let e : i ≡ i + 0 = omega arith in subst (λ n. StandsAt code n ys) e h
-back_stands code i (x ∷ xs) ys h = let e : suc i + length xs ≡ i + suc (length xs) = omega arith in subst (λ n. StandsAt code n ys) e (back_stands code (suc i) xs ys h.1)
 
 length_loads : (m : ℕ) → length (loads_of m) ≡ m
 length_loads zero = refl
@@ -176,7 +163,7 @@ loaded p order room map f s i zero h sound few a at stands = record {
     none j l = omega arith
 loaded p order room map f s i (suc m) h sound few a at stands =
     let front = front_stands p.code i (loads_of m) _ stands in
-    let back = back_stands p.code i (loads_of m) _ stands in
+    let back = stands_behind p.code i (loads_of m) _ stands in
     let here : slice_get p.code (i + m) ≡ Some (to.Load load.Word (4 + m) (in_frame (4 * m))) = subst (λ n. slice_get p.code (i + n) ≡ Some (to.Load load.Word (4 + m) (in_frame (4 * m)))) (length_loads m) back.0 in
     let x = loaded p order room map f s i m h sound (omega arith) a at front in
     let v = frame_word order f x.place.cpu.stack m in
@@ -337,11 +324,11 @@ module _ (p : Program) (order : Order) (room places : ℕ → ℕ) (long far : �
         let known = r.calls.0 fn (subst (λ (global : ℕ → Option Word). global name ≡ Some (Function fn)) same value) in
         let bytes = get_or names name [] in
         let all = front_stands p.code i (call_of names k d name) (body_of names f.layout 0 is) r.stands in
-        let rest = back_stands p.code i (call_of names k d name) (body_of names f.layout 0 is) r.stands in
+        let rest = stands_behind p.code i (call_of names k d name) (body_of names f.layout 0 is) r.stands in
         let two : List Instruction = to.Call (target.Label bytes) ∷ to.Move d 2 ∷ [] in
         let first = front_stands p.code i (loads_of j) two all in
         let x = loaded p order room map f s i j h sound (omega arith) r.alike r.at first in
-        let there = subst (λ n2. StandsAt p.code (i + n2) two) (length_loads j) (back_stands p.code i (loads_of j) two all) in
+        let there = subst (λ n2. StandsAt p.code (i + n2) two) (length_loads j) (stands_behind p.code i (loads_of j) two all) in
         let last : length (call_of names k d name) ≡ j + 2 = length-append (loads_of j) two ∙ ap (λ n2. n2 + 2) (length_loads j) in
         let h1 = x.place in
         let cpu2 : Cpu = record { registers = slice_set h1.cpu.registers 31 (h1.cpu.pc + 4); stack = h1.cpu.stack; pc = address_of p bytes } in

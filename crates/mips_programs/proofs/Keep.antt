@@ -133,8 +133,8 @@ same_true : (d e : ℕ) → (d == e) ≡ true → d ≡ e
 same_true d e h = eqb-true d e h
 
 -- a temporary is one of the machine's registers, and not the stack pointer
-temporary_bounds : (d : ℕ) → IsTrue (among d temporaries) → (8 ≤ d) × (d ≤ 10)
-temporary_bounds d h =
+pub temporary_range : (d : ℕ) → IsTrue (among d temporaries) → (8 ≤ d) × (d ≤ 10)
+temporary_range d h =
     ⊎_elim (λ e. bounds d 8 (omega arith) (omega arith) (same_true d 8 e))
     (λ h1. ⊎_elim (λ e. bounds d 9 (omega arith) (omega arith) (same_true d 9 e))
     (λ h2. ⊎_elim (λ e. bounds d 10 (omega arith) (omega arith) (same_true d 10 e)) (λ h3. absurd (both_ways false refl h3)) (or_cases (d == 10) false h2))
@@ -147,7 +147,7 @@ temporary_bounds d h =
 -- a temporary gets a word
 pub set_temporary : (order : Order) (room : ℕ → ℕ) (map : Map) (f : Frame) (s : State) (h : Working) (d v pc : ℕ) (w : Word) → IsTrue (among d temporaries) → v < 2 ^ 32 → IsWord map w v → Alike order room map f s h → Alike order room map f (record { registers = with_value s.registers d w; slots = s.slots; point = s.point }) (with_register h d v pc)
 set_temporary order room map f s h d v pc w temporary small is a =
-    let low = temporary_bounds d temporary in
+    let low = temporary_range d temporary in
     record {
       leaves = set_leaves order f h.cpu.registers h.cpu.stack d v (omega (arith, low.1)) small a.leaves;
       shows = record { printed = a.shows.printed; input = a.shows.input; lies = a.shows.lies };

@@ -17,7 +17,7 @@ use Rattle.mips_machine.specs.Run.{after}
 use Rattle.mips_programs.specs.Working.{Working, Gets}
 use Rattle.mips_programs.specs.Frames.{Waiting, memory_of}
 use Rattle.mips_programs.specs.Matches.{IsBare, Handed, Entry, Answers, passed_word}
-use Rattle.mips_programs.proofs.Steps.{index_set, index_other, at_putchar}
+use Rattle.mips_programs.proofs.Steps.{index_set, index_other, at_putchar, small_set}
 use Rattle.mips_programs.proofs.Keep.{bare_lies}
 use Rattle.mips_programs.proofs.Enter.{open_append}
 
@@ -34,13 +34,6 @@ without_other test (d ∷ ds) registers r e ne =
 without_length : (ds registers : List ℕ) → length (without ds registers) ≡ length registers
 without_length [] registers = refl
 without_length (d ∷ ds) registers = without_length ds (slice_set registers d 0) ∙ length-set registers d 0
-
-small_set : (limit : ℕ) (registers : List ℕ) (d v : ℕ) → v < limit → ((x : ℕ) → slice_index registers x < limit) → (x : ℕ) → slice_index (slice_set registers d v) x < limit
-small_set limit [] d v low h x = h x
-small_set limit (r ∷ rs) zero v low h zero = low
-small_set limit (r ∷ rs) zero v low h (suc x) = h (suc x)
-small_set limit (r ∷ rs) (suc d) v low h zero = h zero
-small_set limit (r ∷ rs) (suc d) v low h (suc x) = small_set limit rs d v low (λ y. h (suc y)) x
 
 without_small : (ds registers : List ℕ) → ((x : ℕ) → slice_index registers x < 2 ^ 32) → (x : ℕ) → slice_index (without ds registers) x < 2 ^ 32
 without_small [] registers h = h

@@ -1,18 +1,18 @@
 -- The start of the machine is where the call of the function main begins.
-use Rattle.std.proofs.Common.{◌≡◌, ℕ, zero, suc, ◌+◌, ◌*◌, ◌^◌, ◌<◌, ◌≤◌, List, [], ◌∷◌, Option, Some, None, refl, sym, ◌∙◌, subst, arith}
+use Rattle.std.proofs.Common.{◌≡◌, ℕ, zero, suc, ◌+◌, ◌*◌, ◌^◌, ◌<◌, ◌≤◌, List, [], Some, None, refl, sym, subst, arith}
 use Rattle.std.specs.Prelude.{slice_get, slice_index, slice_set, replicate}
 use Rattle.std.proofs.lemmas.List.{length-replicate}
 use Rattle.std.proofs.lemmas.Option.{none-some, same_Some}
 use Rattle.lcc_base.specs.declared.order.Order.{Order}
 use Rattle.op_forest.specs.Lowered.{LoweredUnit}
 use Rattle.op_forest.specs.Units.{start_world}
-use Rattle.op_forest.specs.Words.{Byte}
-use Rattle.op_forest.specs.Worlds.{Object}
-use Rattle.vcode.specs.Maps.{Map, IsAt, Lies}
+use Rattle.vcode.specs.Maps.{Map}
 use Rattle.mips_machine.specs.Addresses.{code_start, end_at, floor_of}
 use Rattle.mips_machine.specs.Run.{first_registers, first_cpu}
 use Rattle.mips_programs.specs.Working.{Working}
 use Rattle.mips_programs.specs.Matches.{IsBare, Entry}
+use Rattle.mips_programs.proofs.Steps.{small_set}
+use Rattle.mips_programs.proofs.Keep.{bare_lies}
 
 -- the machine at its start, where the label main stands at this place
 abbrev pub at_start : ℕ → ℕ → List ℕ → Working
@@ -24,13 +24,6 @@ start_map places = record { object = λ o. None; function = places; label = λ f
 
 pub start_bare : (places : ℕ → ℕ) → IsBare (start_map places)
 start_bare places o = refl
-
-small_set : (b : ℕ) (rs : List ℕ) (d v : ℕ) → v < b → ((x : ℕ) → slice_index rs x < b) → (x : ℕ) → slice_index (slice_set rs d v) x < b
-small_set b [] d v low h x = h x
-small_set b (r ∷ rs) zero v low h zero = low
-small_set b (r ∷ rs) zero v low h (suc x) = h (suc x)
-small_set b (r ∷ rs) (suc d) v low h zero = h zero
-small_set b (r ∷ rs) (suc d) v low h (suc x) = small_set b rs d v low (λ y. h (suc y)) x
 
 replicated : (b n : ℕ) → 0 < b → (r : ℕ) → slice_index (replicate n 0) r < b
 replicated b zero h r = h
@@ -47,17 +40,6 @@ first_small =
     small_set (2 ^ 32) (slice_set (slice_set (replicate 32 0) 29 0x7ffe_ffe0) 31 end_at) 5 0x7ffe_fff8 (omega arith)
     (small_set (2 ^ 32) (slice_set (replicate 32 0) 29 0x7ffe_ffe0) 31 end_at (omega arith)
     (small_set (2 ^ 32) (replicate 32 0) 29 0x7ffe_ffe0 (omega arith) (replicated (2 ^ 32) 32 (omega arith))))
-
--- no object's bytes are looked for where none lies in memory
-nothing_at : (map : Map) (objects : List Object) (o i a : ℕ) (b : Byte) → IsBare map → IsAt map objects o i a b → ⊥
-nothing_at map objects o i a b bare is = none-some is.start (sym (bare o) ∙ is.lies)
-
-pub bare_lies : (map : Map) (objects : List Object) (memory : ℕ → Option ℕ) → IsBare map → Lies map objects memory
-bare_lies map objects memory bare = record {
-  bytes = λ o i a b is. absurd (nothing_at map objects o i a b bare is);
-  four = λ o i a b is. absurd (nothing_at map objects o i a b bare is);
-  apart = λ o i q j a b c is also. absurd (nothing_at map objects o i a b bare is);
-}
 
 pub start_entry : (order : Order) (room : ℕ → ℕ) (map : Map) (u : LoweredUnit) (input : List ℕ) (stack name main : ℕ) → IsBare map → map.function name ≡ code_start + 4 * main → 4096 ≤ stack → stack ≤ 16777216 → Entry order room map [] name (start_world u input) (at_start stack main input)
 start_entry order room map u input stack name main bare at low high = record {

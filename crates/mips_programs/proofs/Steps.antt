@@ -1,5 +1,5 @@
 -- Single steps of the machine, and runs of several.
-use Rattle.std.proofs.Common.{◌≡◌, ◌⊎◌, ℕ, zero, suc, ◌+◌, ◌-◌, ◌*◌, ◌/◌, ◌%◌, ◌<◌, ◌≤◌, ℤ, List, length, Some, refl, ap, ◌∙◌, ⊎_elim, arith, append-nil}
+use Rattle.std.proofs.Common.{◌≡◌, ◌⊎◌, ℕ, zero, suc, ◌+◌, ◌-◌, ◌*◌, ◌/◌, ◌%◌, ◌<◌, ◌≤◌, ℤ, List, [], ◌∷◌, length, Some, refl, ap, ◌∙◌, ⊎_elim, arith, append-nil}
 use Rattle.std.specs.Prelude.{slice_index, slice_set, slice_get, ◌==◌, ◌&&◌, nat_le, nat_lt}
 use Rattle.std.specs.Int.{cast_signed, w32}
 use Rattle.std.proofs.lemmas.Bool.{eq-eqb, ne_eqb, le-leb, and_from, cond-true, cond-false, and_left, and_right, le-ltb, lt-ltb, or_left, or_right}
@@ -127,3 +127,15 @@ accessed cpu a done low high four =
 pub wrote : (p : Program) (order : Order) (i : ℕ) (h : Working) (x : Instruction) (d v : ℕ) → h.cpu.pc ≡ code_start + 4 * i → slice_get p.code i ≡ Some x → act p order h.cpu x ≡ writes h.cpu d v → 0 < d → (d ≡ 29 → ⊥) → Gets p order h (with_register h d v (h.cpu.pc + 4))
 wrote p order i h x d v at stands acts pos ne =
     once p order h (record { registers = slice_set h.cpu.registers d v; stack = h.cpu.stack; pc = h.cpu.pc + 4 }) (stepped p order i h.cpu h.left x at stands ∙ acts ∙ written h.cpu d v pos ne)
+
+-- a place moves on with an instruction
+pub further : (i pc : ℕ) → pc ≡ code_start + 4 * i → pc + 4 ≡ code_start + 4 * suc i
+further i pc e = omega arith
+
+-- registers stay words where one is written
+pub small_set : (limit : ℕ) (registers : List ℕ) (d v : ℕ) → v < limit → ((x : ℕ) → slice_index registers x < limit) → (x : ℕ) → slice_index (slice_set registers d v) x < limit
+small_set limit [] d v low h x = h x
+small_set limit (r ∷ rs) zero v low h zero = low
+small_set limit (r ∷ rs) zero v low h (suc x) = h (suc x)
+small_set limit (r ∷ rs) (suc d) v low h zero = h zero
+small_set limit (r ∷ rs) (suc d) v low h (suc x) = small_set limit rs d v low (λ y. h (suc y)) x

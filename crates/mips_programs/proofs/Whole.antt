@@ -8,7 +8,7 @@ use Rattle.asm_text.specs.declared.program.Program.{Program}
 use Rattle.asm_text.specs.declared.instruction.Instruction.{Instruction}
 use Rattle.op_forest.specs.Nodes.{Node}
 use Rattle.op_forest.specs.Words.{Word}
-use Rattle.op_forest.specs.Traces.{Event, Opened, Closed, output_of, outer, opened_by, open_behind}
+use Rattle.op_forest.specs.Traces.{Opened, Closed, output_of, outer}
 use Rattle.op_forest.specs.Worlds.{World, Point, at_world, Effect, Stuck, Outcome, Finished, Exited, Going, Failed}
 use Rattle.op_forest.specs.Rows.{Setting}
 use Rattle.op_forest.specs.Bodies.{body_run}
@@ -33,15 +33,12 @@ use Rattle.mips_programs.specs.Programs.{CanBeNamed, ArePlaced}
 use Rattle.mips_programs.proofs.Steps.{both_gets}
 use Rattle.mips_programs.proofs.Words.{small_get}
 use Rattle.mips_programs.proofs.Keep.{bare_lies}
-use Rattle.mips_programs.proofs.Enter.{frame_of, entered_machine, initial, sound_frame, enters, enters_alike, spends}
+use Rattle.mips_programs.proofs.Enter.{open_append, frame_of, entered_machine, initial, sound_frame, enters, enters_alike, spends}
 use Rattle.mips_programs.proofs.PutChar.{put_answers}
 use Rattle.mips_programs.proofs.Calls.{runs_on, spent_later, spent_more}
 use Rattle.mips_programs.proofs.Plain.{selected_plain}
-use Rattle.mips_programs.proofs.Follow.{front_stands, back_stands, follows}
-
-open_append : (calls : List ℕ) (a b : List Event) → open_behind calls (a ++ b) ≡ open_behind (open_behind calls a) b
-open_append calls [] b = refl
-open_append calls (e ∷ es) b = open_append (opened_by calls e) es b
+use Rattle.mips_programs.proofs.Called.{stands_behind}
+use Rattle.mips_programs.proofs.Follow.{front_stands, follows}
 
 -- the result of a call whose body has this one
 result_word : (map : Map) (v : Option Word) (n : ℕ) → IsResult map v n → IsWord map (value_or v) n
@@ -150,7 +147,7 @@ module _ (p : Program) (order : Order) (g : Meaning) (names : List (List ℕ)) (
       let st = initial g.order name fn q in
       let at : h.cpu.pc ≡ code_start + 4 * pl.entry = entry.at ∙ functions name ∙ pl.at in
       let front = front_stands p.code pl.entry (prologue l) (body_of names l 0 is) pl.stands in
-      let back = back_stands p.code pl.entry (prologue l) (body_of names l 0 is) pl.stands in
+      let back = stands_behind p.code pl.entry (prologue l) (body_of names l 0 is) pl.stands in
       let four : 4 ≤ l.arguments = omega arith in
       let small : frame_size l ≤ 2147483648 = pl.small in
       unless_failed (λ x. Answers p order room map long (suc n) waiting q.world h (answered q.world x)) o tt (λ alive.
