@@ -15,6 +15,7 @@ pub joined_more : {I : Type 0} (stretches : List (List I)) (code : List I) → j
 joined_more [] code = append-nil code
 joined_more (c ∷ more) code = ap (λ l. c ++ l) (joined_more more code) ∙ sym (append_assoc c (joined more) code)
 
+-- what holds of each root holds of those before the last, and of the last
 pub roots_front : (P : Node → Type 0) (ts : List Node) (t : Node) → AllByRecursion P (ts ++ t ∷ []) → AllByRecursion P ts
 roots_front P [] t h = tt
 roots_front P (u ∷ ts) t h = (h.0, roots_front P ts t h.1)

@@ -16,6 +16,7 @@ use Rattle.mips_target.specs.FunctionCode.{most_handed}
 use Rattle.mips_target.specs.Registers.{NamesAmong}
 use Rattle.mips_target.specs.Sizes.{Fits}
 use Rattle.mips_target.specs.Generated.{temporaries}
+use Rattle.mips_target.proofs.Arguments.{handed_first}
 use Rattle.mips_target.proofs.Added.{IsBelow, IsAdded, AddsNumber, AddsRegisters, AddsWithNumber, AddsNegate, AddsArgument, AddsCall, AddsReturn, AreAdded}
 
 -- an instruction whose registers are virtual, with its loads and stores
@@ -138,10 +139,6 @@ hands_few named limit [] h = λ k. omega arith
 hands_few named limit (i ∷ is) h = hands_more (put_all is) (length is) h.0 (hands_few named limit is h.1)
 
 -- ---- what fits a frame
-
-handed_first : (k : ℕ) (is : List Instr) → k ≤ most_handed k is
-handed_first k [] = omega arith
-handed_first k (i ∷ is) = omega arith
 
 -- a slot is in the frame where the slots needed are
 in_slots : (limit slots r : ℕ) → IsBelow limit r → r - 63 ≤ slots → unsigned_abs (slot_of r) < slots

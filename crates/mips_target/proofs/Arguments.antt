@@ -17,9 +17,10 @@ one_more k (instr.Copy to from) = omega arith
 one_more k (instr.LoadSlot to slot) = omega arith
 one_more k (instr.StoreSlot from slot) = omega arith
 
-pub least : (k : ℕ) (is : List Instr) → k ≤ most_handed k is
-least k [] = omega arith
-least k (i ∷ is) = omega arith
+-- the words that are handed first are among the most
+pub handed_first : (k : ℕ) (is : List Instr) → k ≤ most_handed k is
+handed_first k [] = omega arith
+handed_first k (i ∷ is) = omega arith
 
 passed : (most k h rest all : ℕ) → k ≤ most → h ≤ rest → max most (max k rest) ≡ all → max (max most h) rest ≡ all
 passed most k h rest all le low e = omega (arith, le, low, e)
@@ -27,7 +28,7 @@ passed most k h rest all le low e = omega (arith, le, low, e)
 -- an instruction is passed
 pub most_at : (code : List Instr) (n k most all : ℕ) (d : Instr) → n < length code → k ≤ most → max most (most_handed k (drop n code)) ≡ all → max (max most (handed_behind k (get_or code n d))) (most_handed (handed_behind k (get_or code n d)) (drop (n + 1) code)) ≡ all
 most_at code n k most all d lt le e =
-    passed most k (handed_behind k (get_or code n d)) (most_handed (handed_behind k (get_or code n d)) (drop (n + 1) code)) all le (least (handed_behind k (get_or code n d)) (drop (n + 1) code)) (ap (λ is. max most (most_handed k is)) (sym (drop_more code n d lt)) ∙ e)
+    passed most k (handed_behind k (get_or code n d)) (most_handed (handed_behind k (get_or code n d)) (drop (n + 1) code)) all le (handed_first (handed_behind k (get_or code n d)) (drop (n + 1) code)) (ap (λ is. max most (most_handed k is)) (sym (drop_more code n d lt)) ∙ e)
 
 -- at the end
 pub most_end : (code : List Instr) (n k most all : ℕ) → length code ≤ n → k ≤ most → max most (most_handed k (drop n code)) ≡ all → most ≡ all

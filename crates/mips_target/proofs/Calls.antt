@@ -35,9 +35,10 @@ use Rattle.mips_rules.specs.OperatorNumbers.{is_addrgp}
 use Rattle.mips_rules.specs.AppliedRules.{Applied, applied, Discards, TakesConstant, PassesConstant, PassesRegister, LoadsConstant, TakesName, CombinesRegisters, CombinesConstant, Negates, HandsOver, Calls, Returns}
 use Rattle.mips_target.specs.Callable.{IsCallable, HasCallable}
 use Rattle.mips_target.specs.Generated.{IsSelected, temporaries, allotted_code}
-use Rattle.mips_target.proofs.Speaking.{CallHas, CallsHave}
+use Rattle.mips_target.specs.CalledNames.{CallIs, CallsAre}
+use Rattle.mips_target.proofs.AddedRoots.{roots_front, roots_last}
 
-calls_append : (Q : ℕ → Type 0) (xs ys : List Instr) → CallsHave Q xs → CallsHave Q ys → CallsHave Q (xs ++ ys)
+calls_append : (Q : ℕ → Type 0) (xs ys : List Instr) → CallsAre Q xs → CallsAre Q ys → CallsAre Q (xs ++ ys)
 calls_append Q [] ys a b = b
 calls_append Q (x ∷ xs) ys a b = (a.0, calls_append Q xs ys a.1 b)
 
@@ -108,7 +109,7 @@ met_names Q (Calls h a name offset e) k = (k.1, tt)
 met_names Q (Returns h a r low e) k = (k.1, tt)
 
 -- a rule calls, and hands up, only names that its parts or its node have
-rule_names : (Q : ℕ → Type 0) {a : Action} {left : ℕ} {pattern : MPattern} {t : Node} {ps : List Part} {ms : List Meeting} (to : ℕ) → Applied a left pattern t ps ms → AtEachNode (Names Q) t → PartsHave Q ps → CallsHave Q (code_by a ps to) × PartHas Q (part_by a t ps to)
+rule_names : (Q : ℕ → Type 0) {a : Action} {left : ℕ} {pattern : MPattern} {t : Node} {ps : List Part} {ms : List Meeting} (to : ℕ) → Applied a left pattern t ps ms → AtEachNode (Names Q) t → PartsHave Q ps → CallsAre Q (code_by a ps to) × PartHas Q (part_by a t ps to)
 rule_names Q to (Discards t r low) k h = (tt, tt)
 rule_names Q to (TakesConstant x e) k h = (tt, tt)
 rule_names Q to (PassesConstant t n) k h = (tt, tt)
@@ -122,7 +123,7 @@ rule_names Q to (HandsOver x a r low e) k h = ((tt, tt), tt)
 rule_names Q to (Calls x a name offset e) k h = ((h.0, tt), tt)
 rule_names Q to (Returns x a r low e) k h = ((tt, tt), tt)
 
-applied_names : (Q : ℕ → Type 0) (number : ℕ) (row : Row) (t : Node) (ps : List Part) (to : ℕ) → Applies mips_rules number row t ps to → AtEachNode (Names Q) t → PartsHave Q ps → CallsHave Q (mips_rules.code number t ps to) × PartHas Q (mips_rules.part number t ps to)
+applied_names : (Q : ℕ → Type 0) (number : ℕ) (row : Row) (t : Node) (ps : List Part) (to : ℕ) → Applies mips_rules number row t ps to → AtEachNode (Names Q) t → PartsHave Q ps → CallsAre Q (mips_rules.code number t ps to) × PartHas Q (mips_rules.part number t ps to)
 applied_names Q number row t ps to a k h = rule_names Q to (applied number row t ps to a) k h
 
 leaves_name : (Q : ℕ → Type 0) (number : ℕ) (row : Row) (t : Node) (ps : List Part) (to : ℕ) (ms : List Meeting) → Applies mips_rules number row t ps to → leaves_at row.pattern t ≡ Some ms → AtEachNode (Names Q) t → MeetingsName Q ms
@@ -132,12 +133,12 @@ leaves_name Q number row t ps to ms a fits k =
 
 -- Q holds of the names that the code calls, and of that which is handed up
 abbrev pub OneNames : (ℕ → Type 0) → Emitted Instr Part → Type 0
-OneNames Q e = CallsHave Q e.code × PartHas Q e.part
+OneNames Q e = CallsAre Q e.code × PartHas Q e.part
 
 abbrev AllName : (ℕ → Type 0) → EmittedAll Instr Part → Type 0
-AllName Q es = CallsHave Q es.code × PartsHave Q es.parts
+AllName Q es = CallsAre Q es.code × PartsHave Q es.parts
 
-with_code : (Q : ℕ → Type 0) (old new : List Instr) (p : Part) → CallsHave Q old → CallsHave Q new × PartHas Q p → CallsHave Q (old ++ new) × PartHas Q p
+with_code : (Q : ℕ → Type 0) (old new : List Instr) (p : Part) → CallsAre Q old → CallsAre Q new × PartHas Q p → CallsAre Q (old ++ new) × PartHas Q p
 with_code Q old new p h k = (calls_append Q old new h k.0, k.1)
 
 mutual
@@ -158,30 +159,22 @@ mutual
 
 -- ---- roots
 
-each_front : (F : Node → Type 0) (ts : List Node) (t : Node) → AllByRecursion F (ts ++ t ∷ []) → AllByRecursion F ts
-each_front F [] t h = tt
-each_front F (s ∷ ts) t h = (h.0, each_front F ts t h.1)
-
-each_last : (F : Node → Type 0) (ts : List Node) (t : Node) → AllByRecursion F (ts ++ t ∷ []) → F t
-each_last F [] t h = h.0
-each_last F (s ∷ ts) t h = each_last F ts t h.1
-
-joined_names : (Q : ℕ → Type 0) (ss : List (List Instr)) (s : List Instr) → CallsHave Q (joined ss) → CallsHave Q s → CallsHave Q (joined (ss ++ s ∷ []))
+joined_names : (Q : ℕ → Type 0) (ss : List (List Instr)) (s : List Instr) → CallsAre Q (joined ss) → CallsAre Q s → CallsAre Q (joined (ss ++ s ∷ []))
 joined_names Q [] s a b = calls_append Q s [] b tt
 joined_names Q (r ∷ ss) s a b = split Q r (joined ss) (joined (ss ++ s ∷ [])) a (λ h. joined_names Q ss s h b)
   where
-    split : (Q : ℕ → Type 0) (xs ys zs : List Instr) → CallsHave Q (xs ++ ys) → (CallsHave Q ys → CallsHave Q zs) → CallsHave Q (xs ++ zs)
+    split : (Q : ℕ → Type 0) (xs ys zs : List Instr) → CallsAre Q (xs ++ ys) → (CallsAre Q ys → CallsAre Q zs) → CallsAre Q (xs ++ zs)
     split Q [] ys zs h go = go h
     split Q (x ∷ xs) ys zs h go = (h.0, split Q xs ys zs h.1 go)
 
-pub roots_name : (Q : ℕ → Type 0) {xs : List MDerivation} {ts : List Node} {n next : ℕ} {stretches : List (List Instr)} → EmitsRoots mips_rules xs ts n stretches next → AllByRecursion (AtEachNode (Names Q)) ts → CallsHave Q (joined stretches)
+pub roots_name : (Q : ℕ → Type 0) {xs : List MDerivation} {ts : List Node} {n next : ℕ} {stretches : List (List Instr)} → EmitsRoots mips_rules xs ts n stretches next → AllByRecursion (AtEachNode (Names Q)) ts → CallsAre Q (joined stretches)
 roots_name Q (NoRoot {n}) k = tt
 roots_name Q (OneRoot {xs} {ts} {x} {t} {n} {n'} {stretches} {e} front one) k =
-    joined_names Q stretches e.code (roots_name Q front (each_front (AtEachNode (Names Q)) ts t k)) (emitted_names Q one (each_last (AtEachNode (Names Q)) ts t k)).0
+    joined_names Q stretches e.code (roots_name Q front (roots_front (AtEachNode (Names Q)) ts t k)) (emitted_names Q one (roots_last (AtEachNode (Names Q)) ts t k)).0
 
 -- ---- spill slots
 
-renamed_one : (Q : ℕ → Type 0) (i : Instr) (k r : ℕ) → CallHas Q i → CallHas Q (rename i k r)
+renamed_one : (Q : ℕ → Type 0) (i : Instr) (k r : ℕ) → CallIs Q i → CallIs Q (rename i k r)
 renamed_one Q (instr.LoadNumber to n) k r h = tt
 renamed_one Q (instr.Binary op to from operand) zero r h = tt
 renamed_one Q (instr.Binary op to from operand) (suc zero) r h = tt
@@ -196,32 +189,32 @@ renamed_one Q (instr.Copy to from) (suc k) r h = tt
 renamed_one Q (instr.LoadSlot to slot) k r h = tt
 renamed_one Q (instr.StoreSlot from slot) k r h = tt
 
-renamed_if : (Q : ℕ → Type 0) (b : Bool) (i j : Instr) → CallHas Q i → CallHas Q j → CallHas Q (if b then j else i)
+renamed_if : (Q : ℕ → Type 0) (b : Bool) (i j : Instr) → CallIs Q i → CallIs Q j → CallIs Q (if b then j else i)
 renamed_if Q true i j h k = k
 renamed_if Q false i j h k = h
 
-renamed_calls : (Q : ℕ → Type 0) (n : ℕ) (ts : List ℕ) (os : List Operand) (i : Instr) → CallHas Q i → CallHas Q (renamed mips n ts os i)
+renamed_calls : (Q : ℕ → Type 0) (n : ℕ) (ts : List ℕ) (os : List Operand) (i : Instr) → CallIs Q i → CallIs Q (renamed mips n ts os i)
 renamed_calls Q n [] os i h = h
 renamed_calls Q n (t ∷ ts) [] i h = h
 renamed_calls Q n (t ∷ ts) (o ∷ os) i h =
     renamed_calls Q (suc n) ts os (if is_virtual o.reg then rename i n t else i) (renamed_if Q (is_virtual o.reg) i (rename i n t) h (renamed_one Q i n t h))
 
 -- code with an instruction in front, or without
-put_if : (Q : ℕ → Type 0) (b : Bool) (i : Instr) (is : List Instr) → CallHas Q i → CallsHave Q is → CallsHave Q (if b then i ∷ is else is)
+put_if : (Q : ℕ → Type 0) (b : Bool) (i : Instr) (is : List Instr) → CallIs Q i → CallsAre Q is → CallsAre Q (if b then i ∷ is else is)
 put_if Q true i is h k = (h, k)
 put_if Q false i is h k = k
 
-loads_calls : (Q : ℕ → Type 0) (ts : List ℕ) (os : List Operand) → CallsHave Q (loads mips ts os)
+loads_calls : (Q : ℕ → Type 0) (ts : List ℕ) (os : List Operand) → CallsAre Q (loads mips ts os)
 loads_calls Q [] os = tt
 loads_calls Q (t ∷ ts) [] = tt
 loads_calls Q (t ∷ ts) (o ∷ os) = put_if Q (is_loaded o) (instr.LoadSlot t (slot_of o.reg)) (loads mips ts os) tt (loads_calls Q ts os)
 
-stores_calls : (Q : ℕ → Type 0) (ts : List ℕ) (os : List Operand) → CallsHave Q (stores mips ts os)
+stores_calls : (Q : ℕ → Type 0) (ts : List ℕ) (os : List Operand) → CallsAre Q (stores mips ts os)
 stores_calls Q [] os = tt
 stores_calls Q (t ∷ ts) [] = tt
 stores_calls Q (t ∷ ts) (o ∷ os) = put_if Q (is_stored o) (instr.StoreSlot t (slot_of o.reg)) (stores mips ts os) tt (stores_calls Q ts os)
 
-pub allotted_calls : (Q : ℕ → Type 0) (ts : List ℕ) (code : List Instr) → CallsHave Q code → CallsHave Q (allotted mips ts code)
+pub allotted_calls : (Q : ℕ → Type 0) (ts : List ℕ) (code : List Instr) → CallsAre Q code → CallsAre Q (allotted mips ts code)
 allotted_calls Q ts [] h = tt
 allotted_calls Q ts (i ∷ is) h =
     let os = mips.operands i in
@@ -241,11 +234,11 @@ well_formed_name Q [] w h = tt
 well_formed_name Q (t ∷ ts) w h = (both_at HasKind (λ x. SymbolHas Q (head_of x).sym) t w.0.fit.kinds h.0, well_formed_name Q ts w.1 h.1)
 
 -- each name that the code of these roots calls is that of a global at a node of them
-pub calls_have : (Q : ℕ → Type 0) (roots : List Node) (virtual : MCode Instr) → IsSelected roots virtual → IsWellFormed roots → All (AtEachNode (λ t. SymbolHas Q (head_of t).sym)) roots → CallsHave Q (allotted_code virtual)
+pub calls_have : (Q : ℕ → Type 0) (roots : List Node) (virtual : MCode Instr) → IsSelected roots virtual → IsWellFormed roots → All (AtEachNode (λ t. SymbolHas Q (head_of t).sym)) roots → CallsAre Q (allotted_code virtual)
 calls_have Q roots virtual selected w h =
     let l = selected.linearised in
     let each = well_formed_name Q roots w (recursion_from_All (AtEachNode (λ t. SymbolHas Q (head_of t).sym)) roots h) in
-    allotted_calls Q temporaries virtual.code (subst (CallsHave Q) (sym l.code) (roots_name Q l.emits each))
+    allotted_calls Q temporaries virtual.code (subst (CallsAre Q) (sym l.code) (roots_name Q l.emits each))
 
 callable_symbol : (u : LoweredUnit) (x : Sym) → HasCallable u x → SymbolHas (IsCallable u) x
 callable_symbol u symbol.Nothing h = tt
@@ -259,5 +252,5 @@ callable_at u (One h a) k = (callable_symbol u h.sym k.0, callable_at u a k.1)
 callable_at u (Two h a b) k = (callable_symbol u h.sym k.0, callable_at u a k.1, callable_at u b k.2)
 
 -- where each global at a node can be called, so can each name that the code calls
-pub calls_callable : (u : LoweredUnit) (roots : List Node) (virtual : MCode Instr) → IsSelected roots virtual → IsWellFormed roots → All (AtEachNode (λ t. HasCallable u (head_of t).sym)) roots → CallsHave (IsCallable u) (allotted_code virtual)
+pub calls_callable : (u : LoweredUnit) (roots : List Node) (virtual : MCode Instr) → IsSelected roots virtual → IsWellFormed roots → All (AtEachNode (λ t. HasCallable u (head_of t).sym)) roots → CallsAre (IsCallable u) (allotted_code virtual)
 calls_callable u roots virtual selected w h = calls_have (IsCallable u) roots virtual selected w (λ k d below. callable_at u _ (h k d below))

@@ -22,8 +22,9 @@ use Rattle.mips_rules.specs.declared.instr.Instr.{Instr}
 use Rattle.mips_rules.specs.declared.instr.Instr.TheVariants as instr
 use Rattle.mips_target.specs.UnitLines.{Item, Coded, plain, numbered, instruction_items, items_of, unit_lines}
 use Rattle.mips_target.specs.Generated.{layout_of, allotted_code, IsFunction, IsGenerated}
+use Rattle.mips_target.specs.CalledNames.{CallIs, CallsAre}
 use Rattle.mips_target.specs.Callable.{IsCallable, HasCallable, AreCallable}
-use Rattle.mips_target.proofs.Speaking.{EachName, CodeSpeaks, ItemsSpeak, CallHas, CallsHave, FunctionSpeaks, function_speaks, items_speak, functions_speak}
+use Rattle.mips_target.proofs.Speaking.{EachName, CodeSpeaks, ItemsSpeak, FunctionSpeaks, function_speaks, items_speak, functions_speak}
 use Rattle.mips_target.proofs.Calls.{calls_callable}
 
 -- ---- the labels are the functions' names
@@ -122,7 +123,7 @@ callable_known u labels name are h = elim h [
   | inr b ↦ inr (get_or_from_slice_get u.names name (codes "putchar") [] b)
 ]
 
-call_weaker : (Q R : ℕ → Type 0) (i : Instr) → ((n : ℕ) → Q n → R n) → CallHas Q i → CallHas R i
+call_weaker : (Q R : ℕ → Type 0) (i : Instr) → ((n : ℕ) → Q n → R n) → CallIs Q i → CallIs R i
 call_weaker Q R (instr.LoadNumber to n) go h = tt
 call_weaker Q R (instr.Binary op to from x) go h = tt
 call_weaker Q R (instr.Negate to from) go h = tt
@@ -133,7 +134,7 @@ call_weaker Q R (instr.Copy to from) go h = tt
 call_weaker Q R (instr.LoadSlot to slot) go h = tt
 call_weaker Q R (instr.StoreSlot from slot) go h = tt
 
-calls_weaker : (Q R : ℕ → Type 0) (code : List Instr) → ((n : ℕ) → Q n → R n) → CallsHave Q code → CallsHave R code
+calls_weaker : (Q R : ℕ → Type 0) (code : List Instr) → ((n : ℕ) → Q n → R n) → CallsAre Q code → CallsAre R code
 calls_weaker Q R [] go h = tt
 calls_weaker Q R (i ∷ is) go h = (call_weaker Q R i go h.0, calls_weaker Q R is go h.1)
 

@@ -1,7 +1,7 @@
 -- Generated lines can be written.
 use Rattle.std.proofs.Common.{ℕ, ◌+◌, ◌<◌, List, [], ◌∷◌, length, get_or, refl, sym, subst}
-use Rattle.std.specs.Prelude.{All, IsTrue}
-use Rattle.std.proofs.lemmas.List.Elements.{All-head, All-tail, All-get_or}
+use Rattle.std.specs.Prelude.{All}
+use Rattle.std.proofs.lemmas.List.Elements.{All-get_or}
 use Rattle.asm_text.specs.declared.line.Line.{Line}
 use Rattle.asm_text.specs.declared.line.Statement.TheVariants as statement
 use Rattle.asm_text.specs.declared.line.Directive.TheVariants as directive
@@ -9,7 +9,7 @@ use Rattle.asm_text.specs.Tokens.{IsName}
 use Rattle.asm_text.specs.Program.{names_of}
 use Rattle.asm_text.specs.Printable.{AreNames, PrintableFrom, ArePrintable}
 use Rattle.op_forest.specs.declared.lowered.LoweredFunction.{LoweredFunction}
-use Rattle.op_forest.specs.Lowered.{LoweredUnit, is_symbol, IsUnitName, IsFunctionOf, IsLowered}
+use Rattle.op_forest.specs.Lowered.{LoweredUnit, IsUnitName, IsFunctionOf, IsLowered}
 use Rattle.mips_rules.specs.declared.instr.Instr.{Instr}
 use Rattle.mips_rules.specs.declared.instr.Instr.TheVariants as instr
 use Rattle.mips_target.specs.declared.layout.Layout.{Layout}
@@ -17,16 +17,9 @@ use Rattle.mips_target.specs.FunctionCode.{handed_behind}
 use Rattle.mips_target.specs.Sizes.{FitsOne, Fits}
 use Rattle.mips_target.specs.UnitLines.{Item, Coded, plain, numbered, items_of}
 use Rattle.mips_target.specs.Generated.{layout_of, allotted_code, IsFunction, IsGenerated}
-use Rattle.mips_target.proofs.Speaking.{EachName, CodeSpeaks, ItemsSpeak, CallHas, CallsHave, FunctionSpeaks, function_speaks, items_speak, functions_speak}
-
--- symbols behind a letter (97)
-symbols_behind : (bs : List ℕ) → All (λ b. IsTrue (is_symbol b)) bs → IsName (97 ∷ bs)
-symbols_behind [] h = (refl, (refl, tt))
-symbols_behind (b ∷ bs) h = (refl, (refl, (All-head (λ c. IsTrue (is_symbol c)) b bs h, (symbols_behind bs (All-tail (λ c. IsTrue (is_symbol c)) b bs h)).1.1)))
-
-pub is_name : (name : List ℕ) → IsUnitName name → IsName name
-is_name [] h = absurd h.begins
-is_name (b ∷ bs) h = (h.begins.0, (symbols_behind (b ∷ bs) h.symbols).1.1)
+use Rattle.mips_target.specs.CalledNames.{CallIs, CallsAre}
+use Rattle.mips_target.proofs.Speaking.{EachName, CodeSpeaks, ItemsSpeak, FunctionSpeaks, function_speaks, items_speak, functions_speak}
+use Rattle.mips_target.proofs.SaidLines.{unit_name}
 
 each_name : (names : List (List ℕ)) → EachName IsName names → AreNames names
 each_name [] h = tt
@@ -41,9 +34,9 @@ abbrev IsNamed : List (List ℕ) → ℕ → Type 0
 IsNamed names name = IsName (get_or names name [])
 
 named : (names : List (List ℕ)) (name : ℕ) → All IsUnitName names → name < length names → IsNamed names name
-named names name all h = is_name (get_or names name []) (All-get_or IsUnitName names name [] h all)
+named names name all h = unit_name (get_or names name []) (All-get_or IsUnitName names name [] h all)
 
-call_named : (names : List (List ℕ)) (l : Layout) (k : ℕ) (i : Instr) → All IsUnitName names → FitsOne names l k i → CallHas (IsNamed names) i
+call_named : (names : List (List ℕ)) (l : Layout) (k : ℕ) (i : Instr) → All IsUnitName names → FitsOne names l k i → CallIs (IsNamed names) i
 call_named names l k (instr.LoadNumber to n) all h = tt
 call_named names l k (instr.Binary op to from x) all h = tt
 call_named names l k (instr.Negate to from) all h = tt
@@ -54,7 +47,7 @@ call_named names l k (instr.Copy to from) all h = tt
 call_named names l k (instr.LoadSlot to slot) all h = tt
 call_named names l k (instr.StoreSlot from slot) all h = tt
 
-calls_named : (names : List (List ℕ)) (l : Layout) (k : ℕ) (code : List Instr) → All IsUnitName names → Fits names l k code → CallsHave (IsNamed names) code
+calls_named : (names : List (List ℕ)) (l : Layout) (k : ℕ) (code : List Instr) → All IsUnitName names → Fits names l k code → CallsAre (IsNamed names) code
 calls_named names l k [] all h = tt
 calls_named names l k (i ∷ is) all h = (call_named names l k i all h.0, calls_named names l (handed_behind k i) is all h.1)
 

@@ -79,6 +79,7 @@ unit_symbols : (name : List ℕ) → AllByRecursion (λ b. IsTrue (is_symbol b))
 unit_symbols [] h = tt
 unit_symbols (b ∷ bs) h = (h.0, unit_symbols bs h.1)
 
+-- a name of a unit is a name of assembly text
 pub unit_name : (name : List ℕ) → IsUnitName name → IsName name
 unit_name [] h = absurd h.begins
 unit_name (b ∷ bs) h = name_of_symbols b bs h.begins.0 (unit_symbols (b ∷ bs) (recursion_from_All (λ c. IsTrue (is_symbol c)) (b ∷ bs) h.symbols))

@@ -12,6 +12,7 @@ use Rattle.mips_target.specs.declared.layout.Layout.{Layout}
 use Rattle.mips_target.specs.FunctionCode.{loads_of, instructions_of, handed_behind, epilogue, body_of, function_code}
 use Rattle.mips_target.specs.UnitLines.{Item, Coded, instruction_items, items_of}
 use Rattle.mips_target.specs.Generated.{IsFunction}
+use Rattle.mips_target.specs.CalledNames.{CallIs, CallsAre}
 
 -- P holds of each of these names
 abbrev pub EachName : (List ℕ → Type 0) → List (List ℕ) → Type 0
@@ -28,16 +29,6 @@ abbrev pub ItemsSpeak : (L P : List ℕ → Type 0) → List Item → Type 0
 ItemsSpeak L P [] = Unit {0}
 ItemsSpeak L P (x ∷ xs) = EachName L x.labels × EachName P (names_of x.statement) × ItemsSpeak L P xs
 
--- Q holds of the name that the instruction calls
-abbrev pub CallHas : (ℕ → Type 0) → Instr → Type 0
-CallHas Q (instr.Call to name) = Q name
-CallHas Q i = Unit {0}
-
--- Q holds of each name that the code calls
-abbrev pub CallsHave : (ℕ → Type 0) → List Instr → Type 0
-CallsHave Q [] = Unit {0}
-CallsHave Q (i ∷ is) = CallHas Q i × CallsHave Q is
-
 code_append : (P : List ℕ → Type 0) (xs ys : List Instruction) → CodeSpeaks P xs → CodeSpeaks P ys → CodeSpeaks P (xs ++ ys)
 code_append P [] ys a b = b
 code_append P (x ∷ xs) ys a b = (a.0, code_append P xs ys a.1 b)
@@ -49,7 +40,7 @@ loads_speak P (suc k) = code_append P (loads_of k) _ (loads_speak P k) (tt, tt)
 epilogue_speaks : (P : List ℕ → Type 0) (l : Layout) → CodeSpeaks P (epilogue l)
 epilogue_speaks P l = (tt, (tt, (tt, tt)))
 
-instruction_speaks : (P : List ℕ → Type 0) (names : List (List ℕ)) (l : Layout) (k : ℕ) (i : Instr) → CallHas (λ name. P (get_or names name [])) i → CodeSpeaks P (instructions_of names l k i)
+instruction_speaks : (P : List ℕ → Type 0) (names : List (List ℕ)) (l : Layout) (k : ℕ) (i : Instr) → CallIs (λ name. P (get_or names name [])) i → CodeSpeaks P (instructions_of names l k i)
 instruction_speaks P names l k (instr.LoadNumber to n) h = (tt, tt)
 instruction_speaks P names l k (instr.Binary op to from x) h = (tt, tt)
 instruction_speaks P names l k (instr.Negate to from) h = (tt, tt)
@@ -60,12 +51,12 @@ instruction_speaks P names l k (instr.Copy to from) h = (tt, tt)
 instruction_speaks P names l k (instr.LoadSlot to slot) h = (tt, tt)
 instruction_speaks P names l k (instr.StoreSlot from slot) h = (tt, tt)
 
-body_speaks : (P : List ℕ → Type 0) (names : List (List ℕ)) (l : Layout) (k : ℕ) (code : List Instr) → CallsHave (λ name. P (get_or names name [])) code → CodeSpeaks P (body_of names l k code)
+body_speaks : (P : List ℕ → Type 0) (names : List (List ℕ)) (l : Layout) (k : ℕ) (code : List Instr) → CallsAre (λ name. P (get_or names name [])) code → CodeSpeaks P (body_of names l k code)
 body_speaks P names l k [] h = epilogue_speaks P l
 body_speaks P names l k (i ∷ is) h =
     code_append P (instructions_of names l k i) (body_of names l (handed_behind k i) is) (instruction_speaks P names l k i h.0) (body_speaks P names l (handed_behind k i) is h.1)
 
-pub function_speaks : (P : List ℕ → Type 0) (names : List (List ℕ)) (l : Layout) (code : List Instr) → CallsHave (λ name. P (get_or names name [])) code → CodeSpeaks P (function_code names l code)
+pub function_speaks : (P : List ℕ → Type 0) (names : List (List ℕ)) (l : Layout) (code : List Instr) → CallsAre (λ name. P (get_or names name [])) code → CodeSpeaks P (function_code names l code)
 function_speaks P names l code h = (tt, (tt, body_speaks P names l zero code h))
 
 -- ---- the items of functions

@@ -5,6 +5,7 @@ pub mod Sizes
 pub mod UnitLines
 pub mod Emits
 pub mod Generated
+pub mod CalledNames
 pub mod Callable
 pub mod Bounds
 pub mod NamedBelow
