@@ -37,7 +37,8 @@ use Rattle.mips_programs.specs.Working.{Working, on, runs, Gets}
 use Rattle.mips_programs.specs.Frames.{Kept, Frame, stack_of, IsSound, stack_word, frame_word}
 use Rattle.mips_programs.specs.Following.{StandsAt}
 use Rattle.mips_programs.specs.Matches.{IsBare, Handed, Alike, Spent, Comes, passed_word, Entry, Answers, Calling}
-use Rattle.mips_programs.specs.Programs.{CanBeNamed, ArePlain, CallsAre, IsAddressed}
+use Rattle.mips_target.specs.CalledNames.{CallsAre}
+use Rattle.mips_programs.specs.Programs.{CanBeNamed, ArePlain, IsAddressed}
 use Rattle.mips_programs.proofs.Steps.{with_register, with_stack, with_cpu, index_set, index_other, runs_more, both_gets, once, stepped, wrote, further}
 use Rattle.mips_programs.proofs.Words.{small_word, small_get, with_stack_word}
 use Rattle.mips_programs.proofs.Called.{stands_behind}
