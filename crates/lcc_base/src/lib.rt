@@ -3,6 +3,7 @@
 #![tactic(auto)]
 
 mod bytes;
+mod cause;
 mod copy;
 mod count_sink;
 mod failed;
@@ -19,10 +20,12 @@ mod standard;
 mod steps;
 #[cfg(test)]
 mod tests;
+mod which;
 mod whole;
 mod words;
 
 pub use bytes::Bytes;
+pub use cause::Cause;
 pub use count_sink::CountSink;
 pub use failed::Failed;
 pub use full_source::FullSource;
@@ -36,5 +39,6 @@ pub use sink::Sink;
 pub use source::Source;
 pub use standard::{StdSink, StdSource};
 pub use steps::Steps;
+pub use which::Which;
 pub use whole::{read_all, write_all};
 pub use words::{sdiv, srem, wrap32};

@@ -1,7 +1,9 @@
 use std::alloc::{AllocError, AllocFailed};
+use thiserror::Error;
 
 /// An allocation was refused.
-#[derive(Clone, Copy, Debug, PartialEq, Eq)]
+#[derive(Clone, Copy, Debug, PartialEq, Eq, Error)]
+#[error("an allocation was refused")]
 pub struct Memory;
 
 impl From<AllocError> for Memory {

@@ -15,7 +15,8 @@ pub trait Sink {
     ghost faults: { Self → ℕ };
 
     /// Takes the first bytes of `piece`, and gives how many: at least 1 where there are any. It
-    /// fails only where the count of faults rose, and takes nothing then.
+    /// fails only where the count of faults rose, and takes nothing then; else the count stays as it
+    /// is.
     fn write(&mut self, piece: &[u8]) -> Result<usize, Failed>
         ensures bound { WritesAtMost result piece.now }
         ensures some { 0 < length piece.now → IfOk result (λ n. 0 < n) }

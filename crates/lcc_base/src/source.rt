@@ -15,7 +15,8 @@ pub trait Source {
     ghost faults: { Self → ℕ };
 
     /// Puts the next bytes at the front of `into`, and gives how many. It gives 0 for a slice with
-    /// room only at the end. It fails only where the count of faults rose, and gives nothing then.
+    /// room only at the end. It fails only where the count of faults rose, and gives nothing then;
+    /// else the count stays as it is.
     fn read(&mut self, into: &mut [u8]) -> Result<usize, Failed>
         ensures bound { ReadsAtMost result into.new }
         ensures bytes { ReadConsumes (left self.old) (left self.new) result into.new }

@@ -1,4 +1,4 @@
-ghost use Rattle.std.specs.Prelude.{◌≤◌, length, IfOk, OnOk, OnErr, IsErrOf};
+ghost use Rattle.std.specs.Prelude.{◌≡◌, ◌≤◌, length, IfOk, OnOk, OnErr, IsErrOf};
 ghost use Rattle.std.specs.Io.KnownBytes.{Consumes, IsAtEnd, Appends};
 ghost use Rattle.lcc_base.specs.Faults.{Rose, HasCause};
 ghost use Rattle.lcc_base.specs.Taken.{TookAtMost, TookMore, TookPrefix};
@@ -13,7 +13,8 @@ const PIECE: usize = 4096;
 /// and the source has left what comes after it.
 ///
 /// The answers exclude one another by what came: at most `limit` bytes came with `Ok`, `Failed`
-/// and `Memory`, and more than `limit` with `TooLong`. A read that fails ends it at once.
+/// and `Memory`, and more than `limit` with `TooLong`. A read that fails ends it at once: without
+/// `Failed` no read failed, as the count of faults tells.
 pub fn read_all<S: Source>(alloc: Global, source: &mut S, limit: usize) -> Result<Bytes, ReadEnd>
     ensures all { IfOk result (λ bytes. Consumes (S.left source.old) (S.left source.new) bytes) }
     ensures end { OnOk result (IsAtEnd (S.left source.new)) }
@@ -24,6 +25,7 @@ pub fn read_all<S: Source>(alloc: Global, source: &mut S, limit: usize) -> Resul
     ensures too_long { IsErrOf result ReadEnd.TooLong → TookMore (S.left source.old) (S.left source.new) limit }
     ensures memory { IsErrOf result ReadEnd.Memory → TookAtMost (S.left source.old) (S.left source.new) limit }
     ensures later { S.faults source.old ≤ S.faults source.new }
+    ensures unbroken { (IsErrOf result ReadEnd.Failed → ⊥) → S.faults source.new ≡ S.faults source.old }
 {
     let mut bytes = Vec::new(alloc);
     let mut piece = [0u8; PIECE];
@@ -40,7 +42,7 @@ pub fn read_all<S: Source>(alloc: Global, source: &mut S, limit: usize) -> Resul
 }
 
 /// Hands all bytes to the sink, in order, each time all that it has not taken yet. After an error
-/// the sink took some first ones of them. It takes no memory.
+/// the sink took some first ones of them. A write that fails ends it at once. It takes no memory.
 pub fn write_all<K: Sink>(sink: &mut K, bytes: &[u8]) -> Result<(), Failed>
     ensures all { OnOk result (Appends (K.taken sink.old) (K.taken sink.new) bytes.now) }
     ensures prefix { OnErr result (TookPrefix (K.taken sink.old) (K.taken sink.new) bytes.now) }
