@@ -15,6 +15,10 @@ fn lists_grow(rt: HostRuntime) -> Result<(), Fail> {
     items.push(7)?;
     items.push(9)?;
     assert_eq!(rt; items.as_slice(), [7, 9].as_slice());
+    let mut roomy = Items::with_capacity(rt.alloc(), 1)?;
+    roomy.push(5)?;
+    roomy.push(6)?;
+    assert_eq!(rt; roomy.as_slice(), [5, 6].as_slice());
     Ok(())
 }
 
