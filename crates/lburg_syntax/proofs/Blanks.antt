@@ -3,21 +3,21 @@ use Rattle.std.proofs.Common.{Bool, ◌==◌, ◌≡◌, ◌≤◌, ℕ, true, f
 use Rattle.std.proofs.lemmas.Bool.Decides.{nat_tests}
 use Rattle.std.proofs.lemmas.List.{take-append-drop}
 use Rattle.lcc_text.specs.declared.class.Class.TheVariants.{Blank}
-use Rattle.lcc_text.specs.Classes.{AllIn, StopsIn}
+use Rattle.lcc_text.specs.Classes.{in_class, AllIn, StopsIn}
 use Rattle.lburg_syntax.specs.Tokens.{Tok, Wrong}
 use Rattle.lburg_syntax.specs.Spelling.{IsNext, NoToken, Starts, Spells, SkipsBlanks}
 
-pub skips : (bytes : List ℕ) (n : ℕ) → AllIn Blank (take n bytes) → SkipsBlanks bytes (drop n bytes)
+pub skips : (bytes : List ℕ) (n : ℕ) → AllIn (in_class Blank) (take n bytes) → SkipsBlanks bytes (drop n bytes)
 skips bytes n h = (take n bytes, h, sym (take-append-drop n bytes))
 
-starts : (behind : List ℕ) → StopsIn Blank behind → 1 ≤ length behind → Starts behind
+starts : (behind : List ℕ) → StopsIn (in_class Blank) behind → 1 ≤ length behind → Starts behind
 starts [] h k = absurd (omega arith)
 starts (b ∷ bs) h k = h
 
-pub steps : (rest behind after : List ℕ) (t : Tok) (ts : List Tok) → SkipsBlanks rest behind → StopsIn Blank behind → 1 ≤ length behind → IsNext behind t after → Spells ts after → Spells (t ∷ ts) rest
+pub steps : (rest behind after : List ℕ) (t : Tok) (ts : List Tok) → SkipsBlanks rest behind → StopsIn (in_class Blank) behind → 1 ≤ length behind → IsNext behind t after → Spells ts after → Spells (t ∷ ts) rest
 steps rest behind after t ts h k l n s = (h.0, behind, h.1, starts behind k l, h.2, inl (after, n, s))
 
-pub stops : (rest behind : List ℕ) → SkipsBlanks rest behind → StopsIn Blank behind → 1 ≤ length behind → NoToken behind → Spells (Wrong ∷ []) rest
+pub stops : (rest behind : List ℕ) → SkipsBlanks rest behind → StopsIn (in_class Blank) behind → 1 ≤ length behind → NoToken behind → Spells (Wrong ∷ []) rest
 stops rest behind h k l n = (h.0, behind, h.1, starts behind k l, h.2, inr (refl, refl, n))
 
 append_nil : (bytes : List ℕ) → bytes ++ [] ≡ bytes

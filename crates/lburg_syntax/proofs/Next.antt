@@ -16,23 +16,23 @@ or_left : (x y z : Bool) → x ≡ true → ((x || y) || z) ≡ true
 or_left true y z h = refl
 or_left false y z h = absurd cc
 
-letter_name : (bytes : List ℕ) → StartsIn Letter bytes → StartsIn Name bytes
+letter_name : (bytes : List ℕ) → StartsIn (in_class Letter) bytes → StartsIn (in_class Name) bytes
 letter_name [] h = h
 letter_name (b ∷ bs) h = or_left (in_class Letter b) _ _ h
 
 -- a name is not empty
-pub name_pos : (bytes : List ℕ) (n : ℕ) → StartsIn Letter bytes → StopsIn Name (drop n bytes) → 1 ≤ n
-name_pos bytes n h k = run_pos Name bytes n (letter_name bytes h) k
+pub name_pos : (bytes : List ℕ) (n : ℕ) → StartsIn (in_class Letter) bytes → StopsIn (in_class Name) (drop n bytes) → 1 ≤ n
+name_pos bytes n h k = run_pos (in_class Name) bytes n (letter_name bytes h) k
 
 -- ---- names
 
-word_longest : (n rest : List ℕ) → IsToken (Word n) → StopsIn Name rest → (u : Tok) (z : List ℕ) → IsToken u → n ++ rest ≡ text_of u ++ z → length (text_of u) ≤ length n
-word_longest n rest t k (Word m) z p e = longest_run Name n m rest z p.1 k e
+word_longest : (n rest : List ℕ) → IsToken (Word n) → StopsIn (in_class Name) rest → (u : Tok) (z : List ℕ) → IsToken u → n ++ rest ≡ text_of u ++ z → length (text_of u) ≤ length n
+word_longest n rest t k (Word m) z p e = longest_run (in_class Name) n m rest z p.1 k e
 word_longest n rest t k u z p e = let h : 0 ≡ kind_of u = same_kind (Word n) u rest z t p e in absurd (omega arith)
 
-pub word_next : (bytes : List ℕ) (n : ℕ) → StartsIn Letter bytes → AllIn Name (take n bytes) → StopsIn Name (drop n bytes) → IsNext bytes (Word (take n bytes)) (drop n bytes)
+pub word_next : (bytes : List ℕ) (n : ℕ) → StartsIn (in_class Letter) bytes → AllIn (in_class Name) (take n bytes) → StopsIn (in_class Name) (drop n bytes) → IsNext bytes (Word (take n bytes)) (drop n bytes)
 word_next bytes n h f k =
-    let t : IsToken (Word (take n bytes)) = (starts_take Letter bytes n h (name_pos bytes n h k), f) in
+    let t : IsToken (Word (take n bytes)) = (starts_take (in_class Letter) bytes n h (name_pos bytes n h k), f) in
     record {
       token = t;
       parts = sym (take-append-drop n bytes);
@@ -41,13 +41,13 @@ word_next bytes n h f k =
 
 -- ---- numbers
 
-number_longest : (n rest : List ℕ) → IsToken (Number n) → StopsIn Digit rest → (u : Tok) (z : List ℕ) → IsToken u → n ++ rest ≡ text_of u ++ z → length (text_of u) ≤ length n
-number_longest n rest t k (Number m) z p e = longest_run Digit n m rest z p.1 k e
+number_longest : (n rest : List ℕ) → IsToken (Number n) → StopsIn (in_class Digit) rest → (u : Tok) (z : List ℕ) → IsToken u → n ++ rest ≡ text_of u ++ z → length (text_of u) ≤ length n
+number_longest n rest t k (Number m) z p e = longest_run (in_class Digit) n m rest z p.1 k e
 number_longest n rest t k u z p e = let h : 1 ≡ kind_of u = same_kind (Number n) u rest z t p e in absurd (omega arith)
 
-pub number_next : (bytes : List ℕ) (n : ℕ) → StartsIn Digit bytes → AllIn Digit (take n bytes) → StopsIn Digit (drop n bytes) → IsNext bytes (Number (take n bytes)) (drop n bytes)
+pub number_next : (bytes : List ℕ) (n : ℕ) → StartsIn (in_class Digit) bytes → AllIn (in_class Digit) (take n bytes) → StopsIn (in_class Digit) (drop n bytes) → IsNext bytes (Number (take n bytes)) (drop n bytes)
 number_next bytes n h f k =
-    let t : IsToken (Number (take n bytes)) = (starts_take Digit bytes n h (run_pos Digit bytes n h k), f) in
+    let t : IsToken (Number (take n bytes)) = (starts_take (in_class Digit) bytes n h (run_pos (in_class Digit) bytes n h k), f) in
     record {
       token = t;
       parts = sym (take-append-drop n bytes);
@@ -59,43 +59,43 @@ number_next bytes n h f k =
 same_tail : (a b : ℕ) (x y : List ℕ) → a ∷ x ≡ b ∷ y → x ≡ y
 same_tail a b x y e = cc
 
-keyword_longest : (n rest : List ℕ) → StopsIn Name rest → (u : Tok) (z : List ℕ) → IsToken u → 37 ∷ (n ++ rest) ≡ text_of u ++ z → length (text_of u) ≤ suc (length n)
-keyword_longest n rest k (Keyword m) z p e = let h = longest_run Name n m rest z p.1 k (same_tail _ _ _ _ e) in omega arith
+keyword_longest : (n rest : List ℕ) → StopsIn (in_class Name) rest → (u : Tok) (z : List ℕ) → IsToken u → 37 ∷ (n ++ rest) ≡ text_of u ++ z → length (text_of u) ≤ suc (length n)
+keyword_longest n rest k (Keyword m) z p e = let h = longest_run (in_class Name) n m rest z p.1 k (same_tail _ _ _ _ e) in omega arith
 keyword_longest n rest k u z p e = let h : 3 ≡ kind_of u = first_kind (37 ∷ (n ++ rest)) u z p e in absurd (omega arith)
 
-pub keyword_next : (bytes : List ℕ) (n : ℕ) → StartsIn Letter bytes → AllIn Name (take n bytes) → StopsIn Name (drop n bytes) → IsNext (37 ∷ bytes) (Keyword (take n bytes)) (drop n bytes)
+pub keyword_next : (bytes : List ℕ) (n : ℕ) → StartsIn (in_class Letter) bytes → AllIn (in_class Name) (take n bytes) → StopsIn (in_class Name) (drop n bytes) → IsNext (37 ∷ bytes) (Keyword (take n bytes)) (drop n bytes)
 keyword_next bytes n h f k =
-    let t : IsToken (Keyword (take n bytes)) = (starts_take Letter bytes n h (name_pos bytes n h k), f) in
+    let t : IsToken (Keyword (take n bytes)) = (starts_take (in_class Letter) bytes n h (name_pos bytes n h k), f) in
     record {
       token = t;
       parts = ap (λ (l : List ℕ). 37 ∷ l) (sym (take-append-drop n bytes));
       longest = λ u z p q. keyword_longest (take n bytes) (drop n bytes) k u z p (ap (λ (l : List ℕ). 37 ∷ l) (take-append-drop n bytes) ∙ q);
     }
 
-starts_front : (bytes m z : List ℕ) → StartsIn Letter m → bytes ≡ m ++ z → StartsIn Letter bytes
+starts_front : (bytes m z : List ℕ) → StartsIn (in_class Letter) m → bytes ≡ m ++ z → StartsIn (in_class Letter) bytes
 starts_front bytes [] z h e = absurd h
 starts_front bytes (b ∷ m) z h e = rw e h
 
-no_keyword_at : (bytes : List ℕ) → (StartsIn Letter bytes → ⊥) → (u : Tok) (z : List ℕ) → IsToken u → 37 ∷ bytes ≡ text_of u ++ z → ⊥
+no_keyword_at : (bytes : List ℕ) → (StartsIn (in_class Letter) bytes → ⊥) → (u : Tok) (z : List ℕ) → IsToken u → 37 ∷ bytes ≡ text_of u ++ z → ⊥
 no_keyword_at bytes h (Keyword m) z p e = h (starts_front bytes m z p.0 (same_tail _ _ _ _ e))
 no_keyword_at bytes h u z p e = let k : 3 ≡ kind_of u = first_kind (37 ∷ bytes) u z p e in omega arith
 
 -- a percent sign begins nothing without a name
-pub no_keyword : (bytes : List ℕ) → (StartsIn Letter bytes → ⊥) → NoToken (37 ∷ bytes)
+pub no_keyword : (bytes : List ℕ) → (StartsIn (in_class Letter) bytes → ⊥) → NoToken (37 ∷ bytes)
 no_keyword bytes h = no_keyword_at bytes h
 
 -- ---- templates
 
 text_longest : (n rest : List ℕ) (u : Tok) (z : List ℕ) → IsToken u → 34 ∷ (n ++ 34 ∷ rest) ≡ text_of u ++ z → length (text_of u) ≤ length n + 2
 text_longest n rest (Template m) z p e =
-    let h = longest_run Text n m (34 ∷ rest) (34 ∷ z) p refl (same_tail _ _ _ _ e ∙ append_assoc m (34 ∷ []) z) in
+    let h = longest_run (in_class Text) n m (34 ∷ rest) (34 ∷ z) p refl (same_tail _ _ _ _ e ∙ append_assoc m (34 ∷ []) z) in
     omega (arith, length-append m (34 ∷ []))
 text_longest n rest u z p e = let k : 2 ≡ kind_of u = first_kind (34 ∷ (n ++ 34 ∷ rest)) u z p e in absurd (omega arith)
 
 text_parts : (bytes rest : List ℕ) (n : ℕ) → drop n bytes ≡ 34 ∷ rest → bytes ≡ take n bytes ++ 34 ∷ rest
 text_parts bytes rest n e = sym (take-append-drop n bytes) ∙ ap (λ (l : List ℕ). take n bytes ++ l) e
 
-pub text_next : (bytes rest : List ℕ) (n : ℕ) → AllIn Text (take n bytes) → drop n bytes ≡ 34 ∷ rest → IsNext (34 ∷ bytes) (Template (take n bytes)) rest
+pub text_next : (bytes rest : List ℕ) (n : ℕ) → AllIn (in_class Text) (take n bytes) → drop n bytes ≡ 34 ∷ rest → IsNext (34 ∷ bytes) (Template (take n bytes)) rest
 text_next bytes rest n k f =
     let h = text_parts bytes rest n f in
     record {
@@ -104,13 +104,13 @@ text_next bytes rest n k f =
       longest = λ u z p q. (let g = text_longest (take n bytes) rest u z p (ap (λ (l : List ℕ). 34 ∷ l) (sym h) ∙ q) in omega (arith, length-append (take n bytes) (34 ∷ [])));
     }
 
-quoted : (m z : List ℕ) (n : ℕ) → AllIn Text m → AllIn Text (take n (m ++ 34 ∷ z)) → StopsIn Text (drop n (m ++ 34 ∷ z)) → n ≤ length (m ++ 34 ∷ z) → drop n (m ++ 34 ∷ z) ≡ 34 ∷ z
-quoted m z n p f k b = ap (λ (i : ℕ). drop i (m ++ 34 ∷ z)) (run_exact Text m (34 ∷ z) n p refl f k b) ∙ drop-append_seam m (34 ∷ z)
+quoted : (m z : List ℕ) (n : ℕ) → AllIn (in_class Text) m → AllIn (in_class Text) (take n (m ++ 34 ∷ z)) → StopsIn (in_class Text) (drop n (m ++ 34 ∷ z)) → n ≤ length (m ++ 34 ∷ z) → drop n (m ++ 34 ∷ z) ≡ 34 ∷ z
+quoted m z n p f k b = ap (λ (i : ℕ). drop i (m ++ 34 ∷ z)) (run_exact (in_class Text) m (34 ∷ z) n p refl f k b) ∙ drop-append_seam m (34 ∷ z)
 
 abbrev Unclosed : List ℕ → ℕ → Type 0
-Unclosed bytes n = AllIn Text (take n bytes) × StopsIn Text (drop n bytes) × (n ≤ length bytes) × ((rest : List ℕ) → drop n bytes ≡ 34 ∷ rest → ⊥)
+Unclosed bytes n = AllIn (in_class Text) (take n bytes) × StopsIn (in_class Text) (drop n bytes) × (n ≤ length bytes) × ((rest : List ℕ) → drop n bytes ≡ 34 ∷ rest → ⊥)
 
-unquoted : (m z : List ℕ) (n : ℕ) → AllIn Text m → Unclosed (m ++ 34 ∷ z) n → ⊥
+unquoted : (m z : List ℕ) (n : ℕ) → AllIn (in_class Text) m → Unclosed (m ++ 34 ∷ z) n → ⊥
 unquoted m z n p u = u.3 z (quoted m z n p u.0 u.1 u.2)
 
 no_text_at : (bytes : List ℕ) (n : ℕ) → Unclosed bytes n → (u : Tok) (z : List ℕ) → IsToken u → 34 ∷ bytes ≡ text_of u ++ z → ⊥
@@ -120,7 +120,7 @@ no_text_at bytes n h (Template m) z p e =
 no_text_at bytes n h u z p e = let k : 2 ≡ kind_of u = first_kind (34 ∷ bytes) u z p e in omega arith
 
 -- a quote begins nothing without a second
-pub no_text : (bytes : List ℕ) (n : ℕ) → AllIn Text (take n bytes) → StopsIn Text (drop n bytes) → n ≤ length bytes → ((rest : List ℕ) → drop n bytes ≡ 34 ∷ rest → ⊥) → NoToken (34 ∷ bytes)
+pub no_text : (bytes : List ℕ) (n : ℕ) → AllIn (in_class Text) (take n bytes) → StopsIn (in_class Text) (drop n bytes) → n ≤ length bytes → ((rest : List ℕ) → drop n bytes ≡ 34 ∷ rest → ⊥) → NoToken (34 ∷ bytes)
 no_text bytes n f k b h = no_text_at bytes n (f, k, b, h)
 
 -- ---- signs

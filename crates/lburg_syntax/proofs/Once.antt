@@ -6,7 +6,7 @@ use Rattle.lburg_syntax.specs.Tokens.{Tok, Word, Number, Template, Keyword, Mark
 use Rattle.lburg_syntax.specs.Spelling.{IsNext, Starts, Spells}
 use Rattle.lburg_syntax.proofs.FirstBytes.{kind_of, same_kind, same_sign}
 
-same_behind : (g h b c : List ℕ) → AllIn Blank g → AllIn Blank h → Starts b → Starts c → g ++ b ≡ h ++ c → b ≡ c
+same_behind : (g h b c : List ℕ) → AllIn (in_class Blank) g → AllIn (in_class Blank) h → Starts b → Starts c → g ++ b ≡ h ++ c → b ≡ c
 same_behind [] [] b c p q s t e = e
 same_behind [] (x ∷ h) [] c p q s t e = absurd s
 same_behind [] (x ∷ h) (y ∷ b) c p q s t e = let f : x ≡ y = cc in let g : true ≡ false = sym q.0 ∙ ap (in_class Blank) f ∙ s in absurd cc
@@ -14,7 +14,7 @@ same_behind (x ∷ g) [] b [] p q s t e = absurd t
 same_behind (x ∷ g) [] b (y ∷ c) p q s t e = let f : x ≡ y = cc in let k : true ≡ false = sym p.0 ∙ ap (in_class Blank) f ∙ t in absurd cc
 same_behind (x ∷ g) (y ∷ h) b c p q s t e = same_behind g h b c p.1 q.1 s t cc
 
-no_start : (bytes g b : List ℕ) → AllIn Blank bytes → Starts b → bytes ≡ g ++ b → ⊥
+no_start : (bytes g b : List ℕ) → AllIn (in_class Blank) bytes → Starts b → bytes ≡ g ++ b → ⊥
 no_start bytes [] [] p s e = s
 no_start [] [] (y ∷ b) p s e = cc
 no_start (x ∷ bytes) [] (y ∷ b) p s e = let f : x ≡ y = cc in let k : true ≡ false = sym p.0 ∙ ap (in_class Blank) f ∙ s in cc

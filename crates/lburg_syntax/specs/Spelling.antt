@@ -21,10 +21,10 @@ Starts (b ∷ bs) = in_class Blank b ≡ false
 
 -- Behind blanks a token stands and then the others. Where none begins, Wrong is the last.
 abbrev pub Spells : List Tok → List ℕ → Type 0
-Spells [] bytes = AllIn Blank bytes
+Spells [] bytes = AllIn (in_class Blank) bytes
 Spells (t ∷ ts) bytes =
-    (gap behind : List ℕ) × AllIn Blank gap × Starts behind × (bytes ≡ gap ++ behind) × (((rest : List ℕ) × IsNext behind t rest × Spells ts rest) ⊎ ((t ≡ Wrong) × (ts ≡ []) × NoToken behind))
+    (gap behind : List ℕ) × AllIn (in_class Blank) gap × Starts behind × (bytes ≡ gap ++ behind) × (((rest : List ℕ) × IsNext behind t rest × Spells ts rest) ⊎ ((t ≡ Wrong) × (ts ≡ []) × NoToken behind))
 
 -- what stands behind the blanks
 abbrev pub SkipsBlanks : List ℕ → List ℕ → Type 0
-SkipsBlanks bytes behind = (gap : List ℕ) × AllIn Blank gap × (bytes ≡ gap ++ behind)
+SkipsBlanks bytes behind = (gap : List ℕ) × AllIn (in_class Blank) gap × (bytes ≡ gap ++ behind)

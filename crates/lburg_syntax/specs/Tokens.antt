@@ -2,7 +2,7 @@
 -- Source: C. W. Fraser and D. R. Hanson, A Retargetable C Compiler, chapter 14 (lburg's input).
 use Rattle.std.specs.Prelude.{ℕ, List, [], ◌∷◌, ◌++◌, map}
 use Rattle.lcc_text.specs.declared.class.Class.TheVariants.{Letter, Digit, Name, Text}
-use Rattle.lcc_text.specs.Classes.{AllIn, StartsIn}
+use Rattle.lcc_text.specs.Classes.{in_class, AllIn, StartsIn}
 use Rattle.lburg_syntax.specs.declared.token.Sign.{Sign}
 use Rattle.lburg_syntax.specs.declared.token.Sign.TheVariants.{Open, Close, Comma, Colon, Equals}
 use Rattle.lburg_syntax.specs.declared.token.Token.{Token}
@@ -44,9 +44,9 @@ text_of (Mark s) = sign_code s ∷ []
 text_of Wrong = []
 
 abbrev pub IsToken : Tok → Type 0
-IsToken (Word b) = StartsIn Letter b × AllIn Name b
-IsToken (Number d) = StartsIn Digit d × AllIn Digit d
-IsToken (Template b) = AllIn Text b
-IsToken (Keyword b) = StartsIn Letter b × AllIn Name b
+IsToken (Word b) = StartsIn (in_class Letter) b × AllIn (in_class Name) b
+IsToken (Number d) = StartsIn (in_class Digit) d × AllIn (in_class Digit) d
+IsToken (Template b) = AllIn (in_class Text) b
+IsToken (Keyword b) = StartsIn (in_class Letter) b × AllIn (in_class Name) b
 IsToken (Mark s) = Unit {0}
 IsToken Wrong = ⊥

@@ -1,12 +1,12 @@
 ghost use Rattle.std.specs.Prelude.{◌≡◌, ◌≢◌, ◌<◌, ◌≤◌, ◌∷◌, List, ℕ, [], false, length, IsTrue, IfOk, IfSome, IfNone};
-ghost use Rattle.lcc_text.specs.Classes.{StartsIn, StopsIn};
+ghost use Rattle.lcc_text.specs.Classes.{in_class, StartsIn, StopsIn};
 ghost use Rattle.lcc_text.specs.declared.class.Class.TheVariants.{Letter, Digit, Blank};
 ghost use Rattle.lburg_syntax.specs.Tokens.{sign_code, view, views, Tok as Toks};
 ghost use Rattle.lburg_syntax.specs.Spelling.{IsNext, NoToken, Spells, SkipsBlanks};
 ghost use Rattle.lburg_syntax.specs.declared.token.Sign.{Sign as Signs};
 
 use crate::token::{Sign, Token};
-use lcc_text::{Class, is_in, run_len};
+use lcc_text::{ByteClass, Class, run_len, starts_in};
 use std::alloc::{AllocError, Global};
 
 fn sign_of(byte: u8) -> Option<Sign>
@@ -23,20 +23,9 @@ fn sign_of(byte: u8) -> Option<Sign>
     }
 }
 
-/// Whether a letter stands first.
-fn starts_with_letter(bytes: &[u8]) -> bool
-    ensures yes { IsTrue result → StartsIn Letter bytes.now }
-    ensures no { result ≡ false → StartsIn Letter bytes.now → ⊥ }
-{
-    match bytes.split_first() {
-        Some((first, _)) => is_in(Class::Letter, *first),
-        None => false,
-    }
-}
-
 #[tactic(auto, using(crate::proofs::Next::word_next, crate::proofs::Next::name_pos))]
 fn word<'a>(bytes: &'a [u8]) -> (Token<'a>, &'a [u8])
-    requires { StartsIn Letter bytes.now }
+    requires { StartsIn (in_class Letter) bytes.now }
     ensures next { IsNext bytes.now (view result.0) result.1.now }
     ensures shorter { length result.1.now < length bytes.now }
 {
@@ -46,7 +35,7 @@ fn word<'a>(bytes: &'a [u8]) -> (Token<'a>, &'a [u8])
 
 #[tactic(auto, using(crate::proofs::Next::number_next, lcc_text::proofs::Runs::run_pos))]
 fn number<'a>(bytes: &'a [u8]) -> (Token<'a>, &'a [u8])
-    requires { StartsIn Digit bytes.now }
+    requires { StartsIn (in_class Digit) bytes.now }
     ensures next { IsNext bytes.now (view result.0) result.1.now }
     ensures shorter { length result.1.now < length bytes.now }
 {
@@ -61,7 +50,7 @@ fn keyword<'a>(bytes: &'a [u8]) -> Option<(Token<'a>, &'a [u8])>
     ensures shorter { IfSome result (λ x. length x.1.now ≤ length bytes.now) }
     ensures none { IfNone result (NoToken (37 ∷ bytes.now)) }
 {
-    if !starts_with_letter(bytes) {
+    if !starts_in(Class::Letter, bytes) {
         return None;
     }
     let (name, rest) = bytes.split_at(run_len(Class::Name, bytes));
@@ -113,10 +102,10 @@ fn next_token<'a>(bytes: &'a [u8]) -> Option<(Token<'a>, &'a [u8])>
     if *first == b'%' {
         return keyword(rest);
     }
-    if is_in(Class::Letter, *first) {
+    if Class::Letter.has(*first) {
         return Some(word(bytes));
     }
-    if is_in(Class::Digit, *first) {
+    if Class::Digit.has(*first) {
         return Some(number(bytes));
     }
     None
@@ -125,7 +114,7 @@ fn next_token<'a>(bytes: &'a [u8]) -> Option<(Token<'a>, &'a [u8])>
 #[tactic(auto, using(crate::proofs::Blanks::skips))]
 fn skip_blanks<'a>(bytes: &'a [u8]) -> &'a [u8]
     ensures skips { SkipsBlanks bytes.now result.now }
-    ensures stops { StopsIn Blank result.now }
+    ensures stops { StopsIn (in_class Blank) result.now }
     ensures shorter { length result.now ≤ length bytes.now }
 {
     let (_, rest) = bytes.split_at(run_len(Class::Blank, bytes));

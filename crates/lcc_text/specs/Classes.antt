@@ -11,17 +11,19 @@ in_class Digit b = is_ascii_digit b
 in_class Name b = (is_ascii_alphabetic b || is_ascii_digit b) || b == 95
 in_class Text b = (not (b == 34) && not (b == 10)) && not (b == 92)
 
+-- ---- bytes of a class, which is given by its test
+
 -- each byte is in the class
-abbrev pub AllIn : Class → List ℕ → Type 0
+abbrev pub AllIn : (ℕ → Bool) → List ℕ → Type 0
 AllIn class [] = Unit {0}
-AllIn class (b ∷ bs) = (in_class class b ≡ true) × AllIn class bs
+AllIn class (b ∷ bs) = (class b ≡ true) × AllIn class bs
 
 -- the first byte is there, and in the class
-abbrev pub StartsIn : Class → List ℕ → Type 0
+abbrev pub StartsIn : (ℕ → Bool) → List ℕ → Type 0
 StartsIn class [] = ⊥
-StartsIn class (b ∷ bs) = in_class class b ≡ true
+StartsIn class (b ∷ bs) = class b ≡ true
 
 -- the first byte isn't in the class, or there is none
-abbrev pub StopsIn : Class → List ℕ → Type 0
+abbrev pub StopsIn : (ℕ → Bool) → List ℕ → Type 0
 StopsIn class [] = Unit {0}
-StopsIn class (b ∷ bs) = in_class class b ≡ false
+StopsIn class (b ∷ bs) = class b ≡ false

@@ -6,9 +6,11 @@ mod decimal;
 mod line;
 mod names;
 mod run;
+#[cfg(test)]
+mod tests;
 
-pub use class::{Class, is_in};
+pub use class::{ByteClass, Class};
 pub use decimal::decimal_value;
 pub use line::next_line;
 pub use names::{find, place};
-pub use run::run_len;
+pub use run::{run_len, starts_in};

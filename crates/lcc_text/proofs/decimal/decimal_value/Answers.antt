@@ -1,6 +1,6 @@
-use Rattle.std.proofs.Common.{◌≡◌, ◌+◌, ◌*◌, ◌-◌, ◌<◌, ◌≤◌, ◌∙◌, sym, drop, get_or, length, arith}
+use Rattle.std.proofs.Common.{◌≡◌, ◌+◌, ◌*◌, ◌-◌, drop, get_or, arith}
 use Rattle.std.proofs.lemmas.List.{at_drop_more}
-use Rattle.lcc_text.specs.Decimal.{value_of, value_behind}
+use Rattle.lcc_text.specs.Decimal.{value_behind}
 use Rattle.lcc_text.proofs.Decimals.{grows}
 use Rattle.lcc_text.proofs.decimal.decimal_value.Goals as goal
 
