@@ -1,8 +1,10 @@
 -- Lines of a word and operands, with a blank between them, and what they say.
 use Rattle.std.specs.Prelude.{◌≡◌, ◌≤◌, ◌<◌, ◌-◌, ◌%◌, ◌^◌, true, false, ℕ, Bool, List, [], ◌∷◌, ◌++◌, map, decimal, if◌then◌else◌, refl}
 use Rattle.std.proofs.Common.{sym, ap, subst, ◌∙◌, inl, arith}
-use Rattle.asm_text.specs.declared.class.Class.TheVariants.{Digit, Symbol}
-use Rattle.asm_text.specs.Classes.{in_class, AllIn, StartsIn}
+use Rattle.lcc_text.specs.declared.class.Class.TheVariants.{Digit}
+use Rattle.asm_text.specs.declared.class.AsmClass.TheVariants.{Symbol}
+use Rattle.lcc_text.specs.Classes.{in_class, AllIn, StartsIn}
+use Rattle.asm_text.specs.Classes.{in_asm}
 use Rattle.asm_text.specs.declared.instruction.Instruction.{Instruction}
 use Rattle.asm_text.specs.declared.line.Statement.TheVariants as statement
 use Rattle.asm_text.specs.Tokens.{Tok, Word, Number, Minus, Spaced, text_of, IsName, IsToken}
@@ -60,7 +62,7 @@ numeral_token n h = digits_decimal n h
 pub minus_token : (n : ℕ) → n < 2 ^ 64 → IsToken (Minus (decimal n))
 minus_token n h = digits_decimal n h
 
-starts_symbol : (n : List ℕ) → StartsIn Digit n → StartsIn Symbol n
+starts_symbol : (n : List ℕ) → StartsIn (in_class Digit) n → StartsIn (in_asm Symbol) n
 starts_symbol [] h = h
 starts_symbol (b ∷ n) h = digit_symbol b h
 
@@ -76,7 +78,7 @@ minus_is n m h k = let e = value_decimal n (omega (arith, h)) in (k ∙ ap (λ v
 -- ---- names
 
 abbrev pub AreSymbols : List ℕ → Type 0
-AreSymbols bs = AllIn Symbol bs
+AreSymbols bs = AllIn (in_asm Symbol) bs
 
 pub name_of_symbols : (b : ℕ) (bs : List ℕ) → in_class Digit b ≡ false → AreSymbols (b ∷ bs) → IsName (b ∷ bs)
 name_of_symbols b bs h k = (h, k)

@@ -3,8 +3,9 @@ use Rattle.std.proofs.Common.{◌≡◌, ◌≤◌, ℕ, zero, suc, Bool, List, 
 use Rattle.std.specs.Prelude.{nat_lt}
 use Rattle.std.proofs.lemmas.List.{take-append-drop}
 use Rattle.std.proofs.lemmas.Bool.Decides.{nat_tests}
-use Rattle.asm_text.specs.declared.class.Class.TheVariants.{Space}
-use Rattle.asm_text.specs.Classes.{AllIn}
+use Rattle.asm_text.specs.declared.class.AsmClass.TheVariants.{Space}
+use Rattle.lcc_text.specs.Classes.{AllIn}
+use Rattle.asm_text.specs.Classes.{in_asm}
 use Rattle.asm_text.specs.Tokens.{Tok, Wrong, Spaced}
 use Rattle.asm_text.specs.Spelling.{IsNext, NoToken, IsRemark, Starts, Spells, SkipsSpaces, some_gap}
 
@@ -13,7 +14,7 @@ gap_seen bytes zero h = refl
 gap_seen [] (suc n) h = absurd (omega arith)
 gap_seen (b ∷ bytes) (suc n) h = grind (arith, nat_tests)
 
-pub skips : (bytes : List ℕ) (n : ℕ) → n ≤ length bytes → AllIn Space (take n bytes) → SkipsSpaces bytes (nat_lt 0 n) (drop n bytes)
+pub skips : (bytes : List ℕ) (n : ℕ) → n ≤ length bytes → AllIn (in_asm Space) (take n bytes) → SkipsSpaces bytes (nat_lt 0 n) (drop n bytes)
 skips bytes n l h = (take n bytes, h, sym (take-append-drop n bytes), gap_seen bytes n l)
 
 abbrev spaced : Tok → Bool → Spaced

@@ -1,8 +1,8 @@
 -- A text is one program's at most.
 use Rattle.std.proofs.Common.{◌≡◌, ◌<◌, ◌+◌, ℕ, List, [], ◌∷◌, codes, decimal, refl, sym, ap, subst, ◌∙◌, inl, inr, arith}
 use Rattle.std.specs.Prelude.{Result, Ok, Err, IfOk}
-use Rattle.asm_text.specs.declared.class.Class.TheVariants.{Digit}
-use Rattle.asm_text.specs.Classes.{StartsIn}
+use Rattle.lcc_text.specs.declared.class.Class.TheVariants.{Digit}
+use Rattle.lcc_text.specs.Classes.{in_class, StartsIn}
 use Rattle.lcc_text.specs.Decimal.{value_of}
 use Rattle.lcc_text.specs.Lines.{lines_of}
 use Rattle.asm_text.specs.declared.asm_fault.AsmFault.{AsmFault}
@@ -37,8 +37,8 @@ same_value name r s e f g h = sym (value_decimal r (omega arith)) ∙ ap value_o
 
 no_digit : (name : List ℕ) (r : ℕ) → name ≡ decimal r → r < 32 → name ≡ codes "sp" → ⊥
 no_digit name r e f g =
-    let P : List ℕ → Type 0 = λ l. StartsIn Digit l in
-    let d : StartsIn Digit (codes "sp") = subst P (sym e ∙ g) (digits_decimal r (omega arith)).0 in
+    let P : List ℕ → Type 0 = λ l. StartsIn (in_class Digit) l in
+    let d : StartsIn (in_class Digit) (codes "sp") = subst P (sym e ∙ g) (digits_decimal r (omega arith)).0 in
     cc
 
 same_register : (t : Tok) (r s : ℕ) → IsRegister t r → IsRegister t s → r ≡ s

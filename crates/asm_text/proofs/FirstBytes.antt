@@ -1,7 +1,9 @@
 -- The first byte of a token's text tells the kind of the token.
 use Rattle.std.proofs.Common.{◌≡◌, ℕ, Bool, true, false, cond, ◌==◌, List, [], ◌∷◌, ◌++◌, refl, sym, ap, ◌∙◌}
-use Rattle.asm_text.specs.declared.class.Class.TheVariants.{Symbol, Digit}
-use Rattle.asm_text.specs.Classes.{in_class}
+use Rattle.lcc_text.specs.declared.class.Class.TheVariants.{Digit}
+use Rattle.asm_text.specs.declared.class.AsmClass.TheVariants.{Symbol}
+use Rattle.lcc_text.specs.Classes.{in_class}
+use Rattle.asm_text.specs.Classes.{in_asm}
 use Rattle.asm_text.specs.declared.token.Sign.{Sign}
 use Rattle.asm_text.specs.declared.token.Sign.TheVariants.{Open, Close, Comma, Colon}
 use Rattle.asm_text.specs.Tokens.{Tok, Word, Number, Minus, Dollar, Mark, Wrong, text_of, IsToken, sign_code}
@@ -11,7 +13,7 @@ abbrev pick : Bool → Bool → Bool → Bool → ℕ
 pick digit name minus dollar = cond digit 1 (cond name 0 (cond minus 2 (cond dollar 3 4)))
 
 abbrev pub kind : ℕ → ℕ
-kind b = pick (in_class Digit b) (in_class Symbol b) (b == 45) (b == 36)
+kind b = pick (in_class Digit b) (in_asm Symbol b) (b == 45) (b == 36)
 
 abbrev pub kind_at : List ℕ → ℕ
 kind_at [] = 5
@@ -34,14 +36,14 @@ of_digit d s m o e = rw e refl
 of_others : (d s m o : Bool) → d ≡ false → s ≡ false → m ≡ false → o ≡ false → pick d s m o ≡ 4
 of_others d s m o e f g h = rw (e, f, g, h) refl
 
-pub word_kind : (b : ℕ) → in_class Digit b ≡ false → in_class Symbol b ≡ true → kind b ≡ 0
-word_kind b d h = of_name (in_class Digit b) (in_class Symbol b) (b == 45) (b == 36) d h
+pub word_kind : (b : ℕ) → in_class Digit b ≡ false → in_asm Symbol b ≡ true → kind b ≡ 0
+word_kind b d h = of_name (in_class Digit b) (in_asm Symbol b) (b == 45) (b == 36) d h
 
 pub digit_kind : (b : ℕ) → in_class Digit b ≡ true → kind b ≡ 1
-digit_kind b h = of_digit (in_class Digit b) (in_class Symbol b) (b == 45) (b == 36) h
+digit_kind b h = of_digit (in_class Digit b) (in_asm Symbol b) (b == 45) (b == 36) h
 
-pub other_kind : (b : ℕ) → in_class Symbol b ≡ false → in_class Digit b ≡ false → (b == 45) ≡ false → (b == 36) ≡ false → kind b ≡ 4
-other_kind b l d q p = of_others (in_class Digit b) (in_class Symbol b) (b == 45) (b == 36) d l q p
+pub other_kind : (b : ℕ) → in_asm Symbol b ≡ false → in_class Digit b ≡ false → (b == 45) ≡ false → (b == 36) ≡ false → kind b ≡ 4
+other_kind b l d q p = of_others (in_class Digit b) (in_asm Symbol b) (b == 45) (b == 36) d l q p
 
 sign_kind : (s : Sign) → kind (sign_code s) ≡ 4
 sign_kind Open = refl

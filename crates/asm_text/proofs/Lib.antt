@@ -1,4 +1,3 @@
-pub mod Runs
 pub mod FirstBytes
 pub mod Next
 pub mod Blanks

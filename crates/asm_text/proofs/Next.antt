@@ -1,90 +1,91 @@
 -- The longest token of each kind.
-use Rattle.std.proofs.Common.{◌≡◌, ◌≤◌, ℕ, zero, suc, false, ◌==◌, List, [], ◌∷◌, ◌++◌, length, take, drop, refl, arith}
+use Rattle.std.proofs.Common.{◌≡◌, ◌≤◌, ℕ, Bool, zero, suc, false, ◌==◌, List, [], ◌∷◌, ◌++◌, length, take, drop, refl, arith}
 use Rattle.std.proofs.lemmas.List.{take-append-drop}
 use Rattle.std.specs.Prelude.{◌≢◌}
 use Rattle.std.proofs.lemmas.Bool.Decides.{nat_tests}
-use Rattle.asm_text.specs.declared.class.Class.{Class}
-use Rattle.asm_text.specs.declared.class.Class.TheVariants.{Symbol, Digit}
-use Rattle.asm_text.specs.Classes.{in_class, AllIn, StartsIn, StopsIn}
-use Rattle.asm_text.proofs.Runs.{longest_run, run_pos, starts_take}
+use Rattle.lcc_text.specs.declared.class.Class.TheVariants.{Digit}
+use Rattle.asm_text.specs.declared.class.AsmClass.TheVariants.{Symbol}
+use Rattle.lcc_text.specs.Classes.{in_class, AllIn, StartsIn, StopsIn}
+use Rattle.asm_text.specs.Classes.{in_asm}
+use Rattle.lcc_text.proofs.Runs.{longest_run, run_pos, starts_take}
 use Rattle.asm_text.specs.declared.token.Sign.{Sign}
 use Rattle.asm_text.specs.Tokens.{Tok, Word, Number, Minus, Dollar, Mark, Wrong, text_of, IsName, IsToken, sign_code}
 use Rattle.asm_text.specs.Spelling.{IsNext, NoToken}
 use Rattle.asm_text.proofs.FirstBytes.{kind, kind_of, first_kind, same_kind, other_kind}
 
-pub name_symbols : (n : List ℕ) → IsName n → AllIn Symbol n
+pub name_symbols : (n : List ℕ) → IsName n → AllIn (in_asm Symbol) n
 name_symbols [] h = absurd h
 name_symbols (b ∷ n) h = h.1
 
-name_front : (bytes : List ℕ) (n : ℕ) → 1 ≤ n → StartsIn Symbol bytes → StopsIn Digit bytes → AllIn Symbol (take n bytes) → IsName (take n bytes)
+name_front : (bytes : List ℕ) (n : ℕ) → 1 ≤ n → StartsIn (in_asm Symbol) bytes → StopsIn (in_class Digit) bytes → AllIn (in_asm Symbol) (take n bytes) → IsName (take n bytes)
 name_front [] n k h d f = absurd h
 name_front (b ∷ bs) zero k h d f = absurd (omega arith)
 name_front (b ∷ bs) (suc n) k h d f = (d, f)
 
 -- ---- words
 
-pub word_is_next : (n rest : List ℕ) → IsName n → StopsIn Symbol rest → IsNext (n ++ rest) (Word n) rest
+pub word_is_next : (n rest : List ℕ) → IsName n → StopsIn (in_asm Symbol) rest → IsNext (n ++ rest) (Word n) rest
 word_is_next n rest t k = record { token = t; parts = refl; longest = longest } where
   longest : (u : Tok) (z : List ℕ) → IsToken u → n ++ rest ≡ text_of u ++ z → length (text_of u) ≤ length n
-  longest (Word m) z p e = longest_run Symbol n m rest z (name_symbols m p) k e
+  longest (Word m) z p e = longest_run (in_asm Symbol) n m rest z (name_symbols m p) k e
   longest u z p e = let h : 0 ≡ kind_of u = same_kind (Word n) u rest z t p e in absurd (omega arith)
 
 pub at_front : (bytes : List ℕ) (n : ℕ) (t : Tok) → IsNext (take n bytes ++ drop n bytes) t (drop n bytes) → IsNext bytes t (drop n bytes)
 at_front bytes n t h = rw (take-append-drop n bytes) at h
 
-pub word_next : (bytes : List ℕ) (n : ℕ) → StartsIn Symbol bytes → StopsIn Digit bytes → AllIn Symbol (take n bytes) → StopsIn Symbol (drop n bytes) → IsNext bytes (Word (take n bytes)) (drop n bytes)
-word_next bytes n h d f k = at_front bytes n (Word (take n bytes)) (word_is_next (take n bytes) (drop n bytes) (name_front bytes n (run_pos Symbol bytes n h k) h d f) k)
+pub word_next : (bytes : List ℕ) (n : ℕ) → StartsIn (in_asm Symbol) bytes → StopsIn (in_class Digit) bytes → AllIn (in_asm Symbol) (take n bytes) → StopsIn (in_asm Symbol) (drop n bytes) → IsNext bytes (Word (take n bytes)) (drop n bytes)
+word_next bytes n h d f k = at_front bytes n (Word (take n bytes)) (word_is_next (take n bytes) (drop n bytes) (name_front bytes n (run_pos (in_asm Symbol) bytes n h k) h d f) k)
 
 -- ---- numbers
 
-pub number_is_next : (n rest : List ℕ) → StartsIn Digit n → AllIn Digit n → StopsIn Digit rest → IsNext (n ++ rest) (Number n) rest
+pub number_is_next : (n rest : List ℕ) → StartsIn (in_class Digit) n → AllIn (in_class Digit) n → StopsIn (in_class Digit) rest → IsNext (n ++ rest) (Number n) rest
 number_is_next n rest s f k = record { token = (s, f); parts = refl; longest = longest } where
   longest : (u : Tok) (z : List ℕ) → IsToken u → n ++ rest ≡ text_of u ++ z → length (text_of u) ≤ length n
-  longest (Number m) z p e = longest_run Digit n m rest z p.1 k e
+  longest (Number m) z p e = longest_run (in_class Digit) n m rest z p.1 k e
   longest u z p e = let h : 1 ≡ kind_of u = same_kind (Number n) u rest z (s, f) p e in absurd (omega arith)
 
-pub number_next : (bytes : List ℕ) (n : ℕ) → StartsIn Digit bytes → AllIn Digit (take n bytes) → StopsIn Digit (drop n bytes) → IsNext bytes (Number (take n bytes)) (drop n bytes)
-number_next bytes n h f k = at_front bytes n (Number (take n bytes)) (number_is_next (take n bytes) (drop n bytes) (starts_take Digit bytes n h (run_pos Digit bytes n h k)) f k)
+pub number_next : (bytes : List ℕ) (n : ℕ) → StartsIn (in_class Digit) bytes → AllIn (in_class Digit) (take n bytes) → StopsIn (in_class Digit) (drop n bytes) → IsNext bytes (Number (take n bytes)) (drop n bytes)
+number_next bytes n h f k = at_front bytes n (Number (take n bytes)) (number_is_next (take n bytes) (drop n bytes) (starts_take (in_class Digit) bytes n h (run_pos (in_class Digit) bytes n h k)) f k)
 
 -- ---- what stands behind a minus sign and a dollar sign
 
 same_tail : (a b : ℕ) (x y : List ℕ) → a ∷ x ≡ b ∷ y → x ≡ y
 same_tail a b x y e = cc
 
-starts_front : (c : Class) (bytes m z : List ℕ) → StartsIn c m → bytes ≡ m ++ z → StartsIn c bytes
+starts_front : (c : ℕ → Bool) (bytes m z : List ℕ) → StartsIn c m → bytes ≡ m ++ z → StartsIn c bytes
 starts_front c bytes [] z h e = absurd h
 starts_front c bytes (b ∷ m) z h e = rw e h
 
-pub minus_is_next : (n rest : List ℕ) → StartsIn Digit n → AllIn Digit n → StopsIn Digit rest → IsNext (45 ∷ (n ++ rest)) (Minus n) rest
+pub minus_is_next : (n rest : List ℕ) → StartsIn (in_class Digit) n → AllIn (in_class Digit) n → StopsIn (in_class Digit) rest → IsNext (45 ∷ (n ++ rest)) (Minus n) rest
 minus_is_next n rest s f k = record { token = (s, f); parts = refl; longest = longest } where
   longest : (u : Tok) (z : List ℕ) → IsToken u → 45 ∷ (n ++ rest) ≡ text_of u ++ z → length (text_of u) ≤ suc (length n)
-  longest (Minus m) z p e = let h = longest_run Digit n m rest z p.1 k (same_tail _ _ _ _ e) in omega arith
+  longest (Minus m) z p e = let h = longest_run (in_class Digit) n m rest z p.1 k (same_tail _ _ _ _ e) in omega arith
   longest u z p e = let h : 2 ≡ kind_of u = first_kind (45 ∷ (n ++ rest)) u z p e in absurd (omega arith)
 
-pub minus_next : (bytes : List ℕ) (n : ℕ) → StartsIn Digit bytes → AllIn Digit (take n bytes) → StopsIn Digit (drop n bytes) → IsNext (45 ∷ bytes) (Minus (take n bytes)) (drop n bytes)
-minus_next bytes n h f k = rw (take-append-drop n bytes) at (minus_is_next (take n bytes) (drop n bytes) (starts_take Digit bytes n h (run_pos Digit bytes n h k)) f k)
+pub minus_next : (bytes : List ℕ) (n : ℕ) → StartsIn (in_class Digit) bytes → AllIn (in_class Digit) (take n bytes) → StopsIn (in_class Digit) (drop n bytes) → IsNext (45 ∷ bytes) (Minus (take n bytes)) (drop n bytes)
+minus_next bytes n h f k = rw (take-append-drop n bytes) at (minus_is_next (take n bytes) (drop n bytes) (starts_take (in_class Digit) bytes n h (run_pos (in_class Digit) bytes n h k)) f k)
 
 -- a minus sign begins nothing without a digit
-pub no_minus : (bytes : List ℕ) → (StartsIn Digit bytes → ⊥) → NoToken (45 ∷ bytes)
+pub no_minus : (bytes : List ℕ) → (StartsIn (in_class Digit) bytes → ⊥) → NoToken (45 ∷ bytes)
 no_minus bytes h = none where
   none : (u : Tok) (z : List ℕ) → IsToken u → 45 ∷ bytes ≡ text_of u ++ z → ⊥
-  none (Minus m) z p e = h (starts_front Digit bytes m z p.0 (same_tail _ _ _ _ e))
+  none (Minus m) z p e = h (starts_front (in_class Digit) bytes m z p.0 (same_tail _ _ _ _ e))
   none u z p e = let k : 2 ≡ kind_of u = first_kind (45 ∷ bytes) u z p e in omega arith
 
-pub dollar_is_next : (n rest : List ℕ) → StartsIn Symbol n → AllIn Symbol n → StopsIn Symbol rest → IsNext (36 ∷ (n ++ rest)) (Dollar n) rest
+pub dollar_is_next : (n rest : List ℕ) → StartsIn (in_asm Symbol) n → AllIn (in_asm Symbol) n → StopsIn (in_asm Symbol) rest → IsNext (36 ∷ (n ++ rest)) (Dollar n) rest
 dollar_is_next n rest s f k = record { token = (s, f); parts = refl; longest = longest } where
   longest : (u : Tok) (z : List ℕ) → IsToken u → 36 ∷ (n ++ rest) ≡ text_of u ++ z → length (text_of u) ≤ suc (length n)
-  longest (Dollar m) z p e = let h = longest_run Symbol n m rest z p.1 k (same_tail _ _ _ _ e) in omega arith
+  longest (Dollar m) z p e = let h = longest_run (in_asm Symbol) n m rest z p.1 k (same_tail _ _ _ _ e) in omega arith
   longest u z p e = let h : 3 ≡ kind_of u = first_kind (36 ∷ (n ++ rest)) u z p e in absurd (omega arith)
 
-pub dollar_next : (bytes : List ℕ) (n : ℕ) → StartsIn Symbol bytes → AllIn Symbol (take n bytes) → StopsIn Symbol (drop n bytes) → IsNext (36 ∷ bytes) (Dollar (take n bytes)) (drop n bytes)
-dollar_next bytes n h f k = rw (take-append-drop n bytes) at (dollar_is_next (take n bytes) (drop n bytes) (starts_take Symbol bytes n h (run_pos Symbol bytes n h k)) f k)
+pub dollar_next : (bytes : List ℕ) (n : ℕ) → StartsIn (in_asm Symbol) bytes → AllIn (in_asm Symbol) (take n bytes) → StopsIn (in_asm Symbol) (drop n bytes) → IsNext (36 ∷ bytes) (Dollar (take n bytes)) (drop n bytes)
+dollar_next bytes n h f k = rw (take-append-drop n bytes) at (dollar_is_next (take n bytes) (drop n bytes) (starts_take (in_asm Symbol) bytes n h (run_pos (in_asm Symbol) bytes n h k)) f k)
 
 -- a dollar sign begins nothing without a name
-pub no_dollar : (bytes : List ℕ) → (StartsIn Symbol bytes → ⊥) → NoToken (36 ∷ bytes)
+pub no_dollar : (bytes : List ℕ) → (StartsIn (in_asm Symbol) bytes → ⊥) → NoToken (36 ∷ bytes)
 no_dollar bytes h = none where
   none : (u : Tok) (z : List ℕ) → IsToken u → 36 ∷ bytes ≡ text_of u ++ z → ⊥
-  none (Dollar m) z p e = h (starts_front Symbol bytes m z p.0 (same_tail _ _ _ _ e))
+  none (Dollar m) z p e = h (starts_front (in_asm Symbol) bytes m z p.0 (same_tail _ _ _ _ e))
   none u z p e = let k : 3 ≡ kind_of u = first_kind (36 ∷ bytes) u z p e in omega arith
 
 -- ---- signs, and no token
@@ -102,7 +103,7 @@ none_at b bs h s u z p e = let k : kind b ≡ kind_of u = first_kind (b ∷ bs) 
 not_at : (a b : ℕ) → a ≢ b → (a == b) ≡ false
 not_at a b h = grind (arith, nat_tests)
 
-pub none_next : (b : ℕ) (bs : List ℕ) → ((s : Sign) → sign_code s ≢ b) → b ≢ 45 → b ≢ 36 → in_class Digit b ≡ false → in_class Symbol b ≡ false → NoToken (b ∷ bs)
+pub none_next : (b : ℕ) (bs : List ℕ) → ((s : Sign) → sign_code s ≢ b) → b ≢ 45 → b ≢ 36 → in_class Digit b ≡ false → in_asm Symbol b ≡ false → NoToken (b ∷ bs)
 none_next b bs s q r d l = none_at b bs (other_kind b l d (not_at b 45 q) (not_at b 36 r)) s
 
 none_empty_at : (u : Tok) (z : List ℕ) → IsToken u → [] ≡ text_of u ++ z → ⊥

@@ -4,8 +4,8 @@ use Rattle.std.specs.Str.{bytes_eq}
 use Rattle.std.proofs.lemmas.Bool.Decides.{nat_tests}
 use Rattle.std.proofs.lemmas.Slice.Eq.{bytes_eq-Decides}
 use Rattle.std.proofs.lemmas.Fmt.{decimal_by_steps}
-use Rattle.asm_text.specs.declared.class.Class.TheVariants.{Digit}
-use Rattle.asm_text.specs.Classes.{in_class, AllIn, StartsIn}
+use Rattle.lcc_text.specs.declared.class.Class.TheVariants.{Digit}
+use Rattle.lcc_text.specs.Classes.{in_class, AllIn, StartsIn}
 use Rattle.lcc_text.specs.Decimal.{value_behind, value_of}
 use Rattle.asm_text.specs.Tokens.{Dollar}
 use Rattle.asm_text.specs.Instructions.{IsRegister}
@@ -24,18 +24,18 @@ value_decimal n h = decimal_by_steps (λ k ds. value_of ds ≡ k) (λ k l. omega
 digit_digit : (d : ℕ) → d < 10 → in_class Digit (48 + d) ≡ true
 digit_digit d h = grind (arith, nat_tests)
 
-all_more : (ds : List ℕ) (b : ℕ) → AllIn Digit ds → in_class Digit b ≡ true → AllIn Digit (ds ++ b ∷ [])
+all_more : (ds : List ℕ) (b : ℕ) → AllIn (in_class Digit) ds → in_class Digit b ≡ true → AllIn (in_class Digit) (ds ++ b ∷ [])
 all_more [] b h e = (e, tt)
 all_more (d ∷ ds) b h e = (h.0, all_more ds b h.1 e)
 
-starts_more : (ds : List ℕ) (b : ℕ) → StartsIn Digit ds → StartsIn Digit (ds ++ b ∷ [])
+starts_more : (ds : List ℕ) (b : ℕ) → StartsIn (in_class Digit) ds → StartsIn (in_class Digit) (ds ++ b ∷ [])
 starts_more [] b h = absurd h
 starts_more (d ∷ ds) b h = h
 
 -- a numeral is made of digits
-pub digits_decimal : (n : ℕ) → n < 2 ^ 64 → StartsIn Digit (decimal n) × AllIn Digit (decimal n)
+pub digits_decimal : (n : ℕ) → n < 2 ^ 64 → StartsIn (in_class Digit) (decimal n) × AllIn (in_class Digit) (decimal n)
 digits_decimal n h =
-    decimal_by_steps (λ k ds. StartsIn Digit ds × AllIn Digit ds) (λ k l. (digit_digit k l, (digit_digit k l, tt))) (λ k ds l e. (starts_more ds (48 + k % 10) e.0, all_more ds (48 + k % 10) e.1 (digit_digit (k % 10) (omega arith)))) n h
+    decimal_by_steps (λ k ds. StartsIn (in_class Digit) ds × AllIn (in_class Digit) ds) (λ k l. (digit_digit k l, (digit_digit k l, tt))) (λ k ds l e. (starts_more ds (48 + k % 10) e.0, all_more ds (48 + k % 10) e.1 (digit_digit (k % 10) (omega arith)))) n h
 
 pub unlike : (xs ys : List ℕ) (r : Bool) → r ≡ bytes_eq xs ys → r ≡ false → xs ≡ ys → ⊥
 unlike xs ys r e f g = let t : bytes_eq xs ys ≡ true = (bytes_eq-Decides xs ys).1 g in cc

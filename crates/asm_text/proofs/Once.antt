@@ -1,15 +1,16 @@
 -- Bytes spell no two lists of tokens.
 use Rattle.std.proofs.Common.{◌≡◌, ℕ, Bool, true, false, List, [], ◌∷◌, ◌++◌, length, refl, sym, ap, subst, ◌∙◌, arith, inl, inr}
-use Rattle.asm_text.specs.declared.class.Class.TheVariants.{Space}
-use Rattle.asm_text.specs.Classes.{in_class, AllIn}
+use Rattle.asm_text.specs.declared.class.AsmClass.TheVariants.{Space}
+use Rattle.lcc_text.specs.Classes.{AllIn}
+use Rattle.asm_text.specs.Classes.{in_asm}
 use Rattle.asm_text.specs.Tokens.{Tok, Word, Number, Minus, Dollar, Mark, Wrong, Spaced, text_of, IsToken}
 use Rattle.asm_text.specs.Spelling.{IsNext, IsRemark, Starts, Spells, some_gap}
 use Rattle.asm_text.proofs.FirstBytes.{kind_of, same_kind, same_sign}
 
-space_not : (x y : ℕ) → x ≡ y → in_class Space x ≡ true → in_class Space y ≡ false → ⊥
-space_not x y e h k = let g : true ≡ false = sym h ∙ ap (in_class Space) e ∙ k in cc
+space_not : (x y : ℕ) → x ≡ y → in_asm Space x ≡ true → in_asm Space y ≡ false → ⊥
+space_not x y e h k = let g : true ≡ false = sym h ∙ ap (in_asm Space) e ∙ k in cc
 
-same_behind : (g h b c : List ℕ) → AllIn Space g → AllIn Space h → Starts b → Starts c → g ++ b ≡ h ++ c → (g ≡ h) × (b ≡ c)
+same_behind : (g h b c : List ℕ) → AllIn (in_asm Space) g → AllIn (in_asm Space) h → Starts b → Starts c → g ++ b ≡ h ++ c → (g ≡ h) × (b ≡ c)
 same_behind [] [] b c p q s t e = (refl, e)
 same_behind [] (x ∷ h) [] c p q s t e = absurd s
 same_behind [] (x ∷ h) (y ∷ b) c p q s t e = absurd (space_not x y (cc) q.0 s.0)
@@ -22,11 +23,11 @@ no_hash [] r s k e = s
 no_hash (b ∷ bs) [] s k e = cc
 no_hash (b ∷ bs) (c ∷ r) s k e = s.1 cc
 
-space_hash : (b : ℕ) (bs r : List ℕ) → in_class Space b ≡ true → IsRemark r → b ∷ bs ≡ r → ⊥
+space_hash : (b : ℕ) (bs r : List ℕ) → in_asm Space b ≡ true → IsRemark r → b ∷ bs ≡ r → ⊥
 space_hash b bs [] h k e = cc
-space_hash b bs (c ∷ r) h k e = let f : b ≡ 35 = cc in let g : in_class Space b ≡ false = rw f refl in let v : true ≡ false = sym h ∙ g in cc
+space_hash b bs (c ∷ r) h k e = let f : b ≡ 35 = cc in let g : in_asm Space b ≡ false = rw f refl in let v : true ≡ false = sym h ∙ g in cc
 
-no_start : (h r g b : List ℕ) → AllIn Space h → IsRemark r → AllIn Space g → Starts b → h ++ r ≡ g ++ b → ⊥
+no_start : (h r g b : List ℕ) → AllIn (in_asm Space) h → IsRemark r → AllIn (in_asm Space) g → Starts b → h ++ r ≡ g ++ b → ⊥
 no_start [] r [] b p k q s e = no_hash b r s k (sym e)
 no_start [] r (z ∷ g) b p k q s e = space_hash z (g ++ b) r q.0 k (sym e)
 no_start (x ∷ h) r [] [] p k q s e = s

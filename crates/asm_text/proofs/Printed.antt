@@ -1,7 +1,9 @@
 -- Printed lines are the lines of their text.
 use Rattle.std.proofs.Common.{◌≡◌, ◌≤◌, ◌<◌, ◌+◌, ℕ, List, [], ◌∷◌, ◌++◌, codes, decimal, refl, sym, ap, subst, ◌∙◌, append_assoc, inl, arith}
-use Rattle.asm_text.specs.declared.class.Class.TheVariants.{Digit, Symbol}
-use Rattle.asm_text.specs.Classes.{StartsIn, StopsIn}
+use Rattle.lcc_text.specs.declared.class.Class.TheVariants.{Digit}
+use Rattle.asm_text.specs.declared.class.AsmClass.TheVariants.{Symbol}
+use Rattle.lcc_text.specs.Classes.{in_class, StartsIn, StopsIn}
+use Rattle.asm_text.specs.Classes.{in_asm}
 use Rattle.lcc_text.specs.Lines.{lines_of}
 use Rattle.asm_text.specs.declared.instruction.Instruction.{Instruction}
 use Rattle.asm_text.specs.declared.instruction.Instruction.TheVariants.{LoadNumber, Move, Binary, Unary, Load, Store, Branch, Jump, Call}
@@ -33,7 +35,7 @@ use Rattle.asm_text.proofs.Written.{Ends, Fits, spelled, no_feed, line_break, di
 
 -- ---- operands
 
-starts_symbol : (n : List ℕ) → StartsIn Digit n → StartsIn Symbol n
+starts_symbol : (n : List ℕ) → StartsIn (in_class Digit) n → StartsIn (in_asm Symbol) n
 starts_symbol [] h = h
 starts_symbol (b ∷ n) h = digit_symbol b h
 
@@ -122,7 +124,7 @@ operands_fit (Branch n) h k = (k.0, tt, tt)
 operands_fit (Jump t) h k = (target_token_is t h k, target_ends t, tt)
 operands_fit (Call t) h k = (target_token_is t h k, target_ends t, tt)
 
-stops_apart : (i : Instruction) → StopsIn Symbol (written (spaced (operand_tokens i)))
+stops_apart : (i : Instruction) → StopsIn (in_asm Symbol) (written (spaced (operand_tokens i)))
 stops_apart (LoadNumber d n) = refl
 stops_apart i = refl
 

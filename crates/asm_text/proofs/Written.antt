@@ -1,8 +1,10 @@
 -- What is printed spells its tokens.
 use Rattle.std.proofs.Common.{◌≡◌, ◌≢◌, ℕ, Bool, true, false, ◌==◌, List, [], ◌∷◌, ◌++◌, refl, sym, ◌∙◌, inl, arith}
 use Rattle.std.proofs.lemmas.Bool.Decides.{nat_tests}
-use Rattle.asm_text.specs.declared.class.Class.TheVariants.{Digit, Symbol, Space}
-use Rattle.asm_text.specs.Classes.{in_class, AllIn, StopsIn}
+use Rattle.lcc_text.specs.declared.class.Class.TheVariants.{Digit}
+use Rattle.asm_text.specs.declared.class.AsmClass.TheVariants.{Symbol, Space}
+use Rattle.lcc_text.specs.Classes.{in_class, AllIn, StopsIn}
+use Rattle.asm_text.specs.Classes.{in_asm}
 use Rattle.lcc_text.specs.Lines.{lines_of}
 use Rattle.asm_text.specs.declared.token.Sign.TheVariants.{Colon, Comma, Open, Close}
 use Rattle.asm_text.specs.Tokens.{Tok, Word, Number, Minus, Dollar, Mark, Wrong, Spaced, text_of, IsToken}
@@ -12,10 +14,10 @@ use Rattle.asm_text.proofs.Next.{name_symbols, word_is_next, number_is_next, min
 
 -- the token goes no further than here
 abbrev pub Ends : Tok → List ℕ → Type 0
-Ends (Word n) rest = StopsIn Symbol rest
-Ends (Number n) rest = StopsIn Digit rest
-Ends (Minus n) rest = StopsIn Digit rest
-Ends (Dollar n) rest = StopsIn Symbol rest
+Ends (Word n) rest = StopsIn (in_asm Symbol) rest
+Ends (Number n) rest = StopsIn (in_class Digit) rest
+Ends (Minus n) rest = StopsIn (in_class Digit) rest
+Ends (Dollar n) rest = StopsIn (in_asm Symbol) rest
 Ends (Mark s) rest = Unit {0}
 Ends Wrong rest = Unit {0}
 
@@ -32,16 +34,16 @@ next_of (Dollar n) rest p e = dollar_is_next n rest p.0 p.1 e
 next_of (Mark s) rest p e = sign_next s rest
 next_of Wrong rest p e = absurd p
 
-symbol_space : (b : ℕ) → in_class Symbol b ≡ true → in_class Space b ≡ false
+symbol_space : (b : ℕ) → in_asm Symbol b ≡ true → in_asm Space b ≡ false
 symbol_space b h = grind (arith, nat_tests)
 
-symbol_hash : (b : ℕ) → in_class Symbol b ≡ true → b ≢ 35
-symbol_hash b h = λ e. (let f : in_class Symbol b ≡ false = rw e refl in let g : true ≡ false = sym h ∙ f in cc)
+symbol_hash : (b : ℕ) → in_asm Symbol b ≡ true → b ≢ 35
+symbol_hash b h = λ e. (let f : in_asm Symbol b ≡ false = rw e refl in let g : true ≡ false = sym h ∙ f in cc)
 
-symbol_feed : (b : ℕ) → in_class Symbol b ≡ true → (b == 10) ≡ false
+symbol_feed : (b : ℕ) → in_asm Symbol b ≡ true → (b == 10) ≡ false
 symbol_feed b h = grind (arith, nat_tests)
 
-pub digit_symbol : (b : ℕ) → in_class Digit b ≡ true → in_class Symbol b ≡ true
+pub digit_symbol : (b : ℕ) → in_class Digit b ≡ true → in_asm Symbol b ≡ true
 digit_symbol b h = grind (arith, nat_tests)
 
 pub starts_of : (t : Tok) (rest : List ℕ) → IsToken t → Starts (text_of t ++ rest)
@@ -78,11 +80,11 @@ feed_append : (a b : List ℕ) → NoFeed a → NoFeed b → NoFeed (a ++ b)
 feed_append [] b h k = k
 feed_append (x ∷ a) b h k = (h.0, feed_append a b h.1 k)
 
-symbols_feed : (n : List ℕ) → AllIn Symbol n → NoFeed n
+symbols_feed : (n : List ℕ) → AllIn (in_asm Symbol) n → NoFeed n
 symbols_feed [] h = tt
 symbols_feed (b ∷ n) h = (symbol_feed b h.0, symbols_feed n h.1)
 
-pub digits_symbols : (n : List ℕ) → AllIn Digit n → AllIn Symbol n
+pub digits_symbols : (n : List ℕ) → AllIn (in_class Digit) n → AllIn (in_asm Symbol) n
 digits_symbols [] h = tt
 digits_symbols (b ∷ n) h = (digit_symbol b h.0, digits_symbols n h.1)
 

@@ -1,7 +1,9 @@
 -- The tokens of a line of assembly, and the bytes of each.
 use Rattle.std.specs.Prelude.{◌≡◌, ℕ, Bool, List, [], ◌∷◌, map, false}
-use Rattle.asm_text.specs.declared.class.Class.TheVariants.{Digit, Symbol}
-use Rattle.asm_text.specs.Classes.{AllIn, StartsIn, in_class}
+use Rattle.lcc_text.specs.declared.class.Class.TheVariants.{Digit}
+use Rattle.asm_text.specs.declared.class.AsmClass.TheVariants.{Symbol}
+use Rattle.lcc_text.specs.Classes.{in_class, AllIn, StartsIn}
+use Rattle.asm_text.specs.Classes.{in_asm}
 use Rattle.asm_text.specs.declared.token.Sign.{Sign}
 use Rattle.asm_text.specs.declared.token.Sign.TheVariants.{Colon, Comma, Open, Close}
 use Rattle.asm_text.specs.declared.token.Kind.{Kind}
@@ -52,12 +54,12 @@ text_of Wrong = []
 -- a name's first byte is no digit
 abbrev pub IsName : List ℕ → Type 0
 IsName [] = ⊥
-IsName (b ∷ bs) = (in_class Digit b ≡ false) × AllIn Symbol (b ∷ bs)
+IsName (b ∷ bs) = (in_class Digit b ≡ false) × AllIn (in_asm Symbol) (b ∷ bs)
 
 abbrev pub IsToken : Tok → Type 0
 IsToken (Word b) = IsName b
-IsToken (Number d) = StartsIn Digit d × AllIn Digit d
-IsToken (Minus d) = StartsIn Digit d × AllIn Digit d
-IsToken (Dollar b) = StartsIn Symbol b × AllIn Symbol b
+IsToken (Number d) = StartsIn (in_class Digit) d × AllIn (in_class Digit) d
+IsToken (Minus d) = StartsIn (in_class Digit) d × AllIn (in_class Digit) d
+IsToken (Dollar b) = StartsIn (in_asm Symbol) b × AllIn (in_asm Symbol) b
 IsToken (Mark s) = Unit {0}
 IsToken Wrong = ⊥

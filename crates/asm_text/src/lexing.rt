@@ -1,13 +1,15 @@
 ghost use Rattle.std.specs.Prelude.{◌≡◌, ◌≢◌, ◌<◌, ◌≤◌, ◌∷◌, List, ℕ, false, length, IsTrue, IfOk, IfSome, IfNone};
-ghost use Rattle.asm_text.specs.Classes.{StartsIn, StopsIn};
-ghost use Rattle.asm_text.specs.declared.class.Class.TheVariants.{Digit, Symbol, Space};
+ghost use Rattle.lcc_text.specs.Classes.{in_class, StartsIn, StopsIn};
+ghost use Rattle.asm_text.specs.Classes.{in_asm};
+ghost use Rattle.lcc_text.specs.declared.class.Class.TheVariants.{Digit};
+ghost use Rattle.asm_text.specs.declared.class.AsmClass.TheVariants.{Symbol, Space};
 ghost use Rattle.asm_text.specs.Tokens.{sign_code, tok_of, views, Spaced};
 ghost use Rattle.asm_text.specs.Spelling.{IsNext, NoToken, IsRemark, Starts, SkipsSpaces, Spells};
 ghost use Rattle.asm_text.specs.declared.token.Sign.{Sign as Signs};
 
-use crate::class::{Class, is_in};
-use crate::run::run_len;
+use crate::class::AsmClass;
 use crate::token::{Kind, Sign, Token};
+use lcc_text::{ByteClass, Class, run_len, starts_in};
 use std::alloc::{AllocError, Global};
 
 fn sign_of(byte: u8) -> Option<Sign>
@@ -23,31 +25,20 @@ fn sign_of(byte: u8) -> Option<Sign>
     }
 }
 
-/// Whether a byte of the class stands first.
-fn starts_in(class: Class, bytes: &[u8]) -> bool
-    ensures yes { IsTrue result → StartsIn class bytes.now }
-    ensures no { result ≡ false → StartsIn class bytes.now → ⊥ }
-{
-    match bytes.split_first() {
-        Some((first, _)) => is_in(class, *first),
-        None => false,
-    }
-}
-
-#[tactic(auto, using(crate::proofs::Next::word_next, crate::proofs::Runs::run_pos))]
+#[tactic(auto, using(crate::proofs::Next::word_next, lcc_text::proofs::Runs::run_pos))]
 fn word<'a>(bytes: &'a [u8]) -> (Kind<'a>, &'a [u8])
-    requires symbol { StartsIn Symbol bytes.now }
-    requires no_digit { StopsIn Digit bytes.now }
+    requires symbol { StartsIn (in_asm Symbol) bytes.now }
+    requires no_digit { StopsIn (in_class Digit) bytes.now }
     ensures next { IsNext bytes.now (tok_of result.0) result.1.now }
     ensures shorter { length result.1.now < length bytes.now }
 {
-    let (name, rest) = bytes.split_at(run_len(Class::Symbol, bytes));
+    let (name, rest) = bytes.split_at(run_len(AsmClass::Symbol, bytes));
     (Kind::Word(name), rest)
 }
 
-#[tactic(auto, using(crate::proofs::Next::number_next, crate::proofs::Runs::run_pos))]
+#[tactic(auto, using(crate::proofs::Next::number_next, lcc_text::proofs::Runs::run_pos))]
 fn number<'a>(bytes: &'a [u8]) -> (Kind<'a>, &'a [u8])
-    requires { StartsIn Digit bytes.now }
+    requires { StartsIn (in_class Digit) bytes.now }
     ensures next { IsNext bytes.now (tok_of result.0) result.1.now }
     ensures shorter { length result.1.now < length bytes.now }
 {
@@ -76,10 +67,10 @@ fn dollar<'a>(bytes: &'a [u8]) -> Option<(Kind<'a>, &'a [u8])>
     ensures shorter { IfSome result (λ x. length x.1.now ≤ length bytes.now) }
     ensures none { IfNone result (NoToken (36 ∷ bytes.now)) }
 {
-    if !starts_in(Class::Symbol, bytes) {
+    if !starts_in(AsmClass::Symbol, bytes) {
         return None;
     }
-    let (name, rest) = bytes.split_at(run_len(Class::Symbol, bytes));
+    let (name, rest) = bytes.split_at(run_len(AsmClass::Symbol, bytes));
     Some((Kind::Dollar(name), rest))
 }
 
@@ -102,10 +93,10 @@ fn next_kind<'a>(bytes: &'a [u8]) -> Option<(Kind<'a>, &'a [u8])>
     if *first == b'$' {
         return dollar(rest);
     }
-    if is_in(Class::Digit, *first) {
+    if Class::Digit.has(*first) {
         return Some(number(bytes));
     }
-    if is_in(Class::Symbol, *first) {
+    if AsmClass::Symbol.has(*first) {
         return Some(word(bytes));
     }
     None
@@ -115,10 +106,10 @@ fn next_kind<'a>(bytes: &'a [u8]) -> Option<(Kind<'a>, &'a [u8])>
 #[tactic(auto, using(crate::proofs::Blanks::skips))]
 fn skip_spaces<'a>(bytes: &'a [u8]) -> (bool, &'a [u8])
     ensures skips { SkipsSpaces bytes.now result.0 result.1.now }
-    ensures stops { StopsIn Space result.1.now }
+    ensures stops { StopsIn (in_asm Space) result.1.now }
     ensures shorter { length result.1.now ≤ length bytes.now }
 {
-    let n = run_len(Class::Space, bytes);
+    let n = run_len(AsmClass::Space, bytes);
     let (_, rest) = bytes.split_at(n);
     (0 < n, rest)
 }
@@ -126,7 +117,7 @@ fn skip_spaces<'a>(bytes: &'a [u8]) -> (bool, &'a [u8])
 /// Whether nothing stands here, or a comment.
 fn is_remark(bytes: &[u8]) -> bool
     ensures yes { IsTrue result → IsRemark bytes.now }
-    ensures no { result ≡ false → StopsIn Space bytes.now → Starts bytes.now }
+    ensures no { result ≡ false → StopsIn (in_asm Space) bytes.now → Starts bytes.now }
 {
     match bytes.split_first() {
         Some((first, _)) => *first == b'#',

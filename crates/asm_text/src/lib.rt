@@ -17,7 +17,6 @@ mod program;
 mod reading;
 mod register;
 mod row_reader;
-mod run;
 mod running;
 mod statement_reader;
 mod token;

@@ -4,8 +4,10 @@ use Rattle.std.proofs.lemmas.Bool.Decides.{nat_tests}
 use Rattle.std.proofs.lemmas.List.{take-append-drop}
 use Rattle.std.proofs.Math.Seq.{drop-cons}
 use Rattle.std.specs.Borrow.{Bor}
-use Rattle.first_form.specs.declared.class.Class.TheVariants.{Blank, Name, Constant}
-use Rattle.first_form.specs.Classes.{in_class, AllIn, StopsIn}
+use Rattle.lcc_text.specs.declared.class.Class.TheVariants.{Name}
+use Rattle.first_form.specs.declared.class.FirstClass.TheVariants.{Blank, Constant}
+use Rattle.lcc_text.specs.Classes.{in_class, AllIn, StopsIn}
+use Rattle.first_form.specs.Classes.{in_first}
 use Rattle.first_form.specs.Tokens.{Token, IsToken, IsNext, Begins, AreTokens}
 use Rattle.first_form.specs.Readings.{SkipsBlanks, NoToken, BeginWith}
 use Rattle.first_form.proofs.SignTables.{sign_no_blank}
@@ -15,12 +17,12 @@ use Rattle.first_form.proofs.Lists.{append_nil}
 -- the first byte is there, and is no blank
 abbrev Solid : List ℕ → Type 0
 Solid [] = ⊥
-Solid (b ∷ bs) = in_class Blank b ≡ false
+Solid (b ∷ bs) = in_first Blank b ≡ false
 
-solid_name : (b : ℕ) → in_class Name b ≡ true → in_class Blank b ≡ false
+solid_name : (b : ℕ) → in_class Name b ≡ true → in_first Blank b ≡ false
 solid_name b h = grind (arith, nat_tests)
 
-solid_constant : (b : ℕ) → in_class Constant b ≡ true → in_class Blank b ≡ false
+solid_constant : (b : ℕ) → in_first Constant b ≡ true → in_first Blank b ≡ false
 solid_constant b h = grind (arith, nat_tests)
 
 token_solid : (t z : List ℕ) → IsToken t → Solid (t ++ z)
@@ -35,15 +37,15 @@ next_solid : (bytes t rest : List ℕ) → IsNext bytes t rest → Solid bytes
 next_solid bytes t rest n = subst Solid (sym n.parts) (token_solid t rest n.token)
 
 -- behind blanks one text stands
-same_behind : (g h b d : List ℕ) → AllIn Blank g → AllIn Blank h → Solid b → StopsIn Blank d → g ++ b ≡ h ++ d → b ≡ d
+same_behind : (g h b d : List ℕ) → AllIn (in_first Blank) g → AllIn (in_first Blank) h → Solid b → StopsIn (in_first Blank) d → g ++ b ≡ h ++ d → b ≡ d
 same_behind [] [] b d p q s t e = e
 same_behind [] (x ∷ h) [] d p q s t e = absurd s
-same_behind [] (x ∷ h) (y ∷ b) d p q s t e = let f : y ≡ x = cc in both_ways (in_class Blank x) _ q.0 (ap (in_class Blank) (sym f) ∙ s)
+same_behind [] (x ∷ h) (y ∷ b) d p q s t e = let f : y ≡ x = cc in both_ways (in_first Blank x) _ q.0 (ap (in_first Blank) (sym f) ∙ s)
 same_behind (x ∷ g) [] b [] p q s t e = absurd cc
-same_behind (x ∷ g) [] b (y ∷ d) p q s t e = let f : x ≡ y = cc in both_ways (in_class Blank x) _ p.0 (ap (in_class Blank) f ∙ t)
+same_behind (x ∷ g) [] b (y ∷ d) p q s t e = let f : x ≡ y = cc in both_ways (in_first Blank x) _ p.0 (ap (in_first Blank) f ∙ t)
 same_behind (x ∷ g) (y ∷ h) b d p q s t e = same_behind g h b d p.1 q.1 s t cc
 
-solid_stops : (b : List ℕ) → Solid b → StopsIn Blank b
+solid_stops : (b : List ℕ) → Solid b → StopsIn (in_first Blank) b
 solid_stops [] s = tt
 solid_stops (x ∷ b) s = s
 
@@ -74,43 +76,43 @@ tokens_behind bytes t u rest ts b h =
     (s.0, subst P s.1 h.2)
 
 -- blank bytes have no first token
-pub none_begins : (bytes t rest : List ℕ) → AllIn Blank bytes → Begins bytes t rest → ⊥
+pub none_begins : (bytes t rest : List ℕ) → AllIn (in_first Blank) bytes → Begins bytes t rest → ⊥
 none_begins bytes t rest h b =
     let e = same_behind b.gap bytes b.behind [] b.blank h (next_solid b.behind t rest b.next) tt (sym b.parts ∙ sym (append_nil bytes)) in
     subst Solid e (next_solid b.behind t rest b.next)
 
 -- ---- readers of tokens
 
-pub skips : (bytes : List ℕ) (n : ℕ) → AllIn Blank (take n bytes) → SkipsBlanks bytes (drop n bytes)
+pub skips : (bytes : List ℕ) (n : ℕ) → AllIn (in_first Blank) (take n bytes) → SkipsBlanks bytes (drop n bytes)
 skips bytes n h = (take n bytes, h, sym (take-append-drop n bytes))
 
 pub begins : (bytes behind t rest : List ℕ) → SkipsBlanks bytes behind → IsNext behind t rest → Begins bytes t rest
 begins bytes behind t rest s n = record { gap = s.0; behind = behind; blank = s.1; parts = s.2; next = n }
 
-pub begins_not : (bytes behind : List ℕ) → SkipsBlanks bytes behind → StopsIn Blank behind → NoToken behind → (t rest : List ℕ) → Begins bytes t rest → ⊥
+pub begins_not : (bytes behind : List ℕ) → SkipsBlanks bytes behind → StopsIn (in_first Blank) behind → NoToken behind → (t rest : List ℕ) → Begins bytes t rest → ⊥
 begins_not bytes behind s p n t rest b =
     let e = same_behind b.gap s.0 b.behind behind b.blank s.1 (next_solid b.behind t rest b.next) p (sym b.parts ∙ s.2) in
     n t rest b.next.token (sym e ∙ b.next.parts)
 
-all_behind : (g b : List ℕ) → AllIn Blank (g ++ b) → AllIn Blank b
+all_behind : (g b : List ℕ) → AllIn (in_first Blank) (g ++ b) → AllIn (in_first Blank) b
 all_behind [] b h = h
 all_behind (x ∷ g) b h = all_behind g b h.1
 
-none_left : (b : List ℕ) → AllIn Blank b → StopsIn Blank b → length b ≡ 0
+none_left : (b : List ℕ) → AllIn (in_first Blank) b → StopsIn (in_first Blank) b → length b ≡ 0
 none_left [] h s = refl
-none_left (x ∷ b) h s = both_ways (in_class Blank x) _ h.0 s
+none_left (x ∷ b) h s = both_ways (in_first Blank x) _ h.0 s
 
 nothing : (b : List ℕ) → length b ≡ 0 → b ≡ []
 nothing [] e = refl
 nothing (x ∷ b) e = absurd (omega arith)
 
-pub blank_all : (bytes behind : List ℕ) → SkipsBlanks bytes behind → length behind ≡ 0 → AllIn Blank bytes
+pub blank_all : (bytes behind : List ℕ) → SkipsBlanks bytes behind → length behind ≡ 0 → AllIn (in_first Blank) bytes
 blank_all bytes behind s e =
     let f : bytes ≡ s.0 = s.2 ∙ ap (λ (l : List ℕ). s.0 ++ l) (nothing behind e) ∙ append_nil s.0 in
     rw f s.1
 
-pub blank_behind : (bytes behind : List ℕ) → SkipsBlanks bytes behind → StopsIn Blank behind → AllIn Blank bytes → length behind ≡ 0
-blank_behind bytes behind s p h = let P : List ℕ → Type 0 = λ l. AllIn Blank l in none_left behind (all_behind s.0 behind (subst P s.2 h)) p
+pub blank_behind : (bytes behind : List ℕ) → SkipsBlanks bytes behind → StopsIn (in_first Blank) behind → AllIn (in_first Blank) bytes → length behind ≡ 0
+blank_behind bytes behind s p h = let P : List ℕ → Type 0 = λ l. AllIn (in_first Blank) l in none_left behind (all_behind s.0 behind (subst P s.2 h)) p
 
 -- ---- several tokens
 

@@ -1,6 +1,5 @@
 pub mod Truths
 pub mod Lists
-pub mod Runs
 pub mod SignTables
 pub mod NextToken
 pub mod Cut

@@ -5,9 +5,10 @@ use Rattle.std.specs.List.{list_any, list_all}
 use Rattle.std.specs.Str.{bytes_eq}
 use Rattle.std.proofs.lemmas.Bool.Decides.{nat_tests}
 use Rattle.std.proofs.lemmas.Slice.Eq.{bytes_eq-Decides}
-use Rattle.first_form.specs.declared.class.Class.{Class}
-use Rattle.first_form.specs.declared.class.Class.TheVariants.{Blank, Name}
-use Rattle.first_form.specs.Classes.{in_class}
+use Rattle.lcc_text.specs.declared.class.Class.TheVariants.{Name}
+use Rattle.first_form.specs.declared.class.FirstClass.TheVariants.{Blank}
+use Rattle.lcc_text.specs.Classes.{in_class}
+use Rattle.first_form.specs.Classes.{in_first}
 use Rattle.first_form.specs.Signs.{is_sign, of_one_byte, of_two_bytes, of_three_bytes}
 use Rattle.first_form.specs.Tokens.{starts_constant}
 use Rattle.first_form.proofs.Truths.{not_true, and_both, or_cases}
@@ -38,17 +39,17 @@ sign_passes P one two three (a ∷ b ∷ []) h = some_passes P (a ∷ b ∷ []) 
 sign_passes P one two three (a ∷ b ∷ c ∷ []) h = some_passes P (a ∷ b ∷ c ∷ []) of_three_bytes three h
 sign_passes P one two three (a ∷ b ∷ c ∷ d ∷ t) h = absurd cc
 
-abbrev starts_out : Class → List ℕ → Bool
+abbrev starts_out : (ℕ → Bool) → List ℕ → Bool
 starts_out class [] = false
-starts_out class (b ∷ bs) = not (in_class class b)
+starts_out class (b ∷ bs) = not (class b)
 
 -- no sign begins as a name does
 pub sign_no_name : (b : ℕ) (bs : List ℕ) → is_sign (b ∷ bs) ≡ true → in_class Name b ≡ false
-sign_no_name b bs h = not_true (in_class Name b) (sign_passes (starts_out Name) refl refl refl (b ∷ bs) h)
+sign_no_name b bs h = not_true (in_class Name b) (sign_passes (starts_out (in_class Name)) refl refl refl (b ∷ bs) h)
 
 -- nor as blanks do
-pub sign_no_blank : (b : ℕ) (bs : List ℕ) → is_sign (b ∷ bs) ≡ true → in_class Blank b ≡ false
-sign_no_blank b bs h = not_true (in_class Blank b) (sign_passes (starts_out Blank) refl refl refl (b ∷ bs) h)
+pub sign_no_blank : (b : ℕ) (bs : List ℕ) → is_sign (b ∷ bs) ≡ true → in_first Blank b ≡ false
+sign_no_blank b bs h = not_true (in_first Blank b) (sign_passes (starts_out (in_first Blank)) refl refl refl (b ∷ bs) h)
 
 -- nor as constants do
 pub sign_no_constant : (t : List ℕ) → is_sign t ≡ true → starts_constant t ≡ false

@@ -1,11 +1,12 @@
 -- What the readers of parts of a text give.
 use Rattle.std.specs.Prelude.{◌≡◌, ◌≤◌, ℕ, List, [], ◌∷◌, ◌++◌, codes}
 use Rattle.std.specs.List.{AllByRecursion}
-use Rattle.first_form.specs.declared.class.Class.TheVariants.{Blank}
+use Rattle.first_form.specs.declared.class.FirstClass.TheVariants.{Blank}
 use Rattle.first_form.specs.declared.expression.Operator.{Operator}
 use Rattle.first_form.specs.declared.expression_reader.Level.{Level}
 use Rattle.first_form.specs.declared.expression_reader.Level.TheVariants.{Sum, Product}
-use Rattle.first_form.specs.Classes.{AllIn}
+use Rattle.lcc_text.specs.Classes.{AllIn}
+use Rattle.first_form.specs.Classes.{in_first}
 use Rattle.first_form.specs.Tokens.{Token, IsToken, Begins, AreTokens}
 use Rattle.first_form.specs.Expression.{MExpression}
 use Rattle.first_form.specs.Grammar.{sign_of, tokens_then, level_of, Derives}
@@ -14,7 +15,7 @@ use Rattle.first_form.specs.FirstForm.{IsExpression, statements_then, result_tok
 
 -- what stands behind the blanks
 abbrev pub SkipsBlanks : List ℕ → List ℕ → Type 0
-SkipsBlanks bytes behind = (gap : List ℕ) × AllIn Blank gap × (bytes ≡ gap ++ behind)
+SkipsBlanks bytes behind = (gap : List ℕ) × AllIn (in_first Blank) gap × (bytes ≡ gap ++ behind)
 
 -- no token stands at the front
 abbrev pub NoToken : List ℕ → Type 0

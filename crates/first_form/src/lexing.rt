@@ -1,14 +1,15 @@
 //! Tokens, each the longest at its place, one at a time.
 ghost use Rattle.std.specs.Prelude.{◌≡◌, ◌≤◌, ◌<◌, List, ℕ, length, map, take, drop, decimal, IsTrue, IfSome, IfNone, false, []};
-ghost use Rattle.first_form.specs.declared.class.Class.TheVariants.{Blank};
-ghost use Rattle.first_form.specs.Classes.{StopsIn};
+ghost use Rattle.first_form.specs.declared.class.FirstClass.TheVariants.{Blank};
+ghost use Rattle.lcc_text.specs.Classes.{StopsIn};
+ghost use Rattle.first_form.specs.Classes.{in_first};
 ghost use Rattle.first_form.specs.Tokens.{Token, starts_with_digit, starts_constant, IsNext, Begins, AreTokens};
 ghost use Rattle.first_form.specs.Readings.{SkipsBlanks, NoToken, BeginWith};
 
-use crate::class::{Class, run_len};
+use crate::class::FirstClass;
 use crate::signs::sign_len;
 use itoa::Buffer;
-use lcc_text::decimal_value;
+use lcc_text::{Class, decimal_value, run_len};
 
 /// The greatest number of the form.
 const MAX_NUMBER: u32 = 2_147_483_647;
@@ -42,7 +43,7 @@ fn token_len(bytes: &[u8]) -> usize
     ensures none { result ≡ 0 → NoToken bytes.now }
 {
     if starts_constant(bytes) {
-        return run_len(Class::Constant, bytes);
+        return run_len(FirstClass::Constant, bytes);
     }
     let name = run_len(Class::Name, bytes);
     if name > 0 { name } else { sign_len(bytes) }
@@ -52,10 +53,10 @@ fn token_len(bytes: &[u8]) -> usize
 #[tactic(auto, using(crate::proofs::Cut::skips))]
 fn skip_blanks<'a>(bytes: &'a [u8]) -> &'a [u8]
     ensures skips { SkipsBlanks bytes.now result.now }
-    ensures stops { StopsIn Blank result.now }
+    ensures stops { StopsIn (in_first Blank) result.now }
     ensures shorter { length result.now ≤ length bytes.now }
 {
-    let (_, rest) = bytes.split_at(run_len(Class::Blank, bytes));
+    let (_, rest) = bytes.split_at(run_len(FirstClass::Blank, bytes));
     rest
 }
 
