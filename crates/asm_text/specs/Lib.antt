@@ -11,3 +11,8 @@ pub mod Fitting
 pub mod Printable
 pub mod Printed
 pub mod IsProgram
+pub mod Runs
+pub mod IsPrefix
+pub mod Agrees
+pub mod RunsAs
+pub mod RunLaws

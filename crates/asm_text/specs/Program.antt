@@ -1,6 +1,7 @@
 -- The program that lines make: their instructions in order, each with the number of its line, and their labels,
 -- each at the place of the next instruction. The limit of a program that is read stands apart.
-use Rattle.std.specs.Prelude.{◌≡◌, ◌⊎◌, ℕ, ◌+◌, ◌≤◌, List, [], ◌∷◌, ◌++◌, length, map, codes, Some, slice_get}
+use Rattle.std.specs.Prelude.{◌≡◌, ◌⊎◌, ℕ, ◌+◌, ◌≤◌, List, [], ◌∷◌, ◌++◌, length, map, codes, Option, Some, None, slice_get, if◌then◌else◌}
+use Rattle.std.specs.Str.{bytes_eq}
 use Rattle.asm_text.specs.declared.instruction.Instruction.{Instruction}
 use Rattle.asm_text.specs.declared.instruction.Instruction.TheVariants as instruction
 use Rattle.asm_text.specs.declared.instruction.Target.{Target}
@@ -63,6 +64,11 @@ names_in (line ∷ lines) = names_of line.statement ++ names_in lines
 -- no name stands at two labels
 abbrev pub AreDistinct : List Label → Type 0
 AreDistinct labels = (i j : ℕ) (a b : Label) → slice_get labels i ≡ Some a → slice_get labels j ≡ Some b → a.name ≡ b.name → i ≡ j
+
+-- the place of the first label with this name
+abbrev pub place_of : List Label → List ℕ → Option ℕ
+place_of [] name = None
+place_of (l ∷ ls) name = if bytes_eq l.name name then Some l.place else place_of ls name
 
 -- the name is a label's or a built-in function's
 abbrev pub IsKnown : List Label → List ℕ → Type 0
