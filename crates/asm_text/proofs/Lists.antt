@@ -1,7 +1,7 @@
 -- Elements of lists by their places.
 use Rattle.std.proofs.Common.{◌≡◌, ℕ, zero, suc, ◌+◌, ◌<◌, ◌≤◌, ◌⊎◌, List, [], ◌∷◌, ◌++◌, length, take, drop, get_or, Some, refl, sym, ap, ◌∙◌, inl, inr, append_assoc, arith}
-use Rattle.std.specs.Prelude.{slice_get}
-use Rattle.std.proofs.lemmas.Option.{slice_get_within, none-some, same_Some}
+use Rattle.std.specs.Prelude.{slice_get, All}
+use Rattle.std.proofs.lemmas.Option.{slice_get-get_or, slice_get_within, none-some, same_Some}
 use Rattle.std.proofs.lemmas.List.{append-nil, take-append-drop, at_drop_more, at_drop_all, take_more}
 use Rattle.asm_text.specs.Fitting.{StandOnce}
 
@@ -46,6 +46,34 @@ pub push_more : {A : Type 0} (old xs cur new : List A) (i : ℕ) (x y : A) → i
 push_more old xs cur new i x y l e f g s =
     let h : take (i + 1) xs ≡ take i xs ++ x ∷ [] = take_more xs i x l ∙ ap (λ z. take i xs ++ z ∷ []) (sym e) in
     g ∙ ap (λ z. cur ++ z ∷ []) s ∙ ap (λ z. z ++ x ∷ []) f ∙ append_assoc old (take i xs) (x ∷ []) ∙ ap (λ z. old ++ z) (sym h)
+
+-- ---- what holds of each element
+
+abbrev pub Each : {A : Type 0} → (A → Type 0) → List A → Type 0
+Each {A} P xs = (i : ℕ) (x : A) → slice_get xs i ≡ Some x → P x
+
+pub each_none : {A : Type 0} (P : A → Type 0) → Each P []
+each_none {A} P = λ i x h. absurd (none-some x h)
+
+each_cons : {A : Type 0} (P : A → Type 0) (x : A) (xs : List A) → ((y : A) → Some x ≡ Some y → P y) → Each P xs → Each P (x ∷ xs)
+each_cons {A} P x xs h k = at where
+  at : (i : ℕ) (y : A) → slice_get (x ∷ xs) i ≡ Some y → P y
+  at zero y e = h y e
+  at (suc i) y e = k i y e
+
+pub each_append : {A : Type 0} (P : A → Type 0) (xs ys : List A) → Each P xs → Each P ys → Each P (xs ++ ys)
+each_append P [] ys h k = k
+each_append P (x ∷ xs) ys h k = each_cons P x (xs ++ ys) (λ y e. h 0 y e) (each_append P xs ys (λ i y e. h (suc i) y e) k)
+
+pub each_left : {A : Type 0} (P : A → Type 0) (xs ys : List A) → Each P (xs ++ ys) → Each P xs
+each_left P xs ys h = λ i x e. h i x (get_left xs ys i x e)
+
+pub each_right : {A : Type 0} (P : A → Type 0) (xs ys : List A) → Each P (xs ++ ys) → Each P ys
+each_right P [] ys h = h
+each_right P (x ∷ xs) ys h = each_right P xs ys (λ i y e. h (suc i) y e)
+
+pub all_of_each : {A : Type 0} (P : A → Type 0) (xs : List A) → Each P xs → All P xs
+all_of_each P xs h = λ k none below. h k (get_or xs k none) (slice_get-get_or xs k none below)
 
 -- A walk over a list that adds what each element gives: what is done and what the rest gives are the whole.
 module _ {A B : Type 0} (F : List A → List B) (G : A → List B) (split : (x : A) (xs : List A) → F (x ∷ xs) ≡ G x ++ F xs) where

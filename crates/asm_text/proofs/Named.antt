@@ -8,7 +8,7 @@ use Rattle.lcc_text.proofs.Places.{place_none, place_some, with_new}
 use Rattle.asm_text.specs.declared.line.Line.{Line}
 use Rattle.asm_text.specs.Program.{code_of, code_in, names_of, names_in}
 use Rattle.asm_text.specs.Fitting.{StandOnce, IsNew, IsNamed, AreNamed}
-use Rattle.asm_text.proofs.Lists.{once_front, once_more, new_last}
+use Rattle.asm_text.proofs.Lists.{once_front, once_more, new_last, each_append, each_left, each_right}
 
 none_of : {A : Type 0} (o : Option A) → is_some o ≡ false → o ≡ None
 none_of {A} None h = refl
@@ -61,24 +61,6 @@ one_name names used name e k = λ i n h. (let P : List (List ℕ) → Type 0 = �
 pub first_named : (names used : List (List ℕ)) (name : List ℕ) → used ≡ name ∷ [] → AreNamed names used → IsNamed names name
 first_named names used name e h = h 0 name (ap (λ (l : List (List ℕ)). slice_get l 0) e)
 
-named_cons : (names : List (List ℕ)) (n : List ℕ) (a : List (List ℕ)) → ((m : List ℕ) → Some n ≡ Some m → IsNamed names m) → AreNamed names a → AreNamed names (n ∷ a)
-named_cons names n a h k = at where
-  at : (i : ℕ) (m : List ℕ) → slice_get (n ∷ a) i ≡ Some m → IsNamed names m
-  at zero m e = h m e
-  at (suc i) m e = k i m e
-
-pub named_append : (names a b : List (List ℕ)) → AreNamed names a → AreNamed names b → AreNamed names (a ++ b)
-named_append names [] b h k = k
-named_append names (n ∷ a) b h k = named_cons names n (a ++ b) (λ m e. h 0 m e) (named_append names a b (λ j l f. h (suc j) l f) k)
-
-pub named_left : (names a b : List (List ℕ)) → AreNamed names (a ++ b) → AreNamed names a
-named_left names [] b h = no_names names [] refl
-named_left names (n ∷ a) b h = named_cons names n a (λ m e. h 0 m e) (named_left names a b (λ j l f. h (suc j) l f))
-
-pub named_right : (names a b : List (List ℕ)) → AreNamed names (a ++ b) → AreNamed names b
-named_right names [] b h = h
-named_right names (n ∷ a) b h = named_right names a b (λ j l f. h (suc j) l f)
-
 names_here : (lines : List Line) (i : ℕ) (d line : Line) → i < length lines → line ≡ get_or lines i d → names_in (drop i lines) ≡ names_of line.statement ++ names_in (drop (i + 1) lines)
 names_here lines i d line l e = at_drop_more names_in lines i d l ∙ ap (λ (k : Line). names_of k.statement ++ names_in (drop (i + 1) lines)) (sym e)
 
@@ -87,12 +69,12 @@ pub named_here : (names : List (List ℕ)) (lines : List Line) (i : ℕ) (d line
 named_here names lines i d line l e h =
     let P : List (List ℕ) → Type 0 = λ u. AreNamed names u in
     let k = subst P (names_here lines i d line l e) h in
-    (named_left names (names_of line.statement) _ k, named_right names (names_of line.statement) _ k)
+    (each_left (IsNamed names) (names_of line.statement) _ k, each_right (IsNamed names) (names_of line.statement) _ k)
 
 pub named_before : (names : List (List ℕ)) (lines : List Line) (i : ℕ) (d line : Line) → i < length lines → line ≡ get_or lines i d → AreNamed names (names_of line.statement) → AreNamed names (names_in (drop (i + 1) lines)) → AreNamed names (names_in (drop i lines))
 named_before names lines i d line l e h k =
     let P : List (List ℕ) → Type 0 = λ u. AreNamed names u in
-    subst P (sym (names_here lines i d line l e)) (named_append names (names_of line.statement) _ h k)
+    subst P (sym (names_here lines i d line l e)) (each_append (IsNamed names) (names_of line.statement) _ h k)
 
 -- ---- how many instructions there are
 

@@ -2,6 +2,7 @@ ghost use Rattle.std.specs.Prelude.{◌≡◌, IfOk, IfErr, List};
 ghost use Rattle.asm_text.specs.declared.program.Program.{Program as Programs};
 ghost use Rattle.asm_text.specs.Program.{Makes, IsWithinLimit};
 ghost use Rattle.asm_text.specs.AssemblyText.{IsAssembly};
+ghost use Rattle.asm_text.specs.IsProgram.{IsProgram};
 
 use crate::asm_fault::AsmFault;
 use crate::assembling::assembled;
@@ -37,6 +38,8 @@ fn mips_program(alloc: Global, text: &[u8]) -> Result<Program, AsmFault>
 pub fn read(alloc: Global, isa: Isa, text: &[u8]) -> Result<Program, AsmFault>
     // What is read is the program of the text.
     ensures found { IfOk result (λ p. IsAssembly text.now p) }
+    // It is fit for a machine.
+    ensures program { IfOk result (λ p. IsProgram p) }
     // The program of a text is read, unless memory runs out.
     ensures one { (p : Programs) → IsAssembly text.now p → IfOk result (λ r. r ≡ p) }
     ensures only { (p : Programs) → IsAssembly text.now p → IfErr result (λ e. e ≡ AsmFault.Memory) }
