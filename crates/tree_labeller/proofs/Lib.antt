@@ -15,3 +15,4 @@ pub mod Room
 pub mod Taken
 pub mod Values
 pub mod Listed
+pub mod Kept

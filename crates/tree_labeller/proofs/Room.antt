@@ -1,9 +1,8 @@
 -- What room for a tree gives.
 use Rattle.std.proofs.Common.{◌≡◌, ℕ, ◌+◌, ◌*◌, ◌<◌, ◌≤◌, ◌^◌, length, arith}
 use Rattle.lburg_grammar.specs.Tree.{MTree, TLeaf, TOne, TTwo, nodes}
-use Rattle.lburg_grammar.specs.Pattern.{MPattern, PHole, PLeaf, POne, PTwo, pattern_of}
-use Rattle.lburg_grammar.specs.Description.{MDescription, IsDescription, FitsIn}
-use Rattle.tree_labeller.specs.Labelled.{area, HolesBelow}
+use Rattle.lburg_grammar.specs.Description.{MDescription, IsDescription}
+use Rattle.tree_labeller.specs.Labelled.{area}
 use Rattle.tree_labeller.specs.AreRules.{AreRules}
 use Rattle.tree_labeller.proofs.Totals.{nodes_pos}
 
@@ -44,17 +43,10 @@ small_area w n t h one l =
 pub narrow_rows : (w n : ℕ) (t : MTree) → n * w < 2 ^ 32 → nodes t ≤ n → w ≤ 2 ^ 46
 narrow_rows w n t h l = let a = nodes_pos t in let b = at_least_width w n (omega arith) in omega arith
 
-holes_below : (d : MDescription) (w : ℕ) (p : MPattern) → length d.nonterminals ≤ w → FitsIn d p → HolesBelow w p
-holes_below d w (PHole n) h f = omega arith
-holes_below d w (PLeaf op) h f = tt
-holes_below d w (POne op p) h f = holes_below d w p h f.1
-holes_below d w (PTwo op p q) h f = (holes_below d w p h f.1.0, holes_below d w q h f.1.1)
-
 -- a description's rules are what the labeller needs
 pub are_rules : (d : MDescription) (w : ℕ) → IsDescription d → length d.nonterminals ≤ w → w ≤ 2 ^ 46 → AreRules d.rules w
 are_rules d w is wide narrow = record {
   lefts = λ i r e. let l = (is.rules i r e).left in omega arith;
-  holes = λ i r e. holes_below d w (pattern_of r.pattern) wide (is.rules i r e).fits;
   few = let l = is.rule_limit in omega arith;
   narrow = narrow;
   cheap = λ i r e. let l = (is.rules i r e).cost in omega arith;

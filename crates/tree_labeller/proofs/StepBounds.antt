@@ -11,5 +11,5 @@ nodes_two (TTwo op v x y) a b e f =
     let yb : y ≡ b = cc in
     omega (arith, ap nodes xa, ap nodes yb)
 
-pub two_steps : (s s1 s2 s3 n x y m : ℕ) → n ≡ x + y + 1 → s1 ≤ s + x * m → s2 ≤ s1 + y * m → s3 ≤ s2 + m → s3 ≤ s + n * m
-two_steps s s1 s2 s3 n x y m e f g h = grind arith
+pub two_steps : (s s1 s2 n x y m : ℕ) → n ≡ x + y + 1 → s1 ≤ s + x * m → s2 ≤ s1 + y * m → s2 + m ≤ s + n * m
+two_steps s s1 s2 n x y m e f g = grind arith

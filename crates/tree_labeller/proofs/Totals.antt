@@ -58,8 +58,3 @@ module _ (rows : List Row) (d : List Rule) (w : ℕ) where
       let b = s.short n a.0 a.1 in
       let c = s.cheap n a.0 a.1 in
       (omega arith, omega arith)
-
-  pub kid_within : (at : ℕ) (t a : MTree) → Labelled rows d w at t → slice_get (kids_of t) 0 ≡ Some a → at + 1 < length rows
-  kid_within at (TLeaf op v) a l e = cc
-  kid_within at (TOne op v x) a l e = (sound_of (at + 1) x l.1).within
-  kid_within at (TTwo op v x y) a l e = (sound_of (at + 1) x l.1.0).within

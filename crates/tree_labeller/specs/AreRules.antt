@@ -1,13 +1,10 @@
 -- What the labeller needs of rules, where a row has this many cells.
 use Rattle.std.specs.Prelude.{◌≡◌, ℕ, ◌<◌, ◌≤◌, ◌^◌, Some, List, length, slice_get}
 use Rattle.lburg_grammar.specs.declared.rule.Rule.{Rule}
-use Rattle.lburg_grammar.specs.Pattern.{pattern_of}
 use Rattle.tree_labeller.specs.Row.{AreCheap}
-use Rattle.tree_labeller.specs.Labelled.{HolesBelow}
 
 pub record AreRules (rules : List Rule) (width : ℕ) : Type 0 where
   pub lefts : (i : ℕ) (r : Rule) → slice_get rules i ≡ Some r → r.left < width
-  pub holes : (i : ℕ) (r : Rule) → slice_get rules i ≡ Some r → HolesBelow width (pattern_of r.pattern)
   pub few : length rules < 2 ^ 16
   pub narrow : width ≤ 2 ^ 46
   pub cheap : AreCheap rules

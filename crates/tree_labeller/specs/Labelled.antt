@@ -82,13 +82,6 @@ Ready rows d w at t (PLeaf op) = KidsLabelled rows d w at t
 Ready rows d w at t (POne op p) = KidsLabelled rows d w at t
 Ready rows d w at t (PTwo op p q) = KidsLabelled rows d w at t
 
--- each nonterminal of a pattern is below q
-abbrev pub HolesBelow : ℕ → MPattern → Type 0
-HolesBelow q (PHole n) = n < q
-HolesBelow q (PLeaf op) = Unit {0}
-HolesBelow q (POne op a) = HolesBelow q a
-HolesBelow q (PTwo op a b) = HolesBelow q a × HolesBelow q b
-
 abbrev pub Widths : ℕ → List Row → Type 0
 Widths q rows = (i : ℕ) (r : Row) → slice_get rows i ≡ Some r → length r.cells.items ≡ q
 

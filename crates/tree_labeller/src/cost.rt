@@ -5,7 +5,7 @@ ghost use Rattle.lburg_grammar.specs.Best.{IsBest, HasNone};
 ghost use Rattle.tree_labeller.specs.IsLabelled.{IsLabelled};
 
 use crate::cells::Cells;
-use crate::reducer::cell_at;
+use crate::labels::labels_in;
 use crate::tables::Tables;
 use lcc_base::Steps;
 use std::sync::ledger::Ledger;
@@ -28,7 +28,7 @@ pub fn best<L: Ledger>(t: &Tables, cells: &Cells, steps: &mut Steps<L>) -> Optio
 {
     steps.tick();
     let start = t.description().start() as usize;
-    match cell_at(cells.rows.as_slice(), 0, start) {
+    match labels_in(t, cells).cell(0, start) {
         Some(c) => Some(Cost {
             sum: c.cost,
             count: c.count,

@@ -9,12 +9,12 @@ ghost use Rattle.tree_labeller.specs.MCells.{room, HasRoom};
 ghost use Rattle.tree_labeller.specs.Built.{Built, PartsAdded};
 ghost use Rattle.tree_labeller.specs.AreBest.{AreBest};
 
-use crate::cells::{Cells, Row};
+use crate::cells::Cells;
 use crate::labeller::label;
-use crate::matching::end_at;
-use crate::reducer::{number_at, rule_of};
+use crate::labels::{Labels, labels_in};
+use crate::sizes::most_nodes;
 use crate::tables::{Tables, build};
-use lburg_grammar::{Derivation, Description, Pattern, Rule, TreeNode};
+use lburg_grammar::{Derivation, Description, Pattern, TreeNode};
 use lcc_base::{Items, Memory, Steps};
 use std::alloc::Global;
 use std::marker::Brand;
@@ -27,54 +27,50 @@ mod tests;
 #[cycle(derive)]
 fn derivation_at<N: TreeNode>(
     alloc: Global,
-    rules: &[Rule],
-    width: usize,
+    labels: &Labels,
     n: usize,
     tree: &N,
     at: usize,
-    rows: &[Row],
 ) -> Result<Derivation, Memory>
-    requires labelled { Labelled rows.now rules.now width at (N.tree tree.now) }
-    requires some { cell rows.now at n ≢ None }
-    ensures { IfOk result (Built rows.now rules.now n (N.tree tree.now) at) }
+    requires labelled { Labelled labels.now.rows.now labels.now.rules.now labels.now.width at (N.tree tree.now) }
+    requires some { cell labels.now.rows.now at n ≢ None }
+    ensures { IfOk result (Built labels.now.rows.now labels.now.rules.now n (N.tree tree.now) at) }
 {
-    let rule = number_at(rules, width, n, tree, at, rows);
-    let pattern = &rule_of(rules, rule).pattern;
+    let choice = labels.choice(tree, at, n);
     let mut parts = Items::new(alloc);
-    add_parts(alloc, rules, width, pattern, tree, at, rows, &mut parts)?;
-    Ok(Derivation { rule, parts })
+    add_parts(alloc, labels, &choice.rule.pattern, tree, at, &mut parts)?;
+    Ok(Derivation {
+        rule: choice.number,
+        parts,
+    })
 }
 
 // Adds the derivations of the nonterminals that a pattern needs, from left to right.
 #[cycle(derive)]
 fn add_parts<N: TreeNode>(
     alloc: Global,
-    rules: &[Rule],
-    width: usize,
+    labels: &Labels,
     pattern: &Pattern,
     tree: &N,
     at: usize,
-    rows: &[Row],
     parts: &mut Items<Derivation>,
 ) -> Result<(), Memory>
-    requires labelled { Labelled rows.now rules.now width at (N.tree tree.now) }
-    requires some { total rows.now (pattern_of pattern.now) (N.tree tree.now) at ≢ None }
-    ensures { OnOk result (PartsAdded rows.now rules.now (pattern_of pattern.now) (N.tree tree.now) at parts.old parts.new) }
+    requires labelled { Labelled labels.now.rows.now labels.now.rules.now labels.now.width at (N.tree tree.now) }
+    requires some { total labels.now.rows.now (pattern_of pattern.now) (N.tree tree.now) at ≢ None }
+    ensures { OnOk result (PartsAdded labels.now.rows.now labels.now.rules.now (pattern_of pattern.now) (N.tree tree.now) at parts.old parts.new) }
 {
     match pattern {
         Pattern::Nonterminal(n) => {
-            let part = derivation_at(alloc, rules, width, *n as usize, tree, at, rows)?;
+            let part = derivation_at(alloc, labels, *n as usize, tree, at)?;
             parts.push(part)
         }
         Pattern::Leaf(_) => Ok(()),
-        Pattern::Unary(_, p) => {
-            add_parts(alloc, rules, width, p, tree.kid(0), at + 1, rows, parts)
-        }
+        Pattern::Unary(_, p) => add_parts(alloc, labels, p, tree.kid(0), at + 1, parts),
         Pattern::Binary(_, p, q) => {
             let first = tree.kid(0);
-            let next = end_at(rules, width, first, at + 1, rows);
-            add_parts(alloc, rules, width, p, first, at + 1, rows, parts)?;
-            add_parts(alloc, rules, width, q, tree.kid(1), next, rows, parts)
+            let next = labels.end(first, at + 1);
+            add_parts(alloc, labels, p, first, at + 1, parts)?;
+            add_parts(alloc, labels, q, tree.kid(1), next, parts)
         }
     }
 }
@@ -92,41 +88,8 @@ pub fn best_derivation<N: TreeNode>(
     requires covered { HasNone t.now (N.tree tree.now) → ⊥ }
     ensures { IfOk result (λ x. IsBest t.now (N.tree tree.now) (derivation_of x)) }
 {
-    let d = t.description();
-    derivation_at(
-        alloc,
-        d.rules(),
-        cells.width,
-        d.start() as usize,
-        tree,
-        0,
-        cells.rows.as_slice(),
-    )
-}
-
-// How many nodes a tree has.
-fn node_count<N: TreeNode>(tree: &N) -> usize
-    requires { nodes (N.tree tree.now) ≤ 2 ^ 25 }
-    ensures { result ≡ nodes (N.tree tree.now) }
-{
-    match tree.arity() {
-        0 => 1,
-        1 => node_count(tree.kid(0)) + 1,
-        _ => node_count(tree.kid(0)) + node_count(tree.kid(1)) + 1,
-    }
-}
-
-// The most nodes that one of the trees has.
-fn most_nodes<N: TreeNode>(trees: &[N]) -> usize
-    requires { All (λ x. nodes (N.tree x) ≤ 2 ^ 25) trees.now }
-    ensures within { result ≤ 2 ^ 25 }
-    ensures most { All (λ x. nodes (N.tree x) ≤ result) trees.now }
-{
-    let mut most: usize = 0;
-    for tree in trees {
-        most = most.max(node_count(tree));
-    }
-    most
+    let labels = labels_in(t, cells);
+    derivation_at(alloc, &labels, t.description().start() as usize, tree, 0)
 }
 
 // The best derivations of trees, which are labelled in the same cells one after another.

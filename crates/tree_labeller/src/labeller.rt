@@ -10,6 +10,7 @@ ghost use Rattle.tree_labeller.specs.IsLabelled.{IsLabelled};
 
 use crate::cells::{Cell, Cells, Row};
 use crate::closing::{close_row, relax};
+use crate::labels::Labels;
 use crate::matching::base_total_at;
 use crate::places::Index;
 use crate::tables::Tables;
@@ -17,6 +18,17 @@ use lburg_grammar::{Rule, TreeNode};
 use lcc_base::Steps;
 use std::mem;
 use std::sync::ledger::Ledger;
+
+/// What the labelling of a node takes of the tables.
+#[derive(Clone, Copy, Debug)]
+struct Grammar<'a> {
+    /// The description's rules.
+    rules: &'a [Rule],
+    /// Their places.
+    index: &'a Index,
+    /// How many cells a row has.
+    width: usize,
+}
 
 fn clear_row(cells: &mut [Option<Cell>])
     ensures { (n : ℕ) (c : Cell) → CellAt cells.new n c → ⊥ }
@@ -28,33 +40,31 @@ fn clear_row(cells: &mut [Option<Cell>])
 
 // Fills a row with what the rules make of the subtrees' rows, but for the chain rules.
 fn start_row<N: TreeNode, L: Ledger>(
-    rules: &[Rule],
     index: &Index,
-    width: usize,
+    labels: &Labels,
     tree: &N,
     at: usize,
-    rows: &[Row],
     cells: &mut [Option<Cell>],
     steps: &mut Steps<L>,
 )
-    requires wide { length cells.old ≡ width }
-    requires are { AreRules rules.now width }
-    requires index { IsIndex rules.now index.now }
-    requires widths { Widths width rows.now }
-    requires small { area (width + 1) (N.tree tree.now) ≤ 2 ^ 46 }
-    requires room { at + nodes (N.tree tree.now) ≤ length rows.now }
-    requires kids { KidsLabelled rows.now rules.now width at (N.tree tree.now) }
-    ensures started { Started rows.now rules.now at (N.tree tree.now) cells.new Everywhere }
-    ensures steps { steps.new ≤ steps.old + length rules.now }
+    requires wide { length cells.old ≡ labels.now.width }
+    requires are { AreRules labels.now.rules.now labels.now.width }
+    requires index { IsIndex labels.now.rules.now index.now }
+    requires small { area (labels.now.width + 1) (N.tree tree.now) ≤ 2 ^ 46 }
+    requires room { at + nodes (N.tree tree.now) ≤ length labels.now.rows.now }
+    requires kids { KidsLabelled labels.now.rows.now labels.now.rules.now labels.now.width at (N.tree tree.now) }
+    ensures started { Started labels.now.rows.now labels.now.rules.now at (N.tree tree.now) cells.new Everywhere }
+    ensures steps { steps.new ≤ steps.old + length labels.now.rules.now }
     ensures kept { steps.old ≤ steps.new }
 {
     clear_row(cells);
+    let rules = labels.rules;
     let places = index.with_operator(rules, tree.op() as usize);
     for k in 0..places.len() {
         let place = places[k];
         let rule = &rules[place as usize];
         steps.tick();
-        if let Some(key) = base_total_at(rules, width, &rule.pattern, tree, at, rows) {
+        if let Some(key) = base_total_at(labels, &rule.pattern, tree, at) {
             relax(
                 cells,
                 rule.left as usize,
@@ -71,135 +81,122 @@ fn start_row<N: TreeNode, L: Ledger>(
 
 // Fills a node's own row.
 fn fill_row<N: TreeNode, L: Ledger>(
-    rules: &[Rule],
     index: &Index,
-    width: usize,
+    labels: &Labels,
     tree: &N,
     at: usize,
-    rows: &[Row],
     cells: &mut [Option<Cell>],
     steps: &mut Steps<L>,
 )
-    requires wide { length cells.old ≡ width }
-    requires are { AreRules rules.now width }
-    requires index { IsIndex rules.now index.now }
-    requires widths { Widths width rows.now }
-    requires small { area (width + 1) (N.tree tree.now) ≤ 2 ^ 46 }
-    requires room { at + nodes (N.tree tree.now) ≤ length rows.now }
-    requires kids { KidsLabelled rows.now rules.now width at (N.tree tree.now) }
-    ensures filled { Filled rows.now rules.now at (N.tree tree.now) width cells.new }
-    ensures steps { steps.new ≤ steps.old + (length rules.now + length index.now.chains * chain_rules rules.now) }
+    requires wide { length cells.old ≡ labels.now.width }
+    requires are { AreRules labels.now.rules.now labels.now.width }
+    requires index { IsIndex labels.now.rules.now index.now }
+    requires small { area (labels.now.width + 1) (N.tree tree.now) ≤ 2 ^ 46 }
+    requires room { at + nodes (N.tree tree.now) ≤ length labels.now.rows.now }
+    requires kids { KidsLabelled labels.now.rows.now labels.now.rules.now labels.now.width at (N.tree tree.now) }
+    ensures filled { Filled labels.now.rows.now labels.now.rules.now at (N.tree tree.now) labels.now.width cells.new }
+    ensures steps { steps.new ≤ steps.old + (length labels.now.rules.now + length index.now.chains * chain_rules labels.now.rules.now) }
     ensures kept { steps.old ≤ steps.new }
 {
-    start_row(rules, index, width, tree, at, rows, cells, steps);
-    close_row(rules, index, cells, steps);
+    start_row(index, labels, tree, at, cells, steps);
+    close_row(labels.rules, index, cells, steps);
 }
 
 // Adds a node's own row to those of its subtrees.
 fn finish_row<N: TreeNode, L: Ledger>(
-    rules: &[Rule],
-    index: &Index,
-    width: usize,
+    grammar: &Grammar,
     tree: &N,
     at: usize,
     rows: &mut [Row],
     scratch: &mut Row,
-    next: usize,
     steps: &mut Steps<L>,
-) -> usize
-    requires are { AreRules rules.now width }
-    requires index { IsIndex rules.now index.now }
-    requires widths { Widths width rows.old }
-    requires wide { length scratch.old.cells.items ≡ width }
-    requires small { area (width + 1) (N.tree tree.now) ≤ 2 ^ 46 }
+)
+    requires are { AreRules grammar.now.rules.now grammar.now.width }
+    requires index { IsIndex grammar.now.rules.now grammar.now.index.now }
+    requires widths { Widths grammar.now.width rows.old }
+    requires wide { length scratch.old.cells.items ≡ grammar.now.width }
+    requires small { area (grammar.now.width + 1) (N.tree tree.now) ≤ 2 ^ 46 }
     requires room { at + nodes (N.tree tree.now) ≤ length rows.old }
-    requires kids { KidsLabelled rows.old rules.now width at (N.tree tree.now) }
-    requires next_is { next ≡ at + nodes (N.tree tree.now) }
-    ensures next { result ≡ next }
+    requires kids { KidsLabelled rows.old grammar.now.rules.now grammar.now.width at (N.tree tree.now) }
+    requires end { scratch.old.end ≡ at + nodes (N.tree tree.now) }
     ensures others { (i : ℕ) → i ≢ at → slice_get rows.new i ≡ slice_get rows.old i }
-    ensures widths { Widths width rows.new }
-    ensures wide { length scratch.new.cells.items ≡ width }
-    ensures labelled { Labelled rows.new rules.now width at (N.tree tree.now) }
-    ensures steps { steps.new ≤ steps.old + (length rules.now + length index.now.chains * chain_rules rules.now) }
+    ensures widths { Widths grammar.now.width rows.new }
+    ensures wide { length scratch.new.cells.items ≡ grammar.now.width }
+    ensures labelled { Labelled rows.new grammar.now.rules.now grammar.now.width at (N.tree tree.now) }
+    ensures steps { steps.new ≤ steps.old + (length grammar.now.rules.now + length grammar.now.index.now.chains * chain_rules grammar.now.rules.now) }
     ensures kept { steps.old ≤ steps.new }
 {
-    fill_row(
-        rules,
-        index,
-        width,
-        tree,
-        at,
+    let labels = Labels {
+        rules: grammar.rules,
+        width: grammar.width,
         rows,
-        scratch.cells.as_mut_slice(),
-        steps,
-    );
-    scratch.end = next;
+    };
+    let cells = scratch.cells.as_mut_slice();
+    fill_row(grammar.index, &labels, tree, at, cells, steps);
     mem::swap(&mut rows[at], scratch);
-    next
 }
 
 // Labels a tree: its rows stand from `at` on. Returns the place after them.
+#[cycle(label)]
 fn label_at<N: TreeNode, L: Ledger>(
-    rules: &[Rule],
-    index: &Index,
-    width: usize,
+    grammar: &Grammar,
     tree: &N,
     at: usize,
     rows: &mut [Row],
     scratch: &mut Row,
     steps: &mut Steps<L>,
 ) -> usize
-    requires are { AreRules rules.now width }
-    requires index { IsIndex rules.now index.now }
-    requires widths { Widths width rows.old }
-    requires wide { length scratch.old.cells.items ≡ width }
-    requires small { area (width + 1) (N.tree tree.now) ≤ 2 ^ 46 }
+    requires are { AreRules grammar.now.rules.now grammar.now.width }
+    requires index { IsIndex grammar.now.rules.now grammar.now.index.now }
+    requires widths { Widths grammar.now.width rows.old }
+    requires wide { length scratch.old.cells.items ≡ grammar.now.width }
+    requires small { area (grammar.now.width + 1) (N.tree tree.now) ≤ 2 ^ 46 }
     requires room { at + nodes (N.tree tree.now) ≤ length rows.old }
     ensures next { result ≡ at + nodes (N.tree tree.now) }
     ensures others { (i : ℕ) → (i < at) ⊎ (at + nodes (N.tree tree.now) ≤ i) → slice_get rows.new i ≡ slice_get rows.old i }
-    ensures widths { Widths width rows.new }
-    ensures wide { length scratch.new.cells.items ≡ width }
-    ensures labelled { Labelled rows.new rules.now width at (N.tree tree.now) }
-    ensures steps { steps.new ≤ steps.old + nodes (N.tree tree.now) * (length rules.now + length index.now.chains * chain_rules rules.now) }
+    ensures widths { Widths grammar.now.width rows.new }
+    ensures wide { length scratch.new.cells.items ≡ grammar.now.width }
+    ensures labelled { Labelled rows.new grammar.now.rules.now grammar.now.width at (N.tree tree.now) }
+    ensures steps { steps.new ≤ steps.old + nodes (N.tree tree.now) * (length grammar.now.rules.now + length grammar.now.index.now.chains * chain_rules grammar.now.rules.now) }
+    ensures kept { steps.old ≤ steps.new }
+{
+    let next = label_kids(grammar, tree, at, rows, scratch, steps);
+    scratch.end = next;
+    finish_row(grammar, tree, at, rows, scratch, steps);
+    next
+}
+
+// Labels the operands of a tree: their rows stand behind the place of its own. Returns the place
+// after them.
+#[cycle(label)]
+fn label_kids<N: TreeNode, L: Ledger>(
+    grammar: &Grammar,
+    tree: &N,
+    at: usize,
+    rows: &mut [Row],
+    scratch: &mut Row,
+    steps: &mut Steps<L>,
+) -> usize
+    requires are { AreRules grammar.now.rules.now grammar.now.width }
+    requires index { IsIndex grammar.now.rules.now grammar.now.index.now }
+    requires widths { Widths grammar.now.width rows.old }
+    requires wide { length scratch.old.cells.items ≡ grammar.now.width }
+    requires small { area (grammar.now.width + 1) (N.tree tree.now) ≤ 2 ^ 46 }
+    requires room { at + nodes (N.tree tree.now) ≤ length rows.old }
+    ensures next { result ≡ at + nodes (N.tree tree.now) }
+    ensures others { (i : ℕ) → (i ≤ at) ⊎ (at + nodes (N.tree tree.now) ≤ i) → slice_get rows.new i ≡ slice_get rows.old i }
+    ensures widths { Widths grammar.now.width rows.new }
+    ensures wide { length scratch.new.cells.items ≡ grammar.now.width }
+    ensures kids { KidsLabelled rows.new grammar.now.rules.now grammar.now.width at (N.tree tree.now) }
+    ensures steps { let most = length grammar.now.rules.now + length grammar.now.index.now.chains * chain_rules grammar.now.rules.now in steps.new + most ≤ steps.old + nodes (N.tree tree.now) * most }
     ensures kept { steps.old ≤ steps.new }
 {
     match tree.arity() {
-        0 => finish_row(rules, index, width, tree, at, rows, scratch, at + 1, steps),
-        1 => {
-            let next = label_at(
-                rules,
-                index,
-                width,
-                tree.kid(0),
-                at + 1,
-                rows,
-                scratch,
-                steps,
-            );
-            finish_row(rules, index, width, tree, at, rows, scratch, next, steps)
-        }
+        0 => at + 1,
+        1 => label_at(grammar, tree.kid(0), at + 1, rows, scratch, steps),
         _ => {
-            let middle = label_at(
-                rules,
-                index,
-                width,
-                tree.kid(0),
-                at + 1,
-                rows,
-                scratch,
-                steps,
-            );
-            let next = label_at(
-                rules,
-                index,
-                width,
-                tree.kid(1),
-                middle,
-                rows,
-                scratch,
-                steps,
-            );
-            finish_row(rules, index, width, tree, at, rows, scratch, next, steps)
+            let middle = label_at(grammar, tree.kid(0), at + 1, rows, scratch, steps);
+            label_at(grammar, tree.kid(1), middle, rows, scratch, steps)
         }
     }
 }
@@ -216,14 +213,11 @@ pub fn label<N: TreeNode, L: Ledger>(t: &Tables, tree: &N, cells: &mut Cells, st
     ensures steps { steps.new ≤ steps.old + nodes (N.tree tree.now) * (length t.now.rules + length t.now.nonterminals * chain_rules t.now.rules) }
     ensures kept { steps.old ≤ steps.new }
 {
-    label_at(
-        t.description().rules(),
-        t.index(),
-        cells.width,
-        tree,
-        0,
-        cells.rows.as_mut_slice(),
-        &mut cells.scratch,
-        steps,
-    );
+    let grammar = Grammar {
+        rules: t.description().rules(),
+        index: t.index(),
+        width: cells.width,
+    };
+    let rows = cells.rows.as_mut_slice();
+    label_at(&grammar, tree, 0, rows, &mut cells.scratch, steps);
 }

@@ -7,9 +7,11 @@ mod closing;
 mod cost;
 mod derivations;
 mod labeller;
+mod labels;
 mod matching;
 mod places;
 mod reducer;
+mod sizes;
 mod tables;
 #[cfg(test)]
 mod tests;
@@ -19,4 +21,5 @@ pub use cost::{Cost, best};
 pub use derivations::{best_derivation, best_derivations};
 pub use labeller::label;
 pub use reducer::{Visitor, reduce};
+pub use sizes::{most_nodes, node_count};
 pub use tables::{Tables, build};

@@ -8,10 +8,10 @@ ghost use Rattle.tree_labeller.specs.IsLabelled.{IsLabelled};
 ghost use Rattle.tree_labeller.specs.Runs.{Runs};
 ghost use Rattle.tree_labeller.specs.Reduced.{Reduced, Walked, Chosen};
 
-use crate::cells::{Cell, Cells, Row};
-use crate::matching::end_at;
+use crate::cells::Cells;
+use crate::labels::{Labels, labels_in};
 use crate::tables::Tables;
-use lburg_grammar::{Pattern, Rule, TreeNode};
+use lburg_grammar::{Pattern, TreeNode};
 
 /// Takes the rules of a derivation, one at a time.
 pub trait Visitor<N> {
@@ -23,92 +23,46 @@ pub trait Visitor<N> {
         ensures { takes self.old number node.now self.new };
 }
 
-/// The cell of a nonterminal at a place.
-pub fn cell_at(rows: &[Row], at: usize, n: usize) -> Option<Cell>
-    ensures { result ≡ cell rows.now at n }
-{
-    match rows.get(at) {
-        Some(row) => match row.cells.get(n) {
-            Some(c) => *c,
-            None => None,
-        },
-        None => None,
-    }
-}
-
-/// The number of the rule that makes a cell.
-pub fn number_at<N: TreeNode>(
-    rules: &[Rule],
-    width: usize,
-    n: usize,
-    tree: &N,
-    at: usize,
-    rows: &[Row],
-) -> u16
-    requires labelled { Labelled rows.now rules.now width at (N.tree tree.now) }
-    requires some { cell rows.now at n ≢ None }
-    ensures { Chosen rows.now rules.now n (N.tree tree.now) at result }
-{
-    match cell_at(rows, at, n) {
-        Some(c) => c.rule,
-        None => 0,
-    }
-}
-
-/// The rule of a number, from 1.
-pub fn rule_of(rules: &[Rule], number: u16) -> &Rule
-    requires first { 1 ≤ number }
-    requires within { number ≤ length rules.now }
-    ensures { slice_get rules.now (number - 1) ≡ Some result.now }
-{
-    &rules[number as usize - 1]
-}
-
 // Visits the rules of the best derivation of a nonterminal, which its cell tells.
 #[cycle(reduce)]
 fn reduce_at<N: TreeNode, V: Visitor<N>>(
-    rules: &[Rule],
-    width: usize,
+    labels: &Labels,
     n: usize,
     tree: &N,
     at: usize,
-    rows: &[Row],
     visitor: &mut V,
 )
-    requires labelled { Labelled rows.now rules.now width at (N.tree tree.now) }
-    requires some { cell rows.now at n ≢ None }
-    ensures { Reduced rows.now rules.now N.tree V.takes n (N.tree tree.now) at visitor.old visitor.new }
+    requires labelled { Labelled labels.now.rows.now labels.now.rules.now labels.now.width at (N.tree tree.now) }
+    requires some { cell labels.now.rows.now at n ≢ None }
+    ensures { Reduced labels.now.rows.now labels.now.rules.now N.tree V.takes n (N.tree tree.now) at visitor.old visitor.new }
 {
-    let number = number_at(rules, width, n, tree, at, rows);
-    let rule = rule_of(rules, number);
-    visitor.rule(number, tree);
-    walk(rules, width, &rule.pattern, tree, at, rows, visitor);
+    let choice = labels.choice(tree, at, n);
+    visitor.rule(choice.number, tree);
+    walk(labels, &choice.rule.pattern, tree, at, visitor);
 }
 
 // Visits the rules of the parts that a pattern needs.
 #[cycle(reduce)]
 fn walk<N: TreeNode, V: Visitor<N>>(
-    rules: &[Rule],
-    width: usize,
+    labels: &Labels,
     pattern: &Pattern,
     tree: &N,
     at: usize,
-    rows: &[Row],
     visitor: &mut V,
 )
-    requires labelled { Labelled rows.now rules.now width at (N.tree tree.now) }
-    requires some { total rows.now (pattern_of pattern.now) (N.tree tree.now) at ≢ None }
-    ensures { Walked rows.now rules.now N.tree V.takes (pattern_of pattern.now) (N.tree tree.now) at visitor.old visitor.new }
+    requires labelled { Labelled labels.now.rows.now labels.now.rules.now labels.now.width at (N.tree tree.now) }
+    requires some { total labels.now.rows.now (pattern_of pattern.now) (N.tree tree.now) at ≢ None }
+    ensures { Walked labels.now.rows.now labels.now.rules.now N.tree V.takes (pattern_of pattern.now) (N.tree tree.now) at visitor.old visitor.new }
 {
     match pattern {
-        Pattern::Nonterminal(n) => reduce_at(rules, width, *n as usize, tree, at, rows, visitor),
+        Pattern::Nonterminal(n) => reduce_at(labels, *n as usize, tree, at, visitor),
         Pattern::Leaf(_) => {}
-        Pattern::Unary(_, p) => walk(rules, width, p, tree.kid(0), at + 1, rows, visitor),
+        Pattern::Unary(_, p) => walk(labels, p, tree.kid(0), at + 1, visitor),
         Pattern::Binary(_, p, q) => {
             let first = tree.kid(0);
-            let next = end_at(rules, width, first, at + 1, rows);
-            walk(rules, width, p, first, at + 1, rows, visitor);
-            walk(rules, width, q, tree.kid(1), next, rows, visitor);
+            let next = labels.end(first, at + 1);
+            walk(labels, p, first, at + 1, visitor);
+            walk(labels, q, tree.kid(1), next, visitor);
         }
     }
 }
@@ -122,14 +76,6 @@ pub fn reduce<N: TreeNode, V: Visitor<N>>(t: &Tables, tree: &N, cells: &Cells, v
     requires covered { HasNone t.now (N.tree tree.now) → ⊥ }
     ensures visits { (x : MDerivation) × IsBest t.now (N.tree tree.now) x × Runs N.tree V.takes (applied t.now.rules (N.tree tree.now) x) visitor.old visitor.new }
 {
-    let d = t.description();
-    reduce_at(
-        d.rules(),
-        cells.width,
-        d.start() as usize,
-        tree,
-        0,
-        cells.rows.as_slice(),
-        visitor,
-    );
+    let labels = labels_in(t, cells);
+    reduce_at(&labels, t.description().start() as usize, tree, 0, visitor);
 }

@@ -3,8 +3,8 @@
 ghost use Rattle.std.specs.Prelude.{◌≡◌, ◌^◌, ◌<◌, ◌≤◌, All};
 ghost use Rattle.lburg_grammar.specs.Tree.{nodes};
 
-use super::{best_derivation, best_derivations, most_nodes};
-use crate::{Cells, best, build, label};
+use super::{best_derivation, best_derivations};
+use crate::{Cells, best, build, label, most_nodes};
 use lburg_grammar::{Derivation, Description, TreeNode, read, read_trees};
 use lcc_base::{Items, Steps};
 use std::alloc::{AllocError, Global};

@@ -5,27 +5,22 @@ use Rattle.lburg_grammar.specs.declared.pattern.Pattern.{Pattern}
 use Rattle.lburg_grammar.specs.declared.derivation.Derivation.{Derivation}
 use Rattle.tree_labeller.specs.Labelled.{total}
 use Rattle.tree_labeller.specs.Built.{PartsAdded}
-use Rattle.tree_labeller.proofs.Totals.{kid_within}
 use Rattle.tree_labeller.proofs.Values.{built, added_hole, added_leaf, added_one, added_two}
 use Rattle.tree_labeller.proofs.derivations.+derive.Goals as goal
 
 pub derivation_at-returns : goal.derivation_at-returns
 derivation_at-returns g t c =
-    let rows = c.args.rows.now in
-    let rules = c.args.rules.now in
+    let rows = c.args.labels.now.rows.now in
+    let rules = c.args.labels.now.rules.now in
     let T = g.N.TreeNode.tree c.args.tree.now in
-    let r = c.rule_of.result.now in
+    let r = c.choice-choice.result.rule.now in
     let Added : List Derivation → Type 0 = λ old. PartsAdded rows rules (pattern_of r.pattern) T c.args.at old c.add_parts.new.parts in
-    built rows rules c.args.width c.args.n T c.args.at c.number_at-rule.result r c.add_parts.new.parts c.requires.labelled c.requires.some c.number_at-rule.ensures c.rule_of.ensures (subst Added c.new-parts.ensures c.in_ok-add_parts.ensures)
-
-pub add_parts-end_at-next-requires-clause-within : goal.add_parts-end_at-next-requires-clause-within
-add_parts-end_at-next-requires-clause-within g t c =
-    kid_within c.args.rows.now c.args.rules.now c.args.width c.args.at (g.N.TreeNode.tree c.args.tree.now) (g.N.TreeNode.tree c.kid-first.result.now) c.requires.labelled c.kid-first.ensures
+    built rows rules c.args.labels.now.width c.args.n T c.args.at c.choice-choice.result.number r c.add_parts.new.parts c.requires.labelled c.requires.some c.choice-choice.ensures.chosen c.choice-choice.ensures.rule (subst Added c.new-parts.ensures c.in_ok-add_parts.ensures)
 
 pub add_parts-returns-in_ok-part-in-Nonterminal : goal.add_parts-returns-in_ok-part-in-Nonterminal
 add_parts-returns-in_ok-part-in-Nonterminal g t c =
-    let rows = c.args.rows.now in
-    let rules = c.args.rules.now in
+    let rows = c.args.labels.now.rows.now in
+    let rules = c.args.labels.now.rules.now in
     let T = g.N.TreeNode.tree c.args.tree.now in
     let old = c.args.parts.now in
     let new = c.push.new.self in
@@ -34,8 +29,8 @@ add_parts-returns-in_ok-part-in-Nonterminal g t c =
 
 pub add_parts-returns-in-Leaf : goal.add_parts-returns-in-Leaf
 add_parts-returns-in-Leaf g t c =
-    let rows = c.args.rows.now in
-    let rules = c.args.rules.now in
+    let rows = c.args.labels.now.rows.now in
+    let rules = c.args.labels.now.rules.now in
     let T = g.N.TreeNode.tree c.args.tree.now in
     let old = c.args.parts.now in
     let F : MPattern → Type 0 = λ p. PartsAdded rows rules p T c.args.at old old in
@@ -45,8 +40,8 @@ add_parts-returns-in-Leaf g t c =
 
 pub add_parts-returns-in-Unary : goal.add_parts-returns-in-Unary
 add_parts-returns-in-Unary g t c =
-    let rows = c.args.rows.now in
-    let rules = c.args.rules.now in
+    let rows = c.args.labels.now.rows.now in
+    let rules = c.args.labels.now.rules.now in
     let T = g.N.TreeNode.tree c.args.tree.now in
     let A = g.N.TreeNode.tree c.kid.result.now in
     let old = c.args.parts.now in
@@ -59,8 +54,8 @@ add_parts-returns-in-Unary g t c =
 
 pub add_parts-returns-in_ok-add_parts-in-Binary : goal.add_parts-returns-in_ok-add_parts-in-Binary
 add_parts-returns-in_ok-add_parts-in-Binary g t c =
-    let rows = c.args.rows.now in
-    let rules = c.args.rules.now in
+    let rows = c.args.labels.now.rows.now in
+    let rules = c.args.labels.now.rules.now in
     let T = g.N.TreeNode.tree c.args.tree.now in
     let A = g.N.TreeNode.tree c.kid-first.result.now in
     let B = g.N.TreeNode.tree c.kid-in-Binary.result.now in
@@ -70,8 +65,8 @@ add_parts-returns-in_ok-add_parts-in-Binary g t c =
     let F : MPattern → Type 0 = λ p. PartsAdded rows rules p T c.args.at old new in
     let S : MPattern → Type 0 = λ p. total rows p T c.args.at ≢ None in
     let W : Pattern → Type 0 = λ p. PartsAdded rows rules (pattern_of p) A (c.args.at + 1) old mid in
-    let X : Pattern → Type 0 = λ p. PartsAdded rows rules (pattern_of p) B c.end_at-next.result mid new in
+    let X : Pattern → Type 0 = λ p. PartsAdded rows rules (pattern_of p) B c.end-next.result mid new in
     let Y : ℕ → Type 0 = λ z. PartsAdded rows rules (pattern_of c.in-Binary.q.value) B z mid new in
     let e = ap pattern_of c.in-Binary.is in
     let first = subst W c.deref-in-Binary.ensures c.in_ok-add_parts-in-Binary.ensures in
-    on_ok_weaker c.add_parts-in-Binary-2.result (λ added. subst F (sym e) (added_two rows rules c.in-Binary.field-0 (pattern_of c.in-Binary.p.value) (pattern_of c.in-Binary.q.value) T A B c.args.at old mid new (subst S e c.requires.some) c.kid-first.ensures c.kid-in-Binary.ensures first (subst Y c.end_at-next.ensures (subst X c.deref-in-Binary-2.ensures added)))) c.add_parts-in-Binary-2.ensures
+    on_ok_weaker c.add_parts-in-Binary-2.result (λ added. subst F (sym e) (added_two rows rules c.in-Binary.field-0 (pattern_of c.in-Binary.p.value) (pattern_of c.in-Binary.q.value) T A B c.args.at old mid new (subst S e c.requires.some) c.kid-first.ensures c.kid-in-Binary.ensures first (subst Y c.end-next.ensures (subst X c.deref-in-Binary-2.ensures added)))) c.add_parts-in-Binary-2.ensures

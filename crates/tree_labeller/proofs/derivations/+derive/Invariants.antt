@@ -5,7 +5,7 @@ use Rattle.tree_labeller.specs.Reduced.{cell_count, key_count, pattern_size, big
 use Rattle.tree_labeller.proofs.derivations.+derive.Given as goal
 
 abbrev pub decreases-derivation_at : goal.decreases-derivation_at
-decreases-derivation_at g l = cell_count (cell l.rows.now l.at l.n) * biggest l.rules.now
+decreases-derivation_at g l = cell_count (cell l.labels.now.rows.now l.at l.n) * biggest l.labels.now.rules.now
 
 abbrev pub decreases-add_parts : goal.decreases-add_parts
-decreases-add_parts g l = key_count (total l.rows.now (pattern_of l.pattern.now) (g.N.TreeNode.tree l.tree.now) l.at) * biggest l.rules.now + pattern_size (pattern_of l.pattern.now)
+decreases-add_parts g l = key_count (total l.labels.now.rows.now (pattern_of l.pattern.now) (g.N.TreeNode.tree l.tree.now) l.at) * biggest l.labels.now.rules.now + pattern_size (pattern_of l.pattern.now)

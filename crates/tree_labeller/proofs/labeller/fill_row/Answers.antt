@@ -3,16 +3,16 @@ use Rattle.tree_labeller.proofs.Finish.{bound_short, bound_cheap, bound_fresh, b
 use Rattle.tree_labeller.proofs.labeller.fill_row.Goals as goal
 
 pub close_row-requires-clause-fresh : goal.close_row-requires-clause-fresh
-close_row-requires-clause-fresh g c = bound_fresh _ _ c.args.width _ _ _ c.requires.kids c.start_row.ensures.started
+close_row-requires-clause-fresh g c = bound_fresh _ _ c.args.labels.now.width _ _ _ c.requires.kids c.start_row.ensures.started
 
 pub close_row-requires-clause-short : goal.close_row-requires-clause-short
-close_row-requires-clause-short g c = λ n b at. let a = bound_short _ _ c.args.width _ _ _ c.requires.kids c.start_row.ensures.started n b at in let s = c.requires.small in omega arith
+close_row-requires-clause-short g c = λ n b at. let a = bound_short _ _ c.args.labels.now.width _ _ _ c.requires.kids c.start_row.ensures.started n b at in let s = c.requires.small in omega arith
 
 pub close_row-requires-clause-cheap : goal.close_row-requires-clause-cheap
-close_row-requires-clause-cheap g c = bound_cheap _ _ c.args.width _ _ _ c.requires.kids c.start_row.ensures.started c.requires.are.cheap
+close_row-requires-clause-cheap g c = bound_cheap _ _ c.args.labels.now.width _ _ _ c.requires.kids c.start_row.ensures.started c.requires.are.cheap
 
 pub close_row-requires-clause-below : goal.close_row-requires-clause-below
-close_row-requires-clause-below g c = bound_below _ _ c.args.width _ _ _ c.requires.kids c.start_row.ensures.started (length c.args.index.now.chains) c.requires.index.lefts
+close_row-requires-clause-below g c = bound_below _ _ c.args.labels.now.width _ _ _ c.requires.kids c.start_row.ensures.started (length c.args.index.now.chains) c.requires.index.lefts
 
 pub returns-clause-filled : goal.returns-clause-filled
 returns-clause-filled g c = (c.start_row.new.cells, c.start_row.ensures.started, c.close_row.ensures.closed, c.start_row.auto.cells ∙ c.requires.wide)

@@ -14,8 +14,8 @@ use Rattle.tree_labeller.proofs.labeller.start_row.Goals as goal
 
 pub loop-k-preserved : goal.loop-k-preserved
 loop-k-preserved g c =
-    let rules = c.args.rules.now in
-    let rows = c.args.rows.now in
+    let rules = c.args.labels.now.rules.now in
+    let rows = c.args.labels.now.rows.now in
     let places = c.with_operator-places.result.now in
     let k = c.loop-k.k in
     let place = get_or places k 0 in
@@ -37,8 +37,8 @@ loop-k-preserved g c =
 
 pub returns-clause-started : goal.returns-clause-started
 returns-clause-started g c =
-    let rules = c.args.rules.now in
-    let rows = c.args.rows.now in
+    let rules = c.args.labels.now.rules.now in
+    let rows = c.args.labels.now.rows.now in
     let places = c.with_operator-places.result.now in
     let tree = g.N.TreeNode.tree c.args.tree.now in
     let over : length places ≡ c.loop-k.k = omega arith in

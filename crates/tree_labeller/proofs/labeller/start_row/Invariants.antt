@@ -4,4 +4,4 @@ use Rattle.tree_labeller.specs.Labelled.{Started}
 use Rattle.tree_labeller.proofs.labeller.start_row.Given as goal
 
 abbrev pub invariant-loop-k : goal.invariant-loop-k
-invariant-loop-k g l = Started l.rows l.rules l.at (g.N.TreeNode.tree l.tree) l.cells (Among l.places l.k) × (l.steps ≡ l.initial.steps + l.k)
+invariant-loop-k g l = Started l.labels.rows.now l.labels.rules.now l.at (g.N.TreeNode.tree l.tree) l.cells (Among l.places l.k) × (l.steps ≡ l.initial.steps + l.k)

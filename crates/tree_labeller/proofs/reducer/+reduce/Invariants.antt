@@ -5,7 +5,7 @@ use Rattle.tree_labeller.specs.Reduced.{cell_count, key_count, pattern_size, big
 use Rattle.tree_labeller.proofs.reducer.+reduce.Given as goal
 
 abbrev pub decreases-reduce_at : goal.decreases-reduce_at
-decreases-reduce_at g l = cell_count (cell l.rows.now l.at l.n) * biggest l.rules.now
+decreases-reduce_at g l = cell_count (cell l.labels.now.rows.now l.at l.n) * biggest l.labels.now.rules.now
 
 abbrev pub decreases-walk : goal.decreases-walk
-decreases-walk g l = key_count (total l.rows.now (pattern_of l.pattern.now) (g.N.TreeNode.tree l.tree.now) l.at) * biggest l.rules.now + pattern_size (pattern_of l.pattern.now)
+decreases-walk g l = key_count (total l.labels.now.rows.now (pattern_of l.pattern.now) (g.N.TreeNode.tree l.tree.now) l.at) * biggest l.labels.now.rules.now + pattern_size (pattern_of l.pattern.now)

@@ -3,7 +3,7 @@ use Rattle.std.specs.Prelude.{All}
 use Rattle.std.proofs.lemmas.List.{take_all}
 use Rattle.std.proofs.lemmas.List.Elements.{All-weaker, All-more}
 use Rattle.lburg_grammar.specs.Tree.{nodes}
-use Rattle.tree_labeller.proofs.derivations.most_nodes.Goals as goal
+use Rattle.tree_labeller.proofs.sizes.most_nodes.Goals as goal
 
 pub loop-tree-preserved : goal.loop-tree-preserved
 loop-tree-preserved g c =

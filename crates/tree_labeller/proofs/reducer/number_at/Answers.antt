@@ -1,6 +1,0 @@
-use Rattle.std.proofs.Common.{sym, ◌∙◌}
-use Rattle.tree_labeller.proofs.Visits.{chosen_of}
-use Rattle.tree_labeller.proofs.reducer.number_at.Goals as goal
-
-pub returns-in-Some : goal.returns-in-Some
-returns-in-Some g c = chosen_of _ _ c.args.width _ _ _ c.in-Some.c c.requires.labelled (sym c.cell_at.ensures ∙ c.in-Some.is)
