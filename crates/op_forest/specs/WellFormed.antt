@@ -1,8 +1,9 @@
--- Well-formed roots: each node has the operands, the symbol and the constant that its operator needs, and each
+-- Well-formed forests: each node has the operands, the symbol and the constant that its operator needs, and each
 -- argument is taken by a call.
 -- Source: Fraser and Hanson, A Retargetable C Compiler, chapter 5.
 use Rattle.std.specs.Prelude.{◌≡◌, ◌≢◌, ◌≤◌, ◌⊎◌, ℤ, pos, Option, IsSomeAnd, IsTrue, IsFalse, FitsSigned, List, [], ◌∷◌, length}
 use Rattle.std.specs.Int.{w32}
+use Rattle.op_forest.specs.declared.forest.Forest.{Forest}
 use Rattle.op_forest.specs.declared.op.Op.{Op}
 use Rattle.op_forest.specs.declared.op.Op.TheVariants as op
 use Rattle.op_forest.specs.declared.suffix.Suffix.{Suffix}
@@ -77,11 +78,15 @@ pub record IsFit (t : Node) (taken : Type 0) : Type 0 where
   pub statement : op_of t ≢ op.Addrg
   pub argument : op_of t ≡ op.Arg → taken
 
--- a good root, before these roots
-pub record IsGood (t : Node) (behind : List Node) : Type 0 where
+-- a good root of the forest, before these roots
+pub record IsGood (f : Forest) (t : Node) (behind : List Node) : Type 0 where
   pub arities : HasArities t
   pub fit : IsFit t (IsTaken behind)
 
-abbrev pub IsWellFormed : List Node → Type 0
-IsWellFormed [] = Unit {0}
-IsWellFormed (t ∷ ts) = IsGood t ts × IsWellFormed ts
+-- these roots, the last ones of the forest, are good
+abbrev pub AreGood : Forest → List Node → Type 0
+AreGood f [] = Unit {0}
+AreGood f (t ∷ ts) = IsGood f t ts × AreGood f ts
+
+abbrev pub IsWellFormed : Forest → Type 0
+IsWellFormed f = AreGood f f.roots

@@ -16,10 +16,10 @@ use std::alloc::Global;
 /// the number of nodes.
 pub fn check_forest(alloc: Global, forest: &Forest) -> Result<WellFormed, ForestFault>
     ensures found { IfOk result (λ w. w ≡ forest.now) }
-    ensures well_formed { IfOk result (λ w. IsWellFormed w.roots) }
-    ensures fault { IfErr result (λ e. IsFaultOf forest.now.roots e) }
+    ensures well_formed { IfOk result (λ w. IsWellFormed w) }
+    ensures fault { IfErr result (λ e. IsFaultOf forest.now e) }
 {
-    if let Some(fault) = first_fault(forest.roots.as_slice()) {
+    if let Some(fault) = first_fault(forest) {
         return Err(fault);
     }
     let copy = Forest::copied(alloc, forest)?;
@@ -27,10 +27,11 @@ pub fn check_forest(alloc: Global, forest: &Forest) -> Result<WellFormed, Forest
 }
 
 /// What is wrong with the first bad root, if one is bad.
-fn first_fault(roots: &[Tree]) -> Option<ForestFault>
-    ensures none { IfNone result (IsWellFormed roots.now) }
-    ensures some { IfSome result (IsFaultOf roots.now) }
+fn first_fault(forest: &Forest) -> Option<ForestFault>
+    ensures none { IfNone result (IsWellFormed forest.now) }
+    ensures some { IfSome result (IsFaultOf forest.now) }
 {
+    let roots = forest.roots.as_slice();
     let mut fault = None;
     let mut is_taken = false;
     for root in (0..roots.len()).rev() {

@@ -1,22 +1,28 @@
 ghost use Rattle.std.specs.Prelude.{◌≡◌};
 
 use lcc_base::Memory;
+use thiserror::Error;
 
 /// What is wrong with a forest. The first four name the first bad root by its place, from 0; at
 /// one root the earlier of them is answered.
-#[derive(Clone, Copy, Debug, PartialEq, Eq)]
+#[derive(Clone, Copy, Debug, PartialEq, Eq, Error)]
 pub enum ForestFault {
     /// An operator has another number of operands than its row.
+    #[error("root {root}: an operator has another number of operands")]
     Arity { root: usize },
     /// An operator has no rule, or an operand, symbol or constant that doesn't fit it; or no call
     /// takes an argument.
+    #[error("root {root}: an operator, operand, symbol, constant or argument doesn't fit")]
     Kind { root: usize },
     /// A jump goes to no label, or a label stands twice. Not answered while no operator with a
     /// label has a rule.
+    #[error("root {root}: no such label, or it stands twice")]
     Label { root: usize },
     /// An offset lies in no slot. Not answered while no operator with an offset has a rule.
+    #[error("root {root}: an offset lies in no slot")]
     Slot { root: usize },
     /// An allocation was refused.
+    #[error("an allocation was refused")]
     Memory,
 }
 

@@ -21,13 +21,13 @@ impl Model for WellFormed {
 
     ghost view = { λ w. w.forest };
 
-    ghost invariant = { λ w. IsWellFormed w.forest.roots };
+    ghost invariant = { λ w. IsWellFormed w.forest };
 }
 
 impl WellFormed {
     /// A forest of which this is known.
     pub(crate) fn of_forest(forest: Forest) -> Self
-        requires { IsWellFormed forest.roots }
+        requires { IsWellFormed forest }
         ensures { result ≡ forest }
     {
         WellFormed { forest }
@@ -36,7 +36,7 @@ impl WellFormed {
     /// The forest.
     pub fn forest(&self) -> &Forest
         ensures value { result.now ≡ self.now }
-        ensures is { IsWellFormed self.now.roots }
+        ensures is { IsWellFormed self.now }
     {
         &self.forest
     }
@@ -44,7 +44,7 @@ impl WellFormed {
     /// The forest as its own.
     pub fn into_forest(self) -> Forest
         ensures value { result ≡ self }
-        ensures is { IsWellFormed self.roots }
+        ensures is { IsWellFormed self }
     {
         let WellFormed { forest } = self;
         forest
