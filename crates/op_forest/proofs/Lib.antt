@@ -1,5 +1,3 @@
 pub mod Examples
-pub mod Effects
-pub mod Moving
 mod OperandLists
 mod FirstFaults

@@ -2,6 +2,7 @@ pub mod Operators
 pub mod Signature
 pub mod Nodes
 pub mod NodeParts
+pub mod NodeCounts
 pub mod Coding
 pub mod Shape
 pub mod EachNode
@@ -21,6 +22,8 @@ pub mod Actions
 pub mod Begun
 pub mod Further
 pub mod OneRoot
+pub mod Effects
+pub mod Moving
 pub mod Nested
 pub mod Reached
 pub mod Lowered

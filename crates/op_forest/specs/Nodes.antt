@@ -1,10 +1,11 @@
 -- Trees of operators: an operator with its symbol and constant, and no, one or two operands.
 -- Source: Fraser and Hanson, A Retargetable C Compiler, chapter 5.
-use Rattle.std.specs.Prelude.{ℕ, ◌+◌, ℤ, Option, List, [], ◌∷◌}
+use Rattle.std.specs.Prelude.{ℕ, ◌+◌, ℤ, Option, List, [], ◌∷◌, Bool, true, false}
 use Rattle.lburg_grammar.specs.Tree.{MTree, TLeaf, TOne, TTwo}
 use Rattle.op_forest.specs.declared.operator.Operator.{Operator}
 use Rattle.op_forest.specs.declared.sym.Sym.{Sym}
 use Rattle.op_forest.specs.Operators.{number}
+use Rattle.op_forest.specs.Signature.{gives_value}
 
 -- what stands at a node beside its operands
 pub record Head : Type 0 where
@@ -32,6 +33,20 @@ abbrev pub nodes : Node → ℕ
 nodes (Leaf h) = 1
 nodes (One h a) = nodes a + 1
 nodes (Two h a b) = nodes a + nodes b + 1
+
+-- whether the operator gives a value
+abbrev pub gives : Head → Bool
+gives h = gives_value h.operator.op h.operator.suffix
+
+abbrev pub one_where : Bool → ℕ
+one_where true = 1
+one_where false = 0
+
+-- how many nodes give a value
+abbrev pub value_nodes : Node → ℕ
+value_nodes (Leaf h) = one_where (gives h)
+value_nodes (One h a) = value_nodes a + one_where (gives h)
+value_nodes (Two h a b) = value_nodes a + value_nodes b + one_where (gives h)
 
 abbrev pub number_of : Head → ℕ
 number_of h = number h.operator.op h.operator.suffix

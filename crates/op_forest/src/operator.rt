@@ -120,7 +120,7 @@ impl Operator {
     }
 
     /// Whether it gives a value.
-    pub(crate) fn gives_value(self) -> bool
+    pub fn gives_value(self) -> bool
         ensures { result ≡ gives_value self.op self.suffix }
     {
         match self.op {

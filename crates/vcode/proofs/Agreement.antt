@@ -7,7 +7,7 @@ use Rattle.op_forest.specs.Words.{Word}
 use Rattle.op_forest.specs.Worlds.{Next, To, End, Effect, Went, Exits, Unfinished, Stuck, goes, Outcome, Failed}
 use Rattle.op_forest.specs.Rows.{Setting}
 use Rattle.op_forest.specs.Bodies.{evaluate, follow, body_run}
-use Rattle.op_forest.proofs.Moving.{Goes, IsNoJump, no_jump}
+use Rattle.op_forest.specs.Moving.{Goes, IsNoJump, no_jump}
 use Rattle.vcode.specs.Machines.{Machine}
 use Rattle.vcode.specs.Execution.{State, executed}
 use Rattle.vcode.specs.VirtualCode.{joined}

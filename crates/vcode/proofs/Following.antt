@@ -10,8 +10,8 @@ use Rattle.op_forest.specs.Words.{Word}
 use Rattle.op_forest.specs.Worlds.{Point, Move, Next, To, End, Effect, Went, Exits, Unfinished, Stuck, then_do, Outcome}
 use Rattle.op_forest.specs.Rows.{Setting}
 use Rattle.op_forest.specs.Bodies.{evaluate}
-use Rattle.op_forest.proofs.Effects.{stuck_then}
-use Rattle.op_forest.proofs.Moving.{IsNext, goes_to, evaluate_next}
+use Rattle.op_forest.specs.Effects.{stuck_then}
+use Rattle.op_forest.specs.Moving.{IsNext, goes_to, evaluate_next}
 use Rattle.vcode.specs.Machines.{Machine}
 use Rattle.vcode.specs.Execution.{State, executed}
 use Rattle.vcode.specs.VirtualCode.{among}

@@ -9,7 +9,7 @@ use Rattle.op_forest.specs.Words.{Word}
 use Rattle.op_forest.specs.Worlds.{Point, Next, Effect, Went, Stuck, then_do}
 use Rattle.op_forest.specs.Rows.{Setting, does}
 use Rattle.op_forest.specs.Bodies.{evaluate}
-use Rattle.op_forest.proofs.Effects.{then_do_assoc, then_do_same, then_do_unless}
+use Rattle.op_forest.specs.Effects.{then_do_assoc, then_do_same, then_do_unless}
 use Rattle.vcode.specs.Patterns.{Meeting, both, leaves_at, inner, pattern_effect, each_of, is_chain, has_hole, is_steady, all_steady, is_ordered}
 use Rattle.vcode.proofs.Steady.{settled, does_steady}
 

@@ -1,5 +1,4 @@
-use Rattle.std.proofs.Common.{◌≡◌, ◌<◌, ◌-◌, suc, length, slice_index_or, sym, ap, ◌∙◌, subst, arith}
-use Rattle.op_forest.specs.Nodes.{Node}
+use Rattle.std.proofs.Common.{◌≡◌, ◌-◌, suc, subst, arith}
 use Rattle.op_forest.proofs.FirstFaults.{IsKept, none_kept, one_kept, all_well, one_told}
 use Rattle.op_forest.proofs.checking.first_fault.Goals as goal
 
