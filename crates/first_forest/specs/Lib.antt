@@ -1,4 +1,5 @@
 pub mod FirstForest
+pub mod Known
 pub mod Size
 pub mod Meaning
 pub mod WellFormedRoots

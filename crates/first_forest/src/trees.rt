@@ -47,7 +47,7 @@ pub(crate) fn putchar_tree(alloc: Global) -> Tree
 pub(crate) fn over_one(alloc: Global, op: Op, a: Tree) -> Result<Tree, Memory>
     ensures { IfOk result (λ t. t ≡ One (int_head op) a) }
 {
-    let mut kids = Items::new(alloc);
+    let mut kids = Items::with_capacity(alloc, 1)?;
     kids.push(a)?;
     let operator = TreeOperator {
         op,
@@ -60,7 +60,7 @@ pub(crate) fn over_one(alloc: Global, op: Op, a: Tree) -> Result<Tree, Memory>
 fn over_two(alloc: Global, op: Op, a: Tree, b: Tree) -> Result<Tree, Memory>
     ensures { IfOk result (λ t. t ≡ Two (int_head op) a b) }
 {
-    let mut kids = Items::new(alloc);
+    let mut kids = Items::with_capacity(alloc, 2)?;
     kids.push(a)?;
     kids.push(b)?;
     let operator = TreeOperator {

@@ -13,7 +13,7 @@ use Rattle.first_form.specs.FirstForm.{IsFirst}
 use Rattle.first_forest.specs.FirstForest.{expression_node, roots_of, main_of, unit_of}
 use Rattle.first_forest.specs.WellFormedRoots.{well_formed}
 use Rattle.first_forest.specs.Small.{small}
-use Rattle.first_forest.proofs.Known.{each_root}
+use Rattle.first_forest.specs.Known.{each_root}
 use Rattle.op_forest.specs.Nodes.{Node, nodes, head_of}
 use Rattle.op_forest.specs.EachNode.{AtEachNode}
 use Rattle.op_forest.specs.WellFormed.{IsWellFormed}

@@ -10,7 +10,7 @@ use Rattle.first_forest.specs.FirstForest.{main_of, roots_of, unit_of}
 use Rattle.first_forest.specs.Meaning.{IsPrefix, main_run, trace_of, IsRun, IsOver, IsMeant}
 use Rattle.first_forest.specs.Running.{meant}
 use Rattle.first_forest.specs.Small.{small, few}
-use Rattle.first_forest.proofs.Known.{lowered}
+use Rattle.first_forest.specs.Known.{lowered}
 use Rattle.op_forest.specs.Nodes.{nodes}
 use Rattle.op_forest.specs.Words.{Word, Number}
 use Rattle.op_forest.specs.Traces.{output_of, depth_of}

@@ -17,7 +17,7 @@ impl Forest {
     pub fn copied(alloc: Global, forest: &Forest) -> Result<Self, Memory>
         ensures { IfOk result (λ copy. copy ≡ forest.now) }
     {
-        let mut roots = Items::new(alloc);
+        let mut roots = Items::with_capacity(alloc, forest.roots.len())?;
         for root in forest.roots.as_slice() {
             roots.push(Tree::copied(alloc, root)?)?;
         }

@@ -110,7 +110,7 @@ impl Tree {
 pub(crate) fn one_kid(alloc: Global, a: Tree) -> Result<Items<Tree>, Memory>
     ensures { IfOk result (λ kids. kids ≡ a ∷ []) }
 {
-    let mut kids = Items::new(alloc);
+    let mut kids = Items::with_capacity(alloc, 1)?;
     kids.push(a)?;
     Ok(kids)
 }
@@ -119,7 +119,8 @@ pub(crate) fn one_kid(alloc: Global, a: Tree) -> Result<Items<Tree>, Memory>
 pub(crate) fn two_kids(alloc: Global, a: Tree, b: Tree) -> Result<Items<Tree>, Memory>
     ensures { IfOk result (λ kids. kids ≡ a ∷ b ∷ []) }
 {
-    let mut kids = one_kid(alloc, a)?;
+    let mut kids = Items::with_capacity(alloc, 2)?;
+    kids.push(a)?;
     kids.push(b)?;
     Ok(kids)
 }
