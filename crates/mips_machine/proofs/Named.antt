@@ -12,8 +12,7 @@ use Rattle.std.proofs.lemmas.Option.{slice_get-get_or, slice_get_past}
 use Rattle.std.proofs.Math.Seq.{take-suc}
 use Rattle.lcc_text.specs.Names.{with_name}
 use Rattle.asm_text.specs.declared.program.Label.{Label}
-use Rattle.asm_text.specs.Program.{AreDistinct}
-use Rattle.mips_machine.specs.Addresses.{place_of}
+use Rattle.asm_text.specs.Program.{AreDistinct, place_of}
 
 abbrev pub names : List Label → List (List ℕ)
 names ls = map (λ l. l.name) ls

@@ -12,12 +12,18 @@ use Rattle.asm_text.specs.declared.program.Program.{Program}
 use Rattle.asm_text.specs.declared.running.Step.{Step}
 use Rattle.asm_text.specs.declared.running.StuckCause.TheVariants.{BadJump}
 use Rattle.mips_machine.specs.declared.action.Action.{Action}
-use Rattle.mips_machine.specs.Addresses.{code_start, putchar_at, getchar_at}
+use Rattle.mips_machine.specs.Addresses.{code_start, address_of, putchar_at, getchar_at}
+use Rattle.asm_text.specs.Runs.{MStep, IsStuck}
 use Rattle.mips_machine.specs.State.{Cpu}
-use Rattle.mips_machine.specs.StepTable.{MStep, IsStuck, act, act_at, fetched, step, prints, takes}
-use Rattle.mips_machine.specs.Acted.{acted, fetched_from}
+use Rattle.mips_machine.specs.StepTable.{jumps, calls, act, act_at, fetched, step, prints, takes}
+use Rattle.mips_machine.specs.Acted.{acted, address_for, fetched_from}
 use Rattle.mips_machine.specs.Did.{Did}
-use Rattle.mips_machine.specs.Resolved.{resolved, all_resolved}
+use Rattle.mips_machine.specs.Resolved.{destination_by, resolved, all_resolved}
+
+-- a name's address is its destination's
+address_for-by : (cpu : Cpu) (o : Option ℕ) → address_for cpu (destination_by o) ≡ o
+address_for-by cpu None = refl
+address_for-by cpu (Some address) = refl
 
 -- an instruction does what it does with its names resolved
 act-resolved : (p : Program) (order : Order) (cpu : Cpu) (i : Instruction) → act p order cpu i ≡ acted order cpu (resolved p.labels i)
@@ -27,13 +33,13 @@ act-resolved p order cpu (Binary op d s t) = refl
 act-resolved p order cpu (Unary op d s) = refl
 act-resolved p order cpu (Load load.Word d a) = refl
 act-resolved p order cpu (Store store.Word s a) = refl
-act-resolved p order cpu (Branch name) = refl
-act-resolved p order cpu (Jump (target.Label name)) = refl
+act-resolved p order cpu (Branch name) = ap (jumps cpu) (sym (address_for-by cpu (address_of p name)))
+act-resolved p order cpu (Jump (target.Label name)) = ap (jumps cpu) (sym (address_for-by cpu (address_of p name)))
 act-resolved p order cpu (Jump (target.Register r)) = refl
-act-resolved p order cpu (Call (target.Label name)) = refl
+act-resolved p order cpu (Call (target.Label name)) = ap (calls cpu) (sym (address_for-by cpu (address_of p name)))
 act-resolved p order cpu (Call (target.Register r)) = refl
 
-abbrev acted_at : Order → Cpu → Option Action → MStep
+abbrev acted_at : Order → Cpu → Option Action → MStep Cpu
 acted_at order cpu None = IsStuck BadJump cpu.pc
 acted_at order cpu (Some a) = acted order cpu a
 
@@ -54,7 +60,7 @@ act_at-fetched p order cpu actions found all at =
 
 pub Did-fetched : (p : Program) (order : Order) (cpu new : Cpu) (actions : List Action) (a : Action) (result : Step) → actions ≡ all_resolved p → Some a ≡ fetched_from actions cpu.pc → Did (acted order cpu a) cpu new result → Did (act_at p order cpu (fetched p cpu.pc)) cpu new result
 Did-fetched p order cpu new actions a result all at h =
-    subst (λ (s : MStep). Did s cpu new result) (sym (act_at-fetched p order cpu actions (Some a) all at)) h
+    subst (λ (s : MStep Cpu). Did s cpu new result) (sym (act_at-fetched p order cpu actions (Some a) all at)) h
 
 pub fetched-nothing : (p : Program) (order : Order) (cpu : Cpu) (actions : List Action) → actions ≡ all_resolved p → None ≡ fetched_from actions cpu.pc → act_at p order cpu (fetched p cpu.pc) ≡ IsStuck BadJump cpu.pc
 fetched-nothing p order cpu actions all at = act_at-fetched p order cpu actions None all at

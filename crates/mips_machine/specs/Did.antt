@@ -3,9 +3,10 @@ use Rattle.std.specs.Prelude.{◌≡◌}
 use Rattle.asm_text.specs.declared.running.Step.{Step}
 use Rattle.asm_text.specs.declared.running.Step.TheVariants.{Went, Ended, Stuck, StackOut, Failed}
 use Rattle.mips_machine.specs.State.{Cpu}
-use Rattle.mips_machine.specs.StepTable.{MStep, Ends, IsStuck, IsOut, goes}
+use Rattle.asm_text.specs.Runs.{MStep, Ends, IsStuck, IsOut}
+use Rattle.mips_machine.specs.StepTable.{goes}
 
-abbrev pub Did : MStep → Cpu → Cpu → Step → Type 0
+abbrev pub Did : MStep Cpu → Cpu → Cpu → Step → Type 0
 Did s old new Went = s ≡ goes new
 Did s old new (Ended status) = (s ≡ Ends status) × (new ≡ old)
 Did s old new (Stuck cause pc) = (s ≡ IsStuck cause pc) × (new ≡ old)

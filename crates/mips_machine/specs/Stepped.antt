@@ -5,8 +5,9 @@ use Rattle.lcc_base.specs.Faults.{Rose}
 use Rattle.asm_text.specs.declared.running.Input.{Input}
 use Rattle.asm_text.specs.declared.running.Step.{Step}
 use Rattle.asm_text.specs.declared.running.Step.TheVariants.{Went, Ended, Stuck, StackOut, Failed}
+use Rattle.asm_text.specs.Runs.{MStep, Goes, Ends, IsStuck, IsOut}
 use Rattle.mips_machine.specs.State.{Cpu, MMachine}
-use Rattle.mips_machine.specs.StepTable.{MStep, Goes, Ends, IsStuck, IsOut, step}
+use Rattle.mips_machine.specs.StepTable.{step}
 
 -- a machine, its input, the bytes that its output has taken, where it tells, and the output's faults
 pub record Scene : Type 0 where
@@ -19,18 +20,18 @@ abbrev pub scene : MMachine → Input → Option (List ℕ) → ℕ → Scene
 scene machine input taken faults = record { machine = machine; input = input; taken = taken; faults = faults }
 
 -- the step of the table
-abbrev pub step_of : MMachine → Input → MStep
+abbrev pub step_of : MMachine → Input → MStep Cpu
 step_of m input = step m.program m.order m.cpu (drop input.place input.bytes)
 
 -- the bytes that a step prints
-abbrev pub printed_by : MStep → List ℕ
+abbrev pub printed_by : MStep Cpu → List ℕ
 printed_by (Goes cpu printed taken) = printed
 printed_by (Ends status) = []
 printed_by (IsStuck cause pc) = []
 printed_by (IsOut pc) = []
 
 -- The machine is in the next state, that many more bytes of the input are read, and the output took what is printed.
-pub record HasGone (s : MStep) (old new : Scene) : Type 0 where
+pub record HasGone (s : MStep Cpu) (old new : Scene) : Type 0 where
   pub cpu : Cpu
   pub printed : List ℕ
   pub read : ℕ
@@ -41,7 +42,7 @@ pub record HasGone (s : MStep) (old new : Scene) : Type 0 where
 
 -- The output's faults rose where the step prints. The machine and the input are as before, and the output took
 -- nothing.
-pub record HasFailed (s : MStep) (old new : Scene) : Type 0 where
+pub record HasFailed (s : MStep Cpu) (old new : Scene) : Type 0 where
   pub prints : printed_by s ≢ []
   pub machine : new.machine ≡ old.machine
   pub input : new.input ≡ old.input
@@ -49,7 +50,7 @@ pub record HasFailed (s : MStep) (old new : Scene) : Type 0 where
   pub cause : Rose old.faults new.faults
 
 -- all is as before but where a step went or failed
-abbrev pub IsStepped : MStep → Scene → Scene → Step → Type 0
+abbrev pub IsStepped : MStep Cpu → Scene → Scene → Step → Type 0
 IsStepped s old new Went = HasGone s old new
 IsStepped s old new (Ended status) = (s ≡ Ends status) × (new ≡ old)
 IsStepped s old new (Stuck cause pc) = (s ≡ IsStuck cause pc) × (new ≡ old)

@@ -20,4 +20,6 @@ pub enum Destination {
     Address(u32),
     /// To the address in the register.
     Register(Register),
+    /// Nowhere: the name has no address.
+    Nowhere,
 }

@@ -1,6 +1,6 @@
 ghost use Rattle.std.specs.Prelude.{◌≡◌, ◌≤◌, All, IfOk, IfSome, map};
-ghost use Rattle.asm_text.specs.Program.{AreDistinct};
-ghost use Rattle.mips_machine.specs.Addresses.{place_of, address_by};
+ghost use Rattle.asm_text.specs.Program.{AreDistinct, place_of};
+ghost use Rattle.mips_machine.specs.Addresses.{address_by, built_in_at};
 
 use crate::addresses::{CODE_START, PUTCHAR_AT};
 use asm_text::Label;
@@ -54,13 +54,25 @@ impl<'a> Labels<'a> {
         }
     }
 
-    /// The address of a name: that of its label, or of the built-in function.
-    pub fn address(&self, name: &'a [u8]) -> u32
-        ensures { result ≡ address_by (place_of self.now name.now) }
+    /// The address of a name: that of its label, or else of the built-in function of this name.
+    /// None where it is neither's.
+    pub fn address(&self, name: &'a [u8]) -> Option<u32>
+        ensures { result ≡ address_by name.now (place_of self.now name.now) }
     {
         match self.place(name) {
-            Some(place) => CODE_START + 4 * place,
-            None => PUTCHAR_AT,
+            Some(place) => Some(CODE_START + 4 * place),
+            None => built_in(name),
         }
+    }
+}
+
+/// The address of the built-in function of this name, if texts can name it.
+fn built_in(name: &[u8]) -> Option<u32>
+    ensures { result ≡ built_in_at name.now }
+{
+    if name == b"putchar".as_slice() {
+        Some(PUTCHAR_AT)
+    } else {
+        None
     }
 }

@@ -1,5 +1,5 @@
-ghost use Rattle.std.specs.Prelude.{◌≡◌, ℕ, ◌≤◌, IfOk, IfErr, IsErrOf};
-ghost use Rattle.asm_text.specs.IsProgram.{IsProgram};
+ghost use Rattle.std.specs.Prelude.{◌≡◌, ℕ, ◌≤◌, length, All, IfOk, IfErr, IsErrOf};
+ghost use Rattle.asm_text.specs.Program.{AreDistinct, IsWithinLimit};
 ghost use Rattle.mips_machine.specs.Resolved.{all_resolved};
 ghost use Rattle.mips_machine.specs.Run.{HasMain, first_cpu};
 
@@ -18,7 +18,9 @@ use std::alloc::Global;
 /// `NoMain` comes where no label is `main`, and `Memory` where an allocation was refused. After an
 /// error the program is gone.
 pub fn load(alloc: Global, program: Program, order: Order, stack: u32) -> Result<Machine, LoadFault>
-    requires program { IsProgram program }
+    requires limit { IsWithinLimit program }
+    requires within { All (λ l. l.place ≤ length program.code) program.labels }
+    requires distinct { AreDistinct program.labels }
     requires least { 4096 ≤ stack }
     requires most { stack ≤ 16777216 }
     ensures loaded { IfOk result (λ m. (main : ℕ) × HasMain program main × (m ≡ record { program = program; order = order; cpu = first_cpu stack main })) }
@@ -33,7 +35,9 @@ pub fn load(alloc: Global, program: Program, order: Order, stack: u32) -> Result
 
 /// The place of `main`, and the code with its names as addresses.
 fn resolved_code(alloc: Global, program: &Program) -> Result<(u32, Vec<Action>), LoadFault>
-    requires { IsProgram program.now }
+    requires limit { IsWithinLimit program.now }
+    requires within { All (λ l. l.place ≤ length program.now.code) program.now.labels }
+    requires distinct { AreDistinct program.now.labels }
     ensures main { IfOk result (λ r. HasMain program.now r.0) }
     ensures within { IfOk result (λ r. r.0 ≤ 4194304) }
     ensures code { IfOk result (λ r. r.1.items ≡ all_resolved program.now) }

@@ -1,7 +1,9 @@
 ghost use Rattle.std.specs.Prelude.{◌≡◌, ℕ, ◌+◌, ◌-◌, ◌%◌, ◌<◌, ◌≤◌, length, vec_len, slice_set, IfOk, IfErr};
 ghost use Rattle.mips_machine.specs.Addresses.{data_start, floor_of};
 ghost use Rattle.mips_machine.specs.Memory.{word_at, with_word};
-ghost use Rattle.mips_machine.specs.StepTable.{MStep, IsStuck, goes, next, register, returned, lost, without, combined, changed, operand_of, address_in, accesses, writes};
+ghost use Rattle.asm_text.specs.Runs.{MStep};
+ghost use Rattle.mips_machine.specs.State.{Cpu};
+ghost use Rattle.mips_machine.specs.StepTable.{goes, next, register, returned, lost, without, jumps, calls, combined, changed, operand_of, address_in, accesses, writes};
 ghost use Rattle.mips_machine.specs.Run.{first_registers};
 ghost use Rattle.mips_machine.specs.Acted.{acted, address_for};
 ghost use Rattle.mips_machine.specs.Did.{Did};
@@ -111,9 +113,9 @@ impl Processor {
 
     /// The place of a word in the stack, by its address, or the answer where it can't be accessed.
     fn place(&self, a: Address) -> Result<usize, Step>
-        ensures place { IfOk result (λ p. (done : ℕ → MStep) → accesses self.now (address_in self.now a) done ≡ done p) }
+        ensures place { IfOk result (λ p. (done : ℕ → MStep Cpu) → accesses self.now (address_in self.now a) done ≡ done p) }
         ensures within { IfOk result (λ p. p + 4 ≤ length self.now.stack) }
-        ensures cause { IfErr result (λ step. (done : ℕ → MStep) → Did (accesses self.now (address_in self.now a) done) self.now self.now step) }
+        ensures cause { IfErr result (λ step. (done : ℕ → MStep Cpu) → Did (accesses self.now (address_in self.now a) done) self.now self.now step) }
     {
         let address = self.get(a.base).wrapping_add(a.offset);
         let floor = self.floor();
@@ -169,31 +171,43 @@ impl Processor {
         }
     }
 
-    /// The address of a destination.
-    fn address_of(&self, to: Destination) -> u32
+    /// The address of a destination, if it has one.
+    fn address_of(&self, to: Destination) -> Option<u32>
         ensures { result ≡ address_for self.now to }
     {
         match to {
-            Destination::Address(address) => address,
-            Destination::Register(r) => self.get(r),
+            Destination::Address(address) => Some(address),
+            Destination::Register(r) => Some(self.get(r)),
+            Destination::Nowhere => None,
         }
     }
 
     /// Goes on at the destination.
-    fn jump(&mut self, to: Destination)
-        ensures { self.new ≡ record self.old { pc = address_for self.old to } }
+    fn jump(&mut self, to: Destination) -> Step
+        ensures { Did (jumps self.old (address_for self.old to)) self.old self.new result }
     {
-        self.pc = self.address_of(to);
+        match self.address_of(to) {
+            Some(address) => {
+                self.pc = address;
+                Step::Went
+            }
+            None => Step::Stuck(StuckCause::BadJump, self.pc),
+        }
     }
 
     /// `$31` gets the address behind this instruction, and it goes on at the destination.
-    fn call(&mut self, to: Destination)
+    fn call(&mut self, to: Destination) -> Step
         requires { self.old.pc < data_start }
-        ensures { self.new ≡ record self.old { registers = slice_set self.old.registers 31 (self.old.pc + 4); pc = address_for self.old to } }
+        ensures { Did (calls self.old (address_for self.old to)) self.old self.new result }
     {
-        let address = self.address_of(to);
-        self.registers[31] = self.pc + 4;
-        self.pc = address;
+        match self.address_of(to) {
+            Some(address) => {
+                self.registers[31] = self.pc + 4;
+                self.pc = address;
+                Step::Went
+            }
+            None => Step::Stuck(StuckCause::BadJump, self.pc),
+        }
     }
 
     /// Does what the instruction at this address says.
@@ -210,14 +224,8 @@ impl Processor {
             Action::Unary(op, d, s) => self.write(*d, change(*op, self.get(*s))),
             Action::Load(LoadOp::Word, d, a) => self.load(order, *d, *a),
             Action::Store(StoreOp::Word, s, a) => self.store(order, *s, *a),
-            Action::Jump(to) => {
-                self.jump(*to);
-                Step::Went
-            }
-            Action::Call(to) => {
-                self.call(*to);
-                Step::Went
-            }
+            Action::Jump(to) => self.jump(*to),
+            Action::Call(to) => self.call(*to),
         }
     }
 
