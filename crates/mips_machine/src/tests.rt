@@ -1,10 +1,10 @@
-ghost use Rattle.std.specs.Prelude.{◌≡◌, ◌≢◌, ◌<◌, ◌≤◌, codes, length, vec_len, IfOk};
-ghost use Rattle.asm_text.specs.IsProgram.{IsProgram};
+ghost use Rattle.std.specs.Prelude.{◌≡◌, ◌≢◌, ◌<◌, ◌≤◌, codes, length, vec_len, All, IfOk};
+ghost use Rattle.asm_text.specs.Program.{AreDistinct, IsWithinLimit};
 
 use crate::{LoadFault, Machine, load};
 use asm_text::{
-    Address, BinaryOp, Input, Instruction, Label, LoadOp, Operand, Program, Register, Step,
-    StoreOp, StuckCause, Target, UnaryOp,
+    Address, BinaryOp, Input, Instruction, Isa, Label, LoadOp, Operand, Program, Register, Step,
+    StoreOp, StuckCause, Target, UnaryOp, read,
 };
 use lcc_base::{Bytes, Items, MemSink, Memory, Order, Sink};
 use std::alloc::Global;
@@ -88,7 +88,9 @@ fn program(alloc: Global, code: Vec<Instruction>, first: &[u8], f: u32) -> Resul
     requires few { vec_len code ≤ 100 }
     requires f { f ≤ vec_len code }
     requires first { first.now ≢ codes "f" }
-    ensures { IfOk result IsProgram }
+    ensures limit { IfOk result (λ p. IsWithinLimit p) }
+    ensures within { IfOk result (λ p. All (λ l. l.place ≤ length p.code) p.labels) }
+    ensures distinct { IfOk result (λ p. AreDistinct p.labels) }
 {
     let mut labels = Items::new(alloc);
     labels.push(label(alloc, first, 0)?)?;
@@ -308,5 +310,32 @@ fn a_program_has_a_main(rt: HostRuntime) -> Result<(), Fail> {
     let code = vec![in alloc; back()]?;
     let result = load(alloc, program(alloc, code, b"start", 1)?, Order::Big, 4096);
     assert!(rt; matches!(result, Err(LoadFault::NoMain)));
+    Ok(())
+}
+
+#[test]
+fn names_that_are_not_known_are_stuck(rt: HostRuntime) -> Result<(), Fail> {
+    let alloc = rt.alloc();
+    let want = Step::Stuck(StuckCause::BadJump, 0x0040_0004);
+    let call = Instruction::Call(Target::Label(Bytes::copied(alloc, b"g")?));
+    let code = vec![in alloc; li(8, 1), call]?;
+    assert_eq!(rt; answer(alloc, Order::Big, code)?, want);
+    let branch = Instruction::Branch(Bytes::copied(alloc, b"exit")?);
+    let code = vec![in alloc; li(8, 1), branch]?;
+    assert_eq!(rt; answer(alloc, Order::Big, code)?, want);
+    Ok(())
+}
+
+#[test]
+fn a_program_that_was_read_is_loaded(rt: HostRuntime) -> Result<(), Fail> {
+    let alloc = rt.alloc();
+    let program = read(alloc, Isa::Mips, b"main: j $31")?;
+    let mut machine = load(alloc, program, Order::Little, 4096)?;
+    let mut input = Input {
+        bytes: Bytes::new(alloc),
+        place: 0,
+    };
+    let mut out = MemSink::new(alloc, Vec::new(alloc));
+    assert_eq!(rt; end_of(&mut machine, &mut input, &mut out), Step::Ended(0));
     Ok(())
 }
