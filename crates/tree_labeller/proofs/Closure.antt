@@ -1,6 +1,12 @@
 -- The closing of a row, a cell at a time.
-use Rattle.std.proofs.Common.{◌≡◌, ◌≢◌, ℕ, zero, suc, ◌+◌, ◌*◌, ◌<◌, ◌≤◌, ◌⊎◌, inl, inr, ⊎_elim, Option, Some, None, List, [], ◌∷◌, length, refl, sym, ap, ◌∙◌, subst, arith, length-set, true, false, get_or, Bool}
-use Rattle.std.specs.Prelude.{slice_get, slice_set, cond}
+use Rattle.std.proofs.Common.{◌≡◌, ◌≢◌, ℕ, zero, suc, ◌+◌, ◌<◌, ◌≤◌, ◌⊎◌, inl, inr, ⊎_elim, Option, Some, None, List, [], ◌∷◌, length, refl, sym, ap, ◌∙◌, subst, arith, length-set, true, false, get_or, Bool}
+use Rattle.std.specs.Prelude.{slice_set, cond, ◌==◌, if◌then◌else◌}
+use Rattle.std.proofs.lemmas.Bool.Decides.{eqb_tells}
+use Rattle.std.proofs.lemmas.List.{get_or-set_other}
+use Rattle.lburg_grammar.specs.Pattern.{MPattern, PHole, PLeaf, POne, PTwo, pattern_of}
+use Rattle.tree_labeller.specs.declared.places.Root.TheVariants.{Chain}
+use Rattle.tree_labeller.specs.Root.{root_weight, with_root}
+use Rattle.tree_labeller.specs.Tries.{cell_weight, chain_tries_of, chain_tries}
 use Rattle.tree_labeller.specs.declared.cells.Cell.{Cell}
 use Rattle.lburg_grammar.specs.declared.rule.Rule.{Rule}
 use Rattle.tree_labeller.specs.Row.{CellAt, Leq, LeastOpen, IsChain, made_from, Spread, done_weight, dones, Same, FromChain, Closed, AreCheap, IsCheap, Everywhere}
@@ -36,6 +42,48 @@ dones_alike [] [] h w = refl
 dones_alike [] (y ∷ ys) h w = absurd (omega arith)
 dones_alike (x ∷ xs) [] h w = absurd (omega arith)
 dones_alike (x ∷ xs) (y ∷ ys) h w = let d = w 0 in let e = dones_alike xs ys (omega arith) (λ k. w (suc k)) in omega arith
+
+-- 1 for the pattern of a chain rule that was tried, else 0
+abbrev pub chain_done : List (Option Cell) → MPattern → ℕ
+chain_done row (PHole n) = done_weight (get_or row n None)
+chain_done row (PLeaf op) = 0
+chain_done row (POne op p) = 0
+chain_done row (PTwo op p q) = 0
+
+-- how many chain rules were tried
+abbrev pub chains_done : List (Option Cell) → List Rule → ℕ
+chains_done row [] = 0
+chains_done row (r ∷ rs) = chain_done row (pattern_of r.pattern) + chains_done row rs
+
+-- none at the start
+pub none_done : (row : List (Option Cell)) → ((n : ℕ) (b : Cell) → CellAt row n b → b.done ≡ false) → (rs : List Rule) → chains_done row rs ≡ 0
+none_done row fresh [] = refl
+none_done row fresh (r ∷ rs) = let a = of (pattern_of r.pattern) in let b = none_done row fresh rs in omega arith
+  where
+    by_cell : (n : ℕ) (o : Option Cell) → get_or row n None ≡ o → done_weight o ≡ 0
+    by_cell n None e = refl
+    by_cell n (Some c) e = weight_open c (fresh n c e)
+
+    of : (p : MPattern) → chain_done row p ≡ 0
+    of (PHole n) = by_cell n (get_or row n None) refl
+    of (PLeaf op) = refl
+    of (POne op p) = refl
+    of (PTwo op p q) = refl
+
+-- in the end those from each cell
+pub all_done : (row : List (Option Cell)) → LeastOpen row None → (rs : List Rule) → chains_done row rs ≡ chain_tries row rs
+all_done row done [] = refl
+all_done row done (r ∷ rs) = let a = of (pattern_of r.pattern) in let b = all_done row done rs in omega arith
+  where
+    by_cell : (n : ℕ) (o : Option Cell) → get_or row n None ≡ o → done_weight o ≡ cell_weight o
+    by_cell n None e = refl
+    by_cell n (Some c) e = weight_done c (done n c e)
+
+    of : (p : MPattern) → chain_done row p ≡ chain_tries_of row p
+    of (PHole n) = by_cell n (get_or row n None) refl
+    of (PLeaf op) = refl
+    of (POne op p) = refl
+    of (PTwo op p q) = refl
 
 abbrev pub finish : Cell → Cell
 finish c = record { cost = c.cost; count = c.count; rule = c.rule; done = true }
@@ -217,6 +265,36 @@ module _ (rules : List Rule) (old row : List (Option Cell)) (s : Closing rules o
   dones2 : dones row2 ≡ dones row + 1
   dones2 = dones_alike row2 row1 sp.same_length alike ∙ dones_set row m c (finish c) least.0 least.1 refl
 
+  -- one cell more is done
+  weight2 : (n : ℕ) → done_weight (get_or row2 n None) ≡ done_weight (get_or row n None) + (if n == m then 1 else 0)
+  weight2 n =
+      let like = alike n in
+      ⊎_elim
+      (λ same.
+      let F : ℕ → Type 0 = λ z. done_weight (get_or row1 z None) ≡ done_weight (get_or row z None) + 1 in
+      let new = ap done_weight (stored row m (finish c) in_row) in
+      let old = ap done_weight least.0 ∙ weight_open c least.1 in
+      let here : F m = omega arith in
+      let there = subst F (sym same.1) here in
+      let test : ◌≡◌ {A = ℕ} (if n == m then 1 else 0) 1 = ap (λ (b : Bool). if b then 1 else 0) same.0 in
+      omega arith)
+      (λ other.
+      let left = ap done_weight (get_or-set_other row m n (Some (finish c)) None other.1) in
+      let test : ◌≡◌ {A = ℕ} (if n == m then 1 else 0) 0 = ap (λ (b : Bool). if b then 1 else 0) other.0 in
+      omega arith)
+      (eqb_tells n m)
+
+  done_of : (p : MPattern) → chain_done row2 p ≡ chain_done row p + root_weight (Chain m) p
+  done_of (PHole n) = weight2 n
+  done_of (PLeaf op) = refl
+  done_of (POne op p) = refl
+  done_of (PTwo op p q) = refl
+
+  -- the chain rules from the cell were tried besides
+  pub more_done : (rs : List Rule) → chains_done row2 rs ≡ chains_done row rs + with_root (Chain m) rs
+  more_done [] = refl
+  more_done (r ∷ rs) = let a = done_of (pattern_of r.pattern) in let b = more_done rs in omega arith
+
   many2 : (base : ℕ) → ((n : ℕ) (b : Cell) → CellAt old n b → b.count ≤ base) → (n : ℕ) (z : Cell) → CellAt row2 n z → z.count ≤ base + dones row2
   many2 base h n z at =
       let a = s.many base h m c least.0 in
@@ -256,26 +334,3 @@ module _ (rules : List Rule) (old row : List (Option Cell)) (s : Closing rules o
 
   pub progress : (dones row2 ≡ dones row + 1) × (dones row2 ≤ length row2) × (length row2 ≡ length row)
   progress = (dones2, dones_le row2, sp.same_length ∙ length-set row m (Some (finish c)))
-
--- as many cells are done as stand below a bound, at most
-pub dones_below : (row : List (Option Cell)) (q : ℕ) → ((n : ℕ) (c : Cell) → CellAt row n c → n < q) → dones row ≤ q
-dones_below [] q h = omega arith
-dones_below (None ∷ xs) zero h = let a = dones_below xs zero (λ n c at. absurd (let f = h (suc n) c at in omega arith)) in omega arith
-dones_below (Some x ∷ xs) zero h = absurd (let f = h zero x refl in omega arith)
-dones_below (x ∷ xs) (suc q) h =
-    let a = dones_below xs q (λ n c at. (let f = h (suc n) c at in omega arith)) in
-    omega (arith, weight_le x)
-
--- no chain rule makes a cell above its left side's bound
-pub below_kept : (rules : List Rule) (old row : List (Option Cell)) (q : ℕ) → ((i : ℕ) (r : Rule) → slice_get rules i ≡ Some r → r.left < q) → ((n : ℕ) (c : Cell) → CellAt old n c → n < q) → Closing rules old row → (n : ℕ) (c : Cell) → CellAt row n c → n < q
-below_kept rules old row q lefts below s n c at =
-    ⊎_elim
-    (λ (b, atb, same). below n b atb)
-    (λ (f, d). let l = lefts f.place f.rule f.chain.0 in let e = f.left in omega arith)
-    (s.made n c at)
-
-pub more_steps : (a b e d d' m : ℕ) → b ≤ a + d * m → e ≤ b + m → d' ≡ d + 1 → e ≤ a + d' * m
-more_steps a b e d d' m h k f = grind arith
-
-pub most_steps : (a b d q m : ℕ) → b ≤ a + d * m → d ≤ q → b ≤ a + q * m
-most_steps a b d q m h k = let f : d * m ≤ q * m = grind arith in omega arith

@@ -9,9 +9,9 @@ use Rattle.lburg_grammar.specs.Description.{MDescription, IsDescription, FitsIn,
 use Rattle.tree_labeller.specs.declared.places.Root.{Root}
 use Rattle.tree_labeller.specs.declared.places.Root.TheVariants.{Chain, Operator}
 use Rattle.tree_labeller.specs.declared.places.Index.{Index}
-use Rattle.tree_labeller.specs.ChainRules.{chain_rules, chain_weight}
-use Rattle.tree_labeller.specs.Root.{root_of, most_with, ArePlaces, items_of, places_in, AreLists}
-use Rattle.tree_labeller.specs.IsIndex.{IsIndexOf}
+use Rattle.tree_labeller.specs.Root.{root_of, ArePlaces, items_of, places_in, AreLists}
+use Rattle.tree_labeller.specs.IsIndex.{IsIndex}
+use Rattle.tree_labeller.proofs.Weights.{weight_one, weight_none, with_more, with_none}
 
 module _ {A : Type 0} where
   front : (xs : List A) (y : A) (j : ℕ) (x : A) → slice_get xs j ≡ Some x → slice_get (xs ++ y ∷ []) j ≡ Some x
@@ -29,26 +29,8 @@ module _ {A : Type 0} where
   front_or_last (z ∷ xs) y zero x e = inl e
   front_or_last (z ∷ xs) y (suc j) x e = ⊎_elim (λ l. inl l) (λ r. inr (ap suc r.0, r.1)) (front_or_last xs y j x e)
 
-chains_more : (rs : List Rule) (r : Rule) → chain_rules (rs ++ r ∷ []) ≡ chain_rules rs + chain_weight (pattern_of r.pattern)
-chains_more [] r = omega arith
-chains_more (q ∷ rs) r = omega (arith, chains_more rs r)
-
-most_more : (root : Root) (rs : List Rule) (r : Rule) → most_with root rs ≤ most_with root (rs ++ r ∷ [])
-most_more (Chain n) rs r = omega (arith, chains_more rs r)
-most_more (Operator op) rs r = omega (arith, length-append rs (r ∷ []))
-
-weight_of : (p : MPattern) (n : ℕ) → root_of p ≡ Chain n → chain_weight p ≡ 1
-weight_of (PHole m) n e = refl
-weight_of (PLeaf op) n e = cc
-weight_of (POne op p) n e = cc
-weight_of (PTwo op p q) n e = cc
-
-most_one_more : (root : Root) (rs : List Rule) (r : Rule) → root_of (pattern_of r.pattern) ≡ root → most_with root rs + 1 ≤ most_with root (rs ++ r ∷ [])
-most_one_more (Chain n) rs r e = omega (arith, chains_more rs r, weight_of (pattern_of r.pattern) n e)
-most_one_more (Operator op) rs r e = omega (arith, length-append rs (r ∷ []))
-
 pub no_places : (root : Root) → ArePlaces [] root []
-no_places root = record { only = λ k i e. cc; all = λ i r e f. cc; few = omega arith }
+no_places root = record { only = λ k i e. cc; all = λ i r e f. cc; many = refl }
 
 pub place_more : (rs : List Rule) (r : Rule) (root : Root) (places : List ℕ) → ArePlaces rs root places → root_of (pattern_of r.pattern) ≡ root → ArePlaces (rs ++ r ∷ []) root (places ++ length rs ∷ [])
 place_more rs r root places s here = record {
@@ -62,7 +44,7 @@ place_more rs r root places s here = record {
       (λ l. let o = s.all i q l f in (o.0, front places (length rs) o.0 i o.1))
       (λ l. (length places, last places (length rs) ∙ ap Some (sym l.0)))
       (front_or_last rs r i q e);
-  few = omega (arith, s.few, most_one_more root rs r here, length-append places (length rs ∷ []));
+  many = omega (arith, s.many, with_more root rs r, weight_one root (pattern_of r.pattern) here, length-append places (length rs ∷ []));
 }
 
 pub place_other : (rs : List Rule) (r : Rule) (root : Root) (places : List ℕ) → ArePlaces rs root places → (root_of (pattern_of r.pattern) ≡ root → ⊥) → ArePlaces (rs ++ r ∷ []) root places
@@ -73,7 +55,7 @@ place_other rs r root places s other = record {
       (λ l. s.all i q l f)
       (λ l. absurd (other (ap (λ (z : Rule). root_of (pattern_of z.pattern)) l.1 ∙ f)))
       (front_or_last rs r i q e);
-  few = omega (arith, s.few, most_more root rs r);
+  many = omega (arith, s.many, with_more root rs r, weight_none root (pattern_of r.pattern) other);
 }
 
 there : (lists : List (List ℕ)) (places : List ℕ) (n : ℕ) → n < length lists → slice_get (lists ++ places ∷ []) n ≡ slice_get lists n
@@ -109,7 +91,7 @@ beyond (x ∷ xs) (suc n) h = beyond xs n (omega arith)
 
 -- no place where no rule has the root
 none_there : (rules : List Rule) (root : Root) → ((i : ℕ) (r : Rule) → slice_get rules i ≡ Some r → root_of (pattern_of r.pattern) ≡ root → ⊥) → ArePlaces rules root []
-none_there rules root no_rule = record { only = λ k i e. cc; all = λ i r e f. absurd (no_rule i r e f); few = omega arith }
+none_there rules root no_rule = record { only = λ k i e. cc; all = λ i r e f. absurd (no_rule i r e f); many = sym (with_none root rules no_rule) }
 
 pub all_lists : (rules : List Rule) (kind : ℕ → Root) (count : ℕ) (lists : List (List ℕ)) → AreLists rules kind count lists → ((n i : ℕ) (r : Rule) → slice_get rules i ≡ Some r → root_of (pattern_of r.pattern) ≡ kind n → n < count) → (n : ℕ) → ArePlaces rules (kind n) (places_in lists n)
 all_lists rules kind count lists s below n =
@@ -137,12 +119,8 @@ chain_below d (PLeaf op) n f e = cc
 chain_below d (POne op p) n f e = cc
 chain_below d (PTwo op p q) n f e = cc
 
-pub index_is : (d : MDescription) (index : Index) → IsDescription d → AreLists d.rules Operator (length d.terminals + 1) index.operators → AreLists d.rules Chain (length d.nonterminals) index.chains → IsIndexOf d index
+pub index_is : (d : MDescription) (index : Index) → IsDescription d → AreLists d.rules Operator (length d.terminals + 1) index.operators → AreLists d.rules Chain (length d.nonterminals) index.chains → IsIndex d.rules index
 index_is d index is operators chains = record {
-  index = record {
-    operators = all_lists d.rules Operator _ index.operators operators (λ n i r e f. operator_below d (pattern_of r.pattern) n (is.rules i r e).fits f);
-    chains = all_lists d.rules Chain _ index.chains chains (λ n i r e f. chain_below d (pattern_of r.pattern) n (is.rules i r e).fits f);
-    lefts = λ i r e. let l = (is.rules i r e).left in let m = chains.many in omega arith;
-  };
-  chains_count = chains.many;
+  operators = all_lists d.rules Operator _ index.operators operators (λ n i r e f. operator_below d (pattern_of r.pattern) n (is.rules i r e).fits f);
+  chains = all_lists d.rules Chain _ index.chains chains (λ n i r e f. chain_below d (pattern_of r.pattern) n (is.rules i r e).fits f);
 }

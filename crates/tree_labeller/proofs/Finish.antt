@@ -173,9 +173,6 @@ module _ (rows : List Row) (d : List Rule) (w at : ℕ) (t : MTree) (cells0 : Li
   pub bound_fresh : (n : ℕ) (b : Cell) → CellAt cells0 n b → b.done ≡ false
   bound_fresh n b atb = let (j, r, k, is, left, tot, eq) = started.made n b atb in ap (λ (z : Cell). z.done) eq
 
-  pub bound_below : (q : ℕ) → ((j : ℕ) (r : Rule) → slice_get d j ≡ Some r → r.left < q) → (n : ℕ) (b : Cell) → CellAt cells0 n b → n < q
-  bound_below q lefts n b atb = let (j, r, k, is, left, tot, eq) = started.made n b atb in let l = lefts j r is in omega arith
-
 -- a write leaves the other rows
 pub other_row : (rows : List Row) (at : ℕ) (row : Row) (i : ℕ) → i ≢ at → slice_get (slice_set rows at row) i ≡ slice_get rows i
 other_row [] at row i ne = refl
@@ -296,6 +293,12 @@ module _ (rows : List Row) (d : List Rule) (places : List ℕ) (at : ℕ) (t : M
             ⊎_elim (λ e. (i, r, k, is, sym e.0, tot, e.1)) (λ e. s.made n c e.1) (cell_after cells r.left n new c h atc);
         closed = closed_on cells _ x i r k s here is tot (λ n b atb. write_lowers cells r.left n new b h beats atb) (new, stored cells r.left new h, leq_refl new);
       }
+
+-- the cells of a row that was stored
+pub own_cells : (rows : List Row) (at : ℕ) (row : Row) (cells : List (Option Cell)) → at < length rows → row.cells.items ≡ cells → (n : ℕ) → cell (slice_set rows at row) at n ≡ slice_index_or cells n None
+own_cells rows at row cells h is n =
+    let here = slice_get-get_or (slice_set rows at row) at row (let e = length-set rows at row in omega arith) ∙ ap Some (get_or-set_same rows at row row h) in
+    ap (λ (o : Option Row). slice_index_or (cells_of o) n None) here ∙ ap (λ (l : List (Option Cell)). slice_index_or l n None) is
 
 -- the tree's rows, after its own was stored
 pub stored_row : (rows : List Row) (d : List Rule) (w at : ℕ) (t : MTree) (cells : List (Option Cell)) (row : Row) → KidsLabelled rows d w at t → Filled rows d at t w cells → row.cells.items ≡ cells → row.end ≡ at + nodes t → AreCheap d → at < length rows → Labelled (slice_set rows at row) d w at t

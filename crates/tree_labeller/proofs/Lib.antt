@@ -7,7 +7,8 @@ pub mod Follows
 pub mod Greatest
 pub mod Visits
 pub mod Roots
-pub mod StepBounds
+pub mod Weights
+pub mod Counting
 pub mod Erased
 pub mod Cover
 pub mod Collected

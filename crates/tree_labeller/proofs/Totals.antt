@@ -1,12 +1,12 @@
 -- What the rows say of a tree.
-use Rattle.std.proofs.Common.{◌≡◌, ℕ, ◌+◌, ◌*◌, ◌<◌, ◌≤◌, Option, Some, None, List, length, refl, sym, ap, arith}
-use Rattle.std.specs.Prelude.{slice_get, ◌==◌, true, false, Bool, if◌then◌else◌, IfSome}
+use Rattle.std.proofs.Common.{◌≡◌, ℕ, ◌+◌, ◌*◌, ◌<◌, ◌≤◌, Option, Some, None, List, refl, sym, ap, arith}
+use Rattle.std.specs.Prelude.{◌==◌, true, false, Bool, if◌then◌else◌, IfSome}
 use Rattle.std.proofs.lemmas.Bool.{eqb-true}
 use Rattle.tree_labeller.specs.declared.cells.Cell.{Cell}
 use Rattle.tree_labeller.specs.declared.cells.Key.{Key}
 use Rattle.tree_labeller.specs.declared.cells.Row.{Row}
 use Rattle.lburg_grammar.specs.declared.rule.Rule.{Rule}
-use Rattle.lburg_grammar.specs.Tree.{MTree, TLeaf, TOne, TTwo, nodes, kids_of}
+use Rattle.lburg_grammar.specs.Tree.{MTree, TLeaf, TOne, TTwo, nodes}
 use Rattle.lburg_grammar.specs.Pattern.{MPattern, PHole, PLeaf, POne, PTwo}
 use Rattle.tree_labeller.specs.Labelled.{key_of, add, cell, area, Sound, Labelled, KidsLabelled, Ready}
 

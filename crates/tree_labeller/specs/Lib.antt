@@ -4,6 +4,8 @@ pub mod Labelled
 pub mod Runs
 pub mod Reduced
 pub mod ChainRules
+pub mod Trials
+pub mod Tries
 pub mod Root
 pub mod AreRules
 pub mod IsIndex

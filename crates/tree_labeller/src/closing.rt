@@ -2,7 +2,9 @@ ghost use Rattle.std.specs.Prelude.{◌≡◌, ℕ, ◌+◌, ◌*◌, ◌^◌, �
 ghost use Rattle.tree_labeller.specs.Row.{CellAt, Relaxed, Leq, LeastOpen, Spread, IsBetter, AreCheap, IsCheap, Closed, Everywhere};
 ghost use Rattle.tree_labeller.specs.AreRules.{AreRules};
 ghost use Rattle.tree_labeller.specs.IsIndex.{IsIndex};
-ghost use Rattle.tree_labeller.specs.ChainRules.{chain_rules};
+ghost use Rattle.tree_labeller.specs.Root.{with_root};
+ghost use Rattle.tree_labeller.specs.Tries.{chain_tries};
+ghost use Rattle.tree_labeller.specs.declared.places.Root.TheVariants.{Chain};
 
 use crate::cells::Cell;
 use crate::places::Index;
@@ -70,8 +72,7 @@ fn spread<L: Ledger>(
     requires cheap { from.cost < 2 ^ 63 }
     requires short { from.count < 2 ^ 63 }
     ensures spread { Spread rules.now m from row.old row.new Everywhere }
-    ensures steps { steps.new ≤ steps.old + chain_rules rules.now }
-    ensures kept { steps.old ≤ steps.new }
+    ensures steps { steps.new ≡ steps.old + with_root (Chain m) rules.now }
 {
     let places = index.chains_from(rules, m);
     for k in 0..places.len() {
@@ -103,10 +104,8 @@ pub fn close_row<L: Ledger>(
     requires fresh { (n : ℕ) (c : Cell) → CellAt row.old n c → c.done ≡ false }
     requires short { (n : ℕ) (c : Cell) → CellAt row.old n c → c.count ≤ 2 ^ 46 }
     requires cheap { IsCheap row.old }
-    requires below { (n : ℕ) (c : Cell) → CellAt row.old n c → n < length index.now.chains }
     ensures closed { Closed rules.now row.old row.new }
-    ensures steps { steps.new ≤ steps.old + length index.now.chains * chain_rules rules.now }
-    ensures kept { steps.old ≤ steps.new }
+    ensures steps { steps.new ≡ steps.old + chain_tries row.new rules.now }
 {
     while let Some((m, cell)) = least_open(row) {
         let from = Cell {

@@ -1,10 +1,14 @@
 ghost use Rattle.std.specs.Prelude.{◌≡◌, ◌≢◌, ℕ, ◌+◌, ◌*◌, ◌^◌, ◌<◌, ◌≤◌, ◌⊎◌, length, slice_get};
-ghost use Rattle.lburg_grammar.specs.Tree.{MTree, nodes};
+ghost use Rattle.lburg_grammar.specs.Tree.{MTree, nodes, op_of, kids_of};
 ghost use Rattle.tree_labeller.specs.Row.{CellAt, Everywhere};
 ghost use Rattle.tree_labeller.specs.Labelled.{Filled, Started, KidsLabelled, area, Widths, Labelled};
 ghost use Rattle.tree_labeller.specs.AreRules.{AreRules};
 ghost use Rattle.tree_labeller.specs.IsIndex.{IsIndex};
 ghost use Rattle.tree_labeller.specs.ChainRules.{chain_rules};
+ghost use Rattle.tree_labeller.specs.Root.{with_root};
+ghost use Rattle.tree_labeller.specs.Tries.{row_tries};
+ghost use Rattle.tree_labeller.specs.Trials.{Trials, TrialsOfEach, RootTrials};
+ghost use Rattle.tree_labeller.specs.declared.places.Root.TheVariants.{Operator};
 ghost use Rattle.tree_labeller.specs.MCells.{HasRoom, room};
 ghost use Rattle.tree_labeller.specs.IsLabelled.{IsLabelled};
 
@@ -54,8 +58,7 @@ fn start_row<N: TreeNode, L: Ledger>(
     requires room { at + nodes (N.tree tree.now) ≤ length labels.now.rows.now }
     requires kids { KidsLabelled labels.now.rows.now labels.now.rules.now labels.now.width at (N.tree tree.now) }
     ensures started { Started labels.now.rows.now labels.now.rules.now at (N.tree tree.now) cells.new Everywhere }
-    ensures steps { steps.new ≤ steps.old + length labels.now.rules.now }
-    ensures kept { steps.old ≤ steps.new }
+    ensures steps { steps.new ≡ steps.old + with_root (Operator (op_of (N.tree tree.now))) labels.now.rules.now }
 {
     clear_row(cells);
     let rules = labels.rules;
@@ -95,8 +98,7 @@ fn fill_row<N: TreeNode, L: Ledger>(
     requires room { at + nodes (N.tree tree.now) ≤ length labels.now.rows.now }
     requires kids { KidsLabelled labels.now.rows.now labels.now.rules.now labels.now.width at (N.tree tree.now) }
     ensures filled { Filled labels.now.rows.now labels.now.rules.now at (N.tree tree.now) labels.now.width cells.new }
-    ensures steps { steps.new ≤ steps.old + (length labels.now.rules.now + length index.now.chains * chain_rules labels.now.rules.now) }
-    ensures kept { steps.old ≤ steps.new }
+    ensures steps { steps.new ≡ steps.old + row_tries (op_of (N.tree tree.now)) cells.new labels.now.rules.now }
 {
     start_row(index, labels, tree, at, cells, steps);
     close_row(labels.rules, index, cells, steps);
@@ -123,8 +125,7 @@ fn finish_row<N: TreeNode, L: Ledger>(
     ensures widths { Widths grammar.now.width rows.new }
     ensures wide { length scratch.new.cells.items ≡ grammar.now.width }
     ensures labelled { Labelled rows.new grammar.now.rules.now grammar.now.width at (N.tree tree.now) }
-    ensures steps { steps.new ≤ steps.old + (length grammar.now.rules.now + length grammar.now.index.now.chains * chain_rules grammar.now.rules.now) }
-    ensures kept { steps.old ≤ steps.new }
+    ensures trials { (n : ℕ) × RootTrials grammar.now.rules.now (N.tree tree.now) grammar.now.rules.now n × (steps.new ≡ steps.old + n) }
 {
     let labels = Labels {
         rules: grammar.rules,
@@ -157,8 +158,7 @@ fn label_at<N: TreeNode, L: Ledger>(
     ensures widths { Widths grammar.now.width rows.new }
     ensures wide { length scratch.new.cells.items ≡ grammar.now.width }
     ensures labelled { Labelled rows.new grammar.now.rules.now grammar.now.width at (N.tree tree.now) }
-    ensures steps { steps.new ≤ steps.old + nodes (N.tree tree.now) * (length grammar.now.rules.now + length grammar.now.index.now.chains * chain_rules grammar.now.rules.now) }
-    ensures kept { steps.old ≤ steps.new }
+    ensures trials { (n : ℕ) × Trials grammar.now.rules.now (N.tree tree.now) n × (steps.new ≡ steps.old + n) }
 {
     let next = label_kids(grammar, tree, at, rows, scratch, steps);
     scratch.end = next;
@@ -188,8 +188,7 @@ fn label_kids<N: TreeNode, L: Ledger>(
     ensures widths { Widths grammar.now.width rows.new }
     ensures wide { length scratch.new.cells.items ≡ grammar.now.width }
     ensures kids { KidsLabelled rows.new grammar.now.rules.now grammar.now.width at (N.tree tree.now) }
-    ensures steps { let most = length grammar.now.rules.now + length grammar.now.index.now.chains * chain_rules grammar.now.rules.now in steps.new + most ≤ steps.old + nodes (N.tree tree.now) * most }
-    ensures kept { steps.old ≤ steps.new }
+    ensures trials { (n : ℕ) × TrialsOfEach grammar.now.rules.now (kids_of (N.tree tree.now)) n × (steps.new ≡ steps.old + n) }
 {
     match tree.arity() {
         0 => at + 1,
@@ -202,14 +201,16 @@ fn label_kids<N: TreeNode, L: Ledger>(
 }
 
 /// Labels a tree. It takes no memory and refuses nothing. A step is one rule that is tried at one
-/// node; the bound is by the tree's nodes, and the rules, nonterminals and chain rules of the
-/// tables.
+/// node: each rule whose pattern has the node's operator at its root, and each chain rule from a
+/// nonterminal that has a derivation there. The bound is by the tree's nodes, and the rules,
+/// nonterminals and chain rules of the tables.
 /// Source: Aho, Ganapathi and Tjiang, Code generation using tree matching and dynamic programming.
 pub fn label<N: TreeNode, L: Ledger>(t: &Tables, tree: &N, cells: &mut Cells, steps: &mut Steps<L>)
     requires nodes { nodes (N.tree tree.now) ≤ room cells.old }
     requires nonterminals { length t.now.nonterminals ≤ cells.old.nonterminals }
     ensures labelled { IsLabelled t.now cells.new (N.tree tree.now) }
     ensures room { HasRoom cells.new (room cells.old) cells.old.nonterminals }
+    ensures trials { (n : ℕ) × Trials t.now.rules (N.tree tree.now) n × (steps.new ≡ steps.old + n) }
     ensures steps { steps.new ≤ steps.old + nodes (N.tree tree.now) * (length t.now.rules + length t.now.nonterminals * chain_rules t.now.rules) }
     ensures kept { steps.old ≤ steps.new }
 {

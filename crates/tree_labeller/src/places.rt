@@ -2,7 +2,7 @@ ghost use Rattle.std.specs.Prelude.{◌≡◌, ◌+◌, ◌^◌, ◌<◌, ◌≤
 ghost use Rattle.lburg_grammar.specs.Pattern.{pattern_of};
 ghost use Rattle.lburg_grammar.specs.Description.{MDescription, IsDescription};
 ghost use Rattle.tree_labeller.specs.Root.{ArePlaces, AreLists, places_in, root_of};
-ghost use Rattle.tree_labeller.specs.IsIndex.{IsIndex, IsIndexOf};
+ghost use Rattle.tree_labeller.specs.IsIndex.{IsIndex};
 ghost use Rattle.tree_labeller.specs.declared.places.Root.TheVariants.{Chain, Operator};
 
 use lburg_grammar::{Description, Pattern, Rule};
@@ -116,7 +116,7 @@ fn chain_lists(alloc: Global, rules: &[Rule], count: u16) -> Result<Items<Items<
 
 /// The places of a description's rules. `Memory` comes where an allocation is refused.
 pub fn index_of(alloc: Global, d: &Description) -> Result<Index, Memory>
-    ensures { IfOk result (λ i. IsIndexOf d.now i) }
+    ensures { IfOk result (λ i. IsIndex d.now.rules i) }
 {
     let rules = d.rules();
     let operators = operator_lists(alloc, rules, d.terminals().len() as u16 + 1)?;

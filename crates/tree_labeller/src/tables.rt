@@ -1,6 +1,6 @@
 ghost use Rattle.std.specs.Prelude.{◌≡◌, IfOk};
 ghost use Rattle.lburg_grammar.specs.Description.{MDescription, IsDescription};
-ghost use Rattle.tree_labeller.specs.IsIndex.{IsIndexOf};
+ghost use Rattle.tree_labeller.specs.IsIndex.{IsIndex};
 
 use crate::places::{Index, index_of};
 use lburg_grammar::{Description, Rule};
@@ -26,11 +26,11 @@ impl<'a> Model for Tables<'a> {
 
     ghost coded = { Prim.hlevel (codes, pattern.the_row.coded) };
 
-    ghost use Rattle.tree_labeller.specs.IsIndex.{IsIndexOf};
+    ghost use Rattle.tree_labeller.specs.IsIndex.{IsIndex};
 
     ghost view = { λ t. t.description.now };
 
-    ghost invariant = { λ t. IsIndexOf t.description.now t.index };
+    ghost invariant = { λ t. IsIndex t.description.now.rules t.index };
 }
 
 /// The tables of a description, which they borrow. `Memory` comes where an allocation is refused.
@@ -54,7 +54,7 @@ impl<'a> Tables<'a> {
 
     /// The places of its rules.
     pub(crate) fn index(&self) -> &Index
-        ensures { IsIndexOf self.now result.now }
+        ensures { IsIndex self.now.rules result.now }
     {
         &self.index
     }

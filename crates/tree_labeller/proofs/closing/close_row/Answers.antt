@@ -1,7 +1,6 @@
 use Rattle.std.proofs.Common.{◌^◌, ◌<◌, ◌-◌, length, arith}
 use Rattle.tree_labeller.specs.Row.{dones}
-use Rattle.tree_labeller.specs.ChainRules.{chain_rules}
-use Rattle.tree_labeller.proofs.Closure.{over, step, progress, dones_le, dones_below, below_kept, more_steps, most_steps}
+use Rattle.tree_labeller.proofs.Closure.{start, over, step, progress, dones_le, none_done, all_done, more_done}
 use Rattle.tree_labeller.proofs.closing.close_row.Goals as goal
 
 pub spread-requires-clause-cheap : goal.spread-requires-clause-cheap
@@ -31,14 +30,19 @@ loop-m-smaller g c =
     let goal_is : length c.spread.new.row - dones c.spread.new.row < length c.loop-m.row - dones c.loop-m.row = omega (arith, p.0, p.1, p.2) in
     goal_is
 
+pub loop-m-init : goal.loop-m-init
+loop-m-init g c =
+    let row = c.args.row.now in
+    let none = none_done row c.requires.fresh c.args.rules.now in
+    record { closing = start c.args.rules.now row c.requires.fresh; steps = omega arith }
+
 pub loop-m-preserved : goal.loop-m-preserved
 loop-m-preserved g c =
     let inv = c.loop-m.invariant in
-    let p = progress c.args.rules.now c.args.row.now c.loop-m.row inv.closing c.in-Some.m c.in-Some.cell c.in-Some.ensures c.spread.new.row c.spread.ensures.spread in
+    let more = more_done c.args.rules.now c.args.row.now c.loop-m.row inv.closing c.in-Some.m c.in-Some.cell c.in-Some.ensures c.spread.new.row c.spread.ensures.spread c.args.rules.now in
     record {
       closing = step c.args.rules.now c.args.row.now c.loop-m.row inv.closing c.in-Some.m c.in-Some.cell c.in-Some.ensures c.spread.new.row c.spread.ensures.spread;
-      steps = more_steps c.args.steps.now c.loop-m.steps c.spread.new.steps (dones c.loop-m.row) (dones c.spread.new.row) (chain_rules c.args.rules.now) inv.steps c.spread.ensures.steps p.0;
-      kept = omega arith;
+      steps = omega (arith, more, inv.steps, c.spread.ensures.steps);
     }
 
 pub returns-clause-closed : goal.returns-clause-closed
@@ -46,7 +50,5 @@ returns-clause-closed g c = over c.args.rules.now c.args.row.now c.loop-m.row c.
 
 pub returns-clause-steps : goal.returns-clause-steps
 returns-clause-steps g c =
-    let inv = c.loop-m.invariant in
-    let q = length c.args.index.now.chains in
-    let below = dones_below c.loop-m.row q (below_kept c.args.rules.now c.args.row.now c.loop-m.row q c.requires.index.lefts c.requires.below inv.closing) in
-    most_steps c.args.steps.now c.loop-m.steps (dones c.loop-m.row) q (chain_rules c.args.rules.now) inv.steps below
+    let all = all_done c.loop-m.row c.in_default.ensures c.args.rules.now in
+    omega (arith, all, c.loop-m.invariant.steps)

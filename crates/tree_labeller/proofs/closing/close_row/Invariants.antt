@@ -1,14 +1,12 @@
-use Rattle.std.proofs.Common.{◌-◌, ◌+◌, ◌*◌, ◌≤◌, length}
+use Rattle.std.proofs.Common.{◌≡◌, ◌-◌, ◌+◌, length}
 use Rattle.tree_labeller.specs.Row.{dones}
-use Rattle.tree_labeller.specs.ChainRules.{chain_rules}
-use Rattle.tree_labeller.proofs.Closure.{Closing}
+use Rattle.tree_labeller.proofs.Closure.{Closing, chains_done}
 use Rattle.tree_labeller.proofs.closing.close_row.Given as goal
 
 abbrev pub invariant-loop-m : goal.invariant-loop-m
 invariant-loop-m g l = record {
   closing : Closing l.rules l.initial.row l.row;
-  steps : l.steps ≤ l.initial.steps + dones l.row * chain_rules l.rules;
-  kept : l.initial.steps ≤ l.steps;
+  steps : l.steps ≡ l.initial.steps + chains_done l.row l.rules;
 }
 
 abbrev pub decreases-loop-m : goal.decreases-loop-m

@@ -1,5 +1,5 @@
-use Rattle.std.proofs.Common.{◌∙◌, arith, length}
-use Rattle.tree_labeller.proofs.Finish.{bound_short, bound_cheap, bound_fresh, bound_below}
+use Rattle.std.proofs.Common.{◌∙◌, arith}
+use Rattle.tree_labeller.proofs.Finish.{bound_short, bound_cheap, bound_fresh}
 use Rattle.tree_labeller.proofs.labeller.fill_row.Goals as goal
 
 pub close_row-requires-clause-fresh : goal.close_row-requires-clause-fresh
@@ -10,9 +10,6 @@ close_row-requires-clause-short g c = λ n b at. let a = bound_short _ _ c.args.
 
 pub close_row-requires-clause-cheap : goal.close_row-requires-clause-cheap
 close_row-requires-clause-cheap g c = bound_cheap _ _ c.args.labels.now.width _ _ _ c.requires.kids c.start_row.ensures.started c.requires.are.cheap
-
-pub close_row-requires-clause-below : goal.close_row-requires-clause-below
-close_row-requires-clause-below g c = bound_below _ _ c.args.labels.now.width _ _ _ c.requires.kids c.start_row.ensures.started (length c.args.index.now.chains) c.requires.index.lefts
 
 pub returns-clause-filled : goal.returns-clause-filled
 returns-clause-filled g c = (c.start_row.new.cells, c.start_row.ensures.started, c.close_row.ensures.closed, c.start_row.auto.cells ∙ c.requires.wide)
