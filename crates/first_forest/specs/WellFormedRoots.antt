@@ -1,4 +1,4 @@
--- The roots of a program are well formed: each argument is taken by the call behind it.
+-- The forest of a program is well formed: each argument is taken by the call behind it.
 use Rattle.std.specs.Prelude.{ℕ, ◌≤◌, ◌<◌, ◌^◌, pos, FitsSigned, List, [], ◌∷◌, ◌++◌, flat_map, refl}
 use Rattle.std.specs.Int.{w32}
 use Rattle.std.specs.List.{AllByRecursion}
@@ -9,11 +9,12 @@ use Rattle.first_form.specs.Expression.{MExpression, Constant, Negated, Combined
 use Rattle.first_form.specs.Grammar.{Derives}
 use Rattle.first_form.specs.FirstProgram.{MProgram}
 use Rattle.first_form.specs.FirstForm.{IsExpression}
+use Rattle.op_forest.specs.declared.forest.Forest.{Forest}
 use Rattle.op_forest.specs.declared.op.Op.TheVariants as op
 use Rattle.op_forest.specs.declared.suffix.Suffix.TheVariants.{I}
 use Rattle.op_forest.specs.Nodes.{Node, One}
-use Rattle.op_forest.specs.WellFormed.{HasArities, HasKinds, IsOperand, IsGood, IsWellFormed}
-use Rattle.first_forest.specs.FirstForest.{int_head, expression_node, putchar_node, print_roots, return_root, roots_of}
+use Rattle.op_forest.specs.WellFormed.{HasArities, HasKinds, IsOperand, IsGood, AreGood, IsWellFormed}
+use Rattle.first_forest.specs.FirstForest.{int_head, expression_node, putchar_node, print_roots, return_root, main_of}
 
 expression_arities : (e : MExpression) → HasArities (expression_node e)
 expression_arities (Constant n) = λ h. refl
@@ -43,8 +44,8 @@ expression_kinds level (Combined sign.Subtract a b) h = (record { rule = refl; p
 expression_kinds level (Combined sign.Multiply a b) h = (record { rule = refl; part = tt; operands = (gives_int a, (gives_int b, tt)) }, expression_kinds _ a h.1, expression_kinds _ b h.2)
 expression_kinds level (Enclosed e) h = expression_kinds 0 e h
 
-argument_good : (e : MExpression) (rest : List Node) → IsExpression e → IsGood (One (int_head op.Arg) (expression_node e)) (One (int_head op.Call) putchar_node ∷ rest)
-argument_good e rest h = record {
+argument_good : (f : Forest) (e : MExpression) (rest : List Node) → IsExpression e → IsGood f (One (int_head op.Arg) (expression_node e)) (One (int_head op.Call) putchar_node ∷ rest)
+argument_good f e rest h = record {
   arities = (λ l. refl, expression_arities e);
   fit = record {
     kinds = (record { rule = refl; part = tt; operands = (gives_int e, tt) }, expression_kinds 0 e h.0);
@@ -53,8 +54,8 @@ argument_good e rest h = record {
   };
 }
 
-call_good : (rest : List Node) → IsGood (One (int_head op.Call) putchar_node) rest
-call_good rest = record {
+call_good : (f : Forest) (rest : List Node) → IsGood f (One (int_head op.Call) putchar_node) rest
+call_good f rest = record {
   arities = (λ l. refl, λ l. refl);
   fit = record {
     kinds = (record { rule = refl; part = tt; operands = ((refl, refl), tt) }, record { rule = refl; part = refl; operands = tt });
@@ -63,8 +64,8 @@ call_good rest = record {
   };
 }
 
-return_good : (e : MExpression) → IsExpression e → IsGood (return_root e) []
-return_good e h = record {
+return_good : (f : Forest) (e : MExpression) → IsExpression e → IsGood f (return_root e) []
+return_good f e h = record {
   arities = (λ l. refl, expression_arities e);
   fit = record {
     kinds = (record { rule = refl; part = tt; operands = (gives_int e, tt) }, expression_kinds 0 e h.0);
@@ -73,10 +74,10 @@ return_good e h = record {
   };
 }
 
-statements_good : (es : List MExpression) (r : MExpression) → AllByRecursion IsExpression es → IsExpression r → IsWellFormed (flat_map print_roots es ++ return_root r ∷ [])
-statements_good [] r h k = (return_good r k, tt)
-statements_good (e ∷ es) r h k =
-    (argument_good e (flat_map print_roots es ++ return_root r ∷ []) h.0, (call_good (flat_map print_roots es ++ return_root r ∷ []), statements_good es r h.1 k))
+statements_good : (f : Forest) (es : List MExpression) (r : MExpression) → AllByRecursion IsExpression es → IsExpression r → AreGood f (flat_map print_roots es ++ return_root r ∷ [])
+statements_good f [] r h k = (return_good f r k, tt)
+statements_good f (e ∷ es) r h k =
+    (argument_good f e (flat_map print_roots es ++ return_root r ∷ []) h.0, (call_good f (flat_map print_roots es ++ return_root r ∷ []), statements_good f es r h.1 k))
 
-pub well_formed : (p : MProgram) → AllByRecursion IsExpression p.prints → IsExpression p.result → IsWellFormed (roots_of p)
-well_formed p prints result = statements_good p.prints p.result prints result
+pub well_formed : (p : MProgram) → AllByRecursion IsExpression p.prints → IsExpression p.result → IsWellFormed (main_of p).forest
+well_formed p prints result = statements_good (main_of p).forest p.prints p.result prints result

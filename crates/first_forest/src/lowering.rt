@@ -54,8 +54,8 @@ fn unit(alloc: Global, program: &FirstProgram) -> Result<Lowered, Memory>
 pub fn lower(alloc: Global, program: &FirstProgram) -> Result<Lowered, Memory>
     // It is the program's unit.
     ensures unit { IfOk result (λ u. u ≡ unit_of (program_of program.now)) }
-    // Its roots are well formed, where the grammar derives the program's expressions.
-    ensures well_formed { let p = program_of program.now in AllByRecursion IsExpression p.prints → IsExpression p.result → IsWellFormed (roots_of p) }
+    // Its forest is well formed, where the grammar derives the program's expressions.
+    ensures well_formed { let p = program_of program.now in AllByRecursion IsExpression p.prints → IsExpression p.result → IsWellFormed (main_of p).forest }
     // They have no more nodes than a text of the program has bytes, and at most three for each
     // node of the program.
     ensures small { (text : List ℕ) → IsFirst text (program_of program.now) → sum_by nodes (roots_of (program_of program.now)) ≤ length text }

@@ -1,9 +1,10 @@
 -- The shipped description of MIPS as one fact, and that it derives each root of a well-formed forest.
 -- Source: Fraser and Hanson, A Retargetable C Compiler, chapters 14 and 16.
-use Rattle.std.specs.Prelude.{◌≡◌, ◌≢◌, List, All, map}
+use Rattle.std.specs.Prelude.{◌≡◌, ◌≢◌, All, map}
 use Rattle.lburg_grammar.specs.Derivation.{MDerivation, Derives}
 use Rattle.lburg_grammar.specs.Description.{MDescription}
 use Rattle.lburg_grammar.specs.Best.{HasNone}
+use Rattle.op_forest.specs.declared.forest.Forest.{Forest}
 use Rattle.op_forest.specs.declared.op.Op.TheVariants as op
 use Rattle.op_forest.specs.Nodes.{Node, tree_of}
 use Rattle.op_forest.specs.WellFormed.{IsWellFormed, HasKinds, op_of}
@@ -25,4 +26,4 @@ DerivesStatements d = (t : Node) → HasKinds t → op_of t ≢ op.Addrg → (x 
 
 -- each root of a well-formed forest has a derivation
 abbrev pub CoversRoots : MDescription → Type 0
-CoversRoots d = (roots : List Node) → IsWellFormed roots → All (λ t. HasNone d (tree_of t) → ⊥) roots
+CoversRoots d = (f : Forest) → IsWellFormed f → All (λ t. HasNone d (tree_of t) → ⊥) f.roots

@@ -1,26 +1,26 @@
--- One derivation after another, and then their rule.
-use Rattle.std.proofs.Common.{◌≡◌, ℕ, zero, suc, ◌+◌, ◌-◌, ◌≤◌, ◌<◌, List, [], ◌∷◌, ◌++◌, Bool, true, false, Option, Some, Result, Ok, Err, Bor, map, length, take, get_or, refl, sym, ap, ◌∙◌, subst, arith, append_assoc}
-use Rattle.std.specs.Prelude.{slice_get, IfOk, OnOk, IsSome, if◌then◌else◌, not, ◌||◌, IsTrue}
+-- A derivation at the node of a chain rule, or one derivation after another, and then their rule.
+use Rattle.std.proofs.Common.{◌≡◌, ℕ, zero, suc, ◌+◌, ◌-◌, ◌≤◌, ◌<◌, List, [], ◌∷◌, ◌++◌, true, false, Option, Some, None, Bor, map, length, take, get_or, refl, sym, ap, ◌∙◌, subst, arith, append_assoc}
+use Rattle.std.specs.Prelude.{slice_get, IsSome, not}
 use Rattle.std.specs.Option.{option_map}
 use Rattle.std.proofs.lemmas.List.{length-map, append-nil, take_more, take_all}
 use Rattle.std.proofs.lemmas.Bool.{or_left, or_right, not_from_false, false_from_ne_true}
 use Rattle.std.proofs.lemmas.Option.{same_Some, none-some, slice_get_within, slice_get_read, slice_get-map, get_or_from_slice_get}
 use Rattle.lburg_grammar.specs.declared.rule.Rule.{Rule}
 use Rattle.lburg_grammar.specs.declared.derivation.Derivation.{Derivation, out-Derivation}
-use Rattle.lburg_grammar.specs.Pattern.{MPattern, pattern_of}
+use Rattle.lburg_grammar.specs.Pattern.{MPattern, Goal, pattern_of}
 use Rattle.lburg_grammar.specs.Derivation.{MDerivation, Apply, Derives, DeriveEach, count, counts}
 use Rattle.lburg_grammar.specs.DerivationOf.{parts_of, derivation_of, derivation_out}
-use Rattle.op_forest.specs.Nodes.{Node, nodes, tree_of}
+use Rattle.op_forest.specs.Nodes.{Node, head_of, gives, one_where, value_nodes, tree_of}
 use Rattle.vcode.specs.Machines.{Machine}
 use Rattle.vcode.specs.Patterns.{Meeting, leaves_at, is_chain}
-use Rattle.vcode.specs.RuleSets.{Row, row_of, Rules, Applies, Obeys, all_registers}
+use Rattle.vcode.specs.RuleSets.{row_of, Rules, Applies, Obeys, all_registers}
 use Rattle.vcode.specs.VirtualCode.{among}
-use Rattle.vcode.specs.Emission.{Emitted, EmittedAll, no_code, and_one, Emits, EmitsAll, ByChain, ByRule, Nothing, OneMore}
+use Rattle.vcode.specs.Emission.{Emitted, EmittedAll, Emits, EmitsAll, ByChain, ByRule, Nothing, OneMore}
 use Rattle.vcode.specs.Adding.{Added, meetings_in, meetings_at}
-use Rattle.vcode.proofs.Leaves.{turned, met, meetings_of, few_met, fewer_met, chain_meets}
-use Rattle.vcode.proofs.Registers.{in_range, takes, take_all as take_each}
-use Rattle.vcode.proofs.Parts.{row_is, hand_all}
-use Rattle.vcode.proofs.Still.{not_nothing}
+use Rattle.vcode.specs.Leaves.{turned, met_by, meetings_of, few_values, fewer_values, chain_meets}
+use Rattle.vcode.proofs.Registers.{in_range, registers_one, takes, take_all as take_each}
+use Rattle.vcode.specs.Deriving.{row_is}
+use Rattle.vcode.proofs.Parts.{hands, hand_all}
 
 -- the second list is the first with the code of the derivations, which hand up these parts
 pub record AddedAll {I P : Type 0} (rules : Rules I P) (xs : List MDerivation) (ms : List Meeting) (free free' : ℕ) (old new : List I) (ps : List P) : Type 0 where
@@ -92,10 +92,10 @@ each_at rows (l ∷ ms) (y ∷ xs) (suc k) m x d a b = each_at rows ms xs k m x 
 pub take_at : {A : Type 0} (xs : List A) (k : ℕ) (x : A) → slice_get xs k ≡ Some x → take (k + 1) xs ≡ take k xs ++ x ∷ []
 take_at xs k x e = take_more xs k x (slice_get_within xs k x e) ∙ ap (λ y. take k xs ++ y ∷ []) (get_or_from_slice_get xs k x x e)
 
-met_at : (ms : List Meeting) (k : ℕ) (m : Meeting) → slice_get ms k ≡ Some m → met (take k ms) + nodes m.1 ≤ met ms
-met_at [] k m e = absurd (none-some m e)
-met_at (l ∷ ms) zero m e = let s : nodes l.1 ≡ nodes m.1 = ap (λ (z : Meeting). nodes z.1) (same_Some l m e) in omega (arith, s)
-met_at (l ∷ ms) (suc k) m e = let i : met (take k ms) + nodes m.1 ≤ met ms = met_at ms k m e in omega (arith, i)
+met_at : (f : Node → ℕ) (ms : List Meeting) (k : ℕ) (m : Meeting) → slice_get ms k ≡ Some m → met_by f (take k ms) + f m.1 ≤ met_by f ms
+met_at f [] k m e = absurd (none-some m e)
+met_at f (l ∷ ms) zero m e = let s : f l.1 ≡ f m.1 = ap (λ (z : Meeting). f z.1) (same_Some l m e) in omega (arith, s)
+met_at f (l ∷ ms) (suc k) m e = let i : met_by f (take k ms) + f m.1 ≤ met_by f ms = met_at f ms k m e in omega (arith, i)
 
 -- the tree behind the reference at a place
 node_at : (bs : List (Bor Node)) (ms : List Meeting) (k : ℕ) (b : Bor Node) → map (λ x. x.now) bs ≡ map (λ m. m.1) ms → k < length ms → b ≡ get_or bs k b → (m : Meeting) × (slice_get ms k ≡ Some m) × (m.1 ≡ b.now)
@@ -120,6 +120,14 @@ fewer_rules d ds k x e h is =
     let j : counts (parts_of (map derivation_of ds)) ≡ counts (parts_of (xs_of d)) = ap (λ l. counts (parts_of (map derivation_of l))) e in
     let w : count (derivation_of d) ≡ 1 + counts (parts_of (xs_of d)) = ap count (derivation_out d) in
     omega (arith, i, j, w)
+
+-- what the pattern's nonterminals meet, where there is such a rule
+abbrev pub rule_meetings : Option Rule → Node → List Meeting
+rule_meetings None t = []
+rule_meetings (Some r) t = meetings_at (pattern_of r.pattern) t
+
+pub met_here : {rows : List Rule} {r : Rule} {number : ℕ} {t : Node} {xs : List MDerivation} → Here rows r number t xs → rule_meetings (slice_get rows (number - 1)) t ≡ meetings_at (pattern_of r.pattern) t
+met_here {rows} {r} {number} {t} {xs} h = ap (λ o. rule_meetings o t) h.row
 
 -- the derivation of one place
 pub record Step (rows : List Rule) (ms : List Meeting) (xs : List MDerivation) (k : ℕ) (t : Node) (x : MDerivation) : Type 0 where
@@ -174,15 +182,47 @@ loop_step {rows} {r} {t} {d} {ds} {bs} k b x w h is_b is_x =
     (subst (λ l. DeriveEach rows (map turned (meetings_at (pattern_of r.pattern) t)) (parts_of (map derivation_of l))) (sym w.parts) w.here.each)
     w.leaves h is_b is_x
 
-no_front : (ms : List Meeting) (l m : Meeting) → ms ++ l ∷ [] ≡ m ∷ [] → ms ≡ []
-no_front [] l m e = refl
-no_front (k ∷ []) l m e = absurd (cc)
-no_front (k ∷ j ∷ ms) l m e = absurd (cc)
+-- the part of a chain rule, which is derived at the same node
+pub record Chained (rows : List Rule) (r : Rule) (t : Node) (d : Derivation) (x : Derivation) : Type 0 where
+  pub nonterminal : ℕ
+  pub here : Here rows r (out-Derivation d).rule t (xs_of d)
+  pub meetings : meetings_at (pattern_of r.pattern) t ≡ (nonterminal, t) ∷ []
+  pub parts : xs_of d ≡ derivation_of x ∷ []
+  pub derives : Derives rows nonterminal (tree_of t) (derivation_of x)
+  pub fewer : count (derivation_of x) < count (derivation_of d)
 
-only_one : (ms : List Meeting) (l m : Meeting) → ms ++ l ∷ [] ≡ m ∷ [] → l ≡ m
-only_one [] l m e = cc
-only_one (k ∷ []) l m e = absurd (cc)
-only_one (k ∷ j ∷ ms) l m e = absurd (cc)
+one_derived : (rows : List Rule) (g : Goal) (xs : List MDerivation) → DeriveEach rows (g ∷ []) (parts_of xs) → (x : MDerivation) × (xs ≡ x ∷ []) × Derives rows g.0 g.1 x
+one_derived rows g [] h = absurd h
+one_derived rows g (x ∷ []) h = (x, refl, h.0)
+one_derived rows g (x ∷ y ∷ xs) h = absurd h.1
+
+-- what a chain rule's nonterminal meets, and its part
+chain_here : (rows : List Rule) (r : Rule) (number : ℕ) (t : Node) (xs : List MDerivation) → is_chain (pattern_of r.pattern) ≡ true → Here rows r number t xs → (k : ℕ) × (meetings_at (pattern_of r.pattern) t ≡ (k, t) ∷ []) × ((x : MDerivation) × (xs ≡ x ∷ []) × Derives rows k (tree_of t) x)
+chain_here rows r number t xs chain h =
+    let q = chain_meets (pattern_of r.pattern) t (meetings_at (pattern_of r.pattern) t) chain h.fits in
+    (q.0, q.1, one_derived rows (q.0, tree_of t) xs (subst (λ ms. DeriveEach rows (map turned ms) (parts_of xs)) q.1 h.each))
+
+pub chain_part : (rows : List Rule) (r : Rule) (n : ℕ) (t : Node) (d : Derivation) → r ≡ get_or rows ((out-Derivation d).rule - 1) r → Derives rows n (tree_of t) (derivation_of d) → is_chain (pattern_of r.pattern) ≡ true → 0 < length (out-Derivation d).parts
+chain_part rows r n t d is h chain =
+    let c = chain_here rows r (out-Derivation d).rule t (xs_of d) chain (here rows r n t d is h) in
+    let l : length (xs_of d) ≡ 1 = ap length c.2.1 in
+    let w = length-map (out-Derivation d).parts derivation_of in
+    omega (arith, l, w)
+
+pub chained : (rows : List Rule) (r : Rule) (n : ℕ) (t : Node) (d x : Derivation) → r ≡ get_or rows ((out-Derivation d).rule - 1) r → Derives rows n (tree_of t) (derivation_of d) → is_chain (pattern_of r.pattern) ≡ true → slice_get (out-Derivation d).parts 0 ≡ Some x → Chained rows r t d x
+chained rows r n t d x is h chain at =
+    let w = here rows r n t d is h in
+    let c = chain_here rows r (out-Derivation d).rule t (xs_of d) chain w in
+    let first : slice_get (xs_of d) 0 ≡ Some (derivation_of x) = slice_get-map derivation_of (out-Derivation d).parts 0 ∙ ap (λ o. option_map derivation_of o) at in
+    let same : c.2.0 ≡ derivation_of x = same_Some c.2.0 (derivation_of x) (ap (λ l. slice_get l 0) (sym c.2.1) ∙ first) in
+    record {
+      nonterminal = c.0;
+      here = w;
+      meetings = c.1;
+      parts = c.2.1 ∙ ap (λ y. y ∷ []) same;
+      derives = subst (λ y. Derives rows c.0 (tree_of t) y) same c.2.2;
+      fewer = fewer_rules d (out-Derivation d).parts 0 x refl (chain_part rows r n t d is h chain) (sym (get_or_from_slice_get (out-Derivation d).parts 0 x x at));
+    }
 
 module _ {I P : Type 0} (m : Machine I) (rules : Rules I P) (obeys : Obeys m rules) where
   pub added_none : (n : ℕ) (old : List I) (ps : List P) → ps ≡ [] → AddedAll rules [] [] n n old old ps
@@ -192,17 +232,17 @@ module _ {I P : Type 0} (m : Machine I) (rules : Rules I P) (obeys : Obeys m rul
   pub added_low : {xs : List MDerivation} {ms : List Meeting} {n n' : ℕ} {old new : List I} {ps : List P} → AddedAll rules xs ms n n' old new ps → n ≤ n'
   added_low a = (take_each m rules obeys a.emits).low
 
-  pub added_room : {rows : List Rule} {ms : List Meeting} {xs ys : List MDerivation} {k : ℕ} {t : Node} {x : MDerivation} {n n' : ℕ} {old new : List I} {ps : List P} (limit : ℕ) (p : MPattern) (whole : Node) → Step rows ms xs k t x → AddedAll rules ys (take k ms) n n' old new ps → leaves_at p whole ≡ Some ms → n + nodes whole ≤ limit → n' + nodes t ≤ limit
+  pub added_room : {rows : List Rule} {ms : List Meeting} {xs ys : List MDerivation} {k : ℕ} {t : Node} {x : MDerivation} {n n' : ℕ} {old new : List I} {ps : List P} (limit : ℕ) (p : MPattern) (whole : Node) → Step rows ms xs k t x → AddedAll rules ys (take k ms) n n' old new ps → leaves_at p whole ≡ Some ms → n + value_nodes whole ≤ limit → n' + value_nodes t ≤ limit
   added_room {rows} {ms} {xs} {ys} {k} {t} {x} {n} {n'} {old} {new} {ps} limit p whole s a fits room =
-      let b : n' ≤ n + met (take k ms) = (take_each m rules obeys a.emits).few in
-      let c : met (take k ms) + nodes s.meeting.1 ≤ met ms = met_at ms k s.meeting s.at in
-      let d : met ms ≤ nodes whole = few_met p whole ms fits in
-      let e : nodes s.meeting.1 ≡ nodes t = ap nodes s.node in
+      let b : n' ≤ n + met_by value_nodes (take k ms) = (take_each m rules obeys a.emits).few in
+      let c : met_by value_nodes (take k ms) + value_nodes s.meeting.1 ≤ met_by value_nodes ms = met_at value_nodes ms k s.meeting s.at in
+      let d : met_by value_nodes ms ≤ value_nodes whole = few_values p whole ms fits in
+      let e : value_nodes s.meeting.1 ≡ value_nodes t = ap value_nodes s.node in
       omega (arith, b, c, d, e, room)
 
-  pub added_more : {rows : List Rule} {ms : List Meeting} {xs : List MDerivation} {k : ℕ} {t : Node} {x : MDerivation} {n n' n'' : ℕ} {old mid new : List I} {ps ps' : List P} {p : P} → Step rows ms xs k t x → AddedAll rules (take k xs) (take k ms) n n' old mid ps → Added rules x t n' n'' mid new p → ps' ≡ ps ++ p ∷ [] → AddedAll rules (take (k + 1) xs) (take (k + 1) ms) n n'' old new ps'
-  added_more {rows} {ms} {xs} {k} {t} {x} {n} {n'} {n''} {old} {mid} {new} {ps} {ps'} {p} s a b e =
-      let one : Emits rules x s.meeting.1 n' (record { code = b.code; part = p; to = b.to; next = n'' }) = subst (λ z. Emits rules x z n' (record { code = b.code; part = p; to = b.to; next = n'' })) (sym s.node) b.emits in
+  pub added_more : {rows : List Rule} {ms : List Meeting} {xs : List MDerivation} {k : ℕ} {t : Node} {x : MDerivation} {n n' n'' : ℕ} {old mid new : List I} {ps ps' : List P} {p : P} {to : ℕ} → Step rows ms xs k t x → AddedAll rules (take k xs) (take k ms) n n' old mid ps → Added rules x t n' n'' mid new p to → ps' ≡ ps ++ p ∷ [] → AddedAll rules (take (k + 1) xs) (take (k + 1) ms) n n'' old new ps'
+  added_more {rows} {ms} {xs} {k} {t} {x} {n} {n'} {n''} {old} {mid} {new} {ps} {ps'} {p} {to} s a b e =
+      let one : Emits rules x s.meeting.1 n' (record { code = b.code; part = p; to = to; next = n'' }) = subst (λ z. Emits rules x z n' (record { code = b.code; part = p; to = to; next = n'' })) (sym s.node) b.emits in
       let all : EmitsAll rules (take k xs ++ x ∷ []) (take k ms ++ s.meeting ∷ []) n (record { code = a.code ++ b.code; parts = ps ++ p ∷ []; next = n'' }) = OneMore s.meeting a.emits one in
       record {
         code = a.code ++ b.code;
@@ -226,133 +266,80 @@ module _ {I P : Type 0} (m : Machine I) (rules : Rules I P) (obeys : Obeys m rul
       let all = added_all (w.count ∙ sym l) le a in
       subst (λ l. AddedAll rules (map derivation_of l) (meetings_at (pattern_of r.pattern) t) n n' old new ps) w.parts all
 
-  pub over_room : {xs : List MDerivation} {n n' : ℕ} {old new : List I} {ps : List P} (limit : ℕ) (p : MPattern) (t : Node) → AddedAll rules xs (meetings_at p t) n n' old new ps → leaves_at p t ≡ Some (meetings_at p t) → n + nodes t ≤ limit → is_chain p ≡ false → n' < limit
+  pub over_room : {xs : List MDerivation} {n n' : ℕ} {old new : List I} {ps : List P} (limit : ℕ) (p : MPattern) (t : Node) → AddedAll rules xs (meetings_at p t) n n' old new ps → leaves_at p t ≡ Some (meetings_at p t) → n + value_nodes t ≤ limit → is_chain p ≡ false → n' + one_where (gives (head_of t)) ≤ limit
   over_room limit p t a fits room chain =
       let b = (take_each m rules obeys a.emits).few in
-      let c : met (meetings_at p t) + 1 ≤ nodes t = fewer_met p t (meetings_at p t) chain fits in
+      let c = fewer_values p t (meetings_at p t) chain fits in
       omega (arith, b, c, room)
 
-  -- derivations of no node, and of one
-  pub record NoneAt (xs : List MDerivation) (n : ℕ) (es : EmittedAll I P) : Type 0 where
-    pub derivations : xs ≡ []
-    pub emitted : es ≡ no_code n
-
-  pub record OneAt (xs : List MDerivation) (t : Node) (n : ℕ) (es : EmittedAll I P) : Type 0 where
-    pub derivation : MDerivation
-    pub one : Emitted I P
-    pub derivations : xs ≡ derivation ∷ []
-    pub emits : Emits rules derivation t n one
-    pub emitted : es ≡ and_one (no_code n) one
-
-  none_at : {xs : List MDerivation} {ms : List Meeting} {n : ℕ} {es : EmittedAll I P} → EmitsAll rules xs ms n es → ms ≡ [] → NoneAt xs n es
-  none_at (Nothing {n}) e = record { derivations = refl; emitted = refl }
-  none_at (OneMore {xs} {meetings} {x} meeting {n} {es} {e} all one) s = absurd (not_nothing meetings meeting s)
-
-  one_at : {xs : List MDerivation} {ms : List Meeting} {n : ℕ} {es : EmittedAll I P} (m : Meeting) → EmitsAll rules xs ms n es → ms ≡ m ∷ [] → OneAt xs m.1 n es
-  one_at m (Nothing {n}) s = absurd (cc)
-  one_at m (OneMore {xs} {meetings} {x} meeting {n} {es} {e} all one) s =
-      let k = none_at all (no_front meetings meeting m s) in
-      let same : meeting ≡ m = only_one meetings meeting m s in
-      let there : Emits rules x meeting.1 n e = subst (λ (z : EmittedAll I P). Emits rules x meeting.1 z.next e) k.emitted one in
-      record {
-        derivation = x;
-        one = e;
-        derivations = ap (λ l. l ++ x ∷ []) k.derivations;
-        emits = subst (λ (z : Meeting). Emits rules x z.1 n e) same there;
-        emitted = ap (λ z. and_one z e) k.emitted;
-      }
-
-  abbrev register_of : Bool → ℕ → ℕ
-  register_of chain free = if chain then free - 1 else free
-
-  -- what a rule adds behind its parts
-  abbrev behind : ℕ → Node → EmittedAll I P → ℕ → Emitted I P
-  behind number t es to = record { code = es.code ++ rules.code number t es.parts to; part = rules.part number t es.parts to; to = to; next = to + 1 }
-
-  chain_emits : (number : ℕ) (row : Row) (x : MDerivation) (t : Node) (n to : ℕ) (e : Emitted I P) → Emits rules x t n e → to ≡ e.next - 1 → is_chain row.pattern ≡ true → Applies rules number row t (e.part ∷ []) to → Emits rules (Apply number (parts_of (x ∷ []))) t n (behind number t (and_one (no_code n) e) to)
-  chain_emits number row x t n to e one is chain a =
-      let f : e.next ≡ e.to + 1 = (takes m rules obeys one).next in
-      let same : to ≡ e.to = omega (arith, f, is) in
-      let at : Applies rules number row t (e.part ∷ []) e.to = subst (λ r. Applies rules number row t (e.part ∷ []) r) same a in
-      let c = e.code ++ rules.code number t (e.part ∷ []) e.to in
-      let p = rules.part number t (e.part ∷ []) e.to in
-      let done : Emits rules (Apply number (parts_of (x ∷ []))) t n (record { code = c; part = p; to = e.to; next = e.next }) = ByChain one chain at in
-      let more : Emits rules (Apply number (parts_of (x ∷ []))) t n (record { code = c; part = p; to = e.to; next = e.to + 1 }) =
-      subst (λ r. Emits rules (Apply number (parts_of (x ∷ []))) t n (record { code = c; part = p; to = e.to; next = r })) f done
-      in
-      subst (λ r. Emits rules (Apply number (parts_of (x ∷ []))) t n (behind number t (and_one (no_code n) e) r)) (sym same) more
-
-  rule_emits : (number : ℕ) (row : Row) (xs : List MDerivation) (ms : List Meeting) (t : Node) (n to : ℕ) (es : EmittedAll I P) (chain : Bool) → is_chain row.pattern ≡ chain → EmitsAll rules xs ms n es → leaves_at row.pattern t ≡ Some ms → to ≡ register_of chain es.next → Applies rules number row t es.parts to → Emits rules (Apply number (parts_of xs)) t n (behind number t es to)
-  rule_emits number row xs ms t n to es true chain all fits is a =
-      let q = chain_meets row.pattern t ms chain fits in
-      let k = one_at (q.0, t) all q.1 in
-      let e = k.one in
-      let free : to ≡ e.next - 1 = is ∙ ap (λ (z : EmittedAll I P). z.next - 1) k.emitted in
-      let there : Applies rules number row t (e.part ∷ []) to = subst (λ (z : EmittedAll I P). Applies rules number row t z.parts to) k.emitted a in
-      subst (λ l. Emits rules (Apply number (parts_of l)) t n (behind number t es to)) (sym k.derivations)
-      (subst (λ z. Emits rules (Apply number (parts_of (k.derivation ∷ []))) t n (behind number t z to)) (sym k.emitted)
-      (chain_emits number row k.derivation t n to e k.emits free chain there))
-  rule_emits number row xs ms t n to es false chain all fits is a =
-      let there : Applies rules number row t es.parts es.next = subst (λ r. Applies rules number row t es.parts r) is a in
-      subst (λ r. Emits rules (Apply number (parts_of xs)) t n (behind number t es r)) (sym is) (ByRule all fits chain there)
-
-  -- the register is virtual, and new but in a chain rule
-  chain_low : (p : MPattern) (xs : List MDerivation) (ms : List Meeting) (t : Node) (n : ℕ) (es : EmittedAll I P) → is_chain p ≡ true → EmitsAll rules xs ms n es → leaves_at p t ≡ Some ms → n ≤ es.next - 1
-  chain_low p xs ms t n es chain all fits =
-      let q = chain_meets p t ms chain fits in
-      let k = one_at (q.0, t) all q.1 in
-      let w = takes m rules obeys k.emits in
-      let a : n ≤ k.one.to = w.low in
-      let b : k.one.next ≡ k.one.to + 1 = w.next in
-      let c : es.next ≡ k.one.next = ap (λ (z : EmittedAll I P). z.next) k.emitted in
-      omega (arith, a, b, c)
-
-  register_low : (p : MPattern) (xs : List MDerivation) (ms : List Meeting) (t : Node) (n : ℕ) (es : EmittedAll I P) (chain : Bool) → is_chain p ≡ chain → EmitsAll rules xs ms n es → leaves_at p t ≡ Some ms → n ≤ register_of chain es.next
-  register_low p xs ms t n es true chain all fits = chain_low p xs ms t n es chain all fits
-  register_low p xs ms t n es false chain all fits = (take_each m rules obeys all).low
-
-  is_new : (p : MPattern) (qs : List ℕ) (free to : ℕ) (chain : Bool) → is_chain p ≡ chain → to ≡ register_of chain free → ((r : ℕ) → among r qs ≡ true → r < free) → IsTrue (is_chain p || not (among to qs))
-  is_new p qs free to true chain is below = or_left (is_chain p) (not (among to qs)) chain
-  is_new p qs free to false chain is below =
-      or_right (is_chain p) (not (among to qs))
-      (not_from_false (among to qs) (false_from_ne_true (among to qs) (λ h. let u : to < free = below to h in absurd (omega (arith, u, is)))))
-
   module _ (rows : List Rule) (are : map row_of rows ≡ rules.rows) where
-    pub applies : {r : Rule} {number : ℕ} {t : Node} {xs : List MDerivation} {n to : ℕ} {es : EmittedAll I P} → Here rows r number t xs → EmitsAll rules xs (meetings_at (pattern_of r.pattern) t) n es → 64 ≤ n → to ≡ register_of (is_chain (pattern_of r.pattern)) es.next → Applies rules number (row_of r) t es.parts to
+    -- the rule may be applied with the next register
+    pub applies : {r : Rule} {number : ℕ} {t : Node} {xs : List MDerivation} {n to : ℕ} {es : EmittedAll I P} → Here rows r number t xs → EmitsAll rules xs (meetings_at (pattern_of r.pattern) t) n es → 64 ≤ n → to ≡ es.next → Applies rules number (row_of r) t es.parts to
     applies {r} {number} {t} {xs} {n} {to} {es} h all low is =
-        let p = pattern_of r.pattern in
         let w = take_each m rules obeys all in
-        let b : n ≤ register_of (is_chain p) es.next = register_low p xs (meetings_at p t) t n es (is_chain p) refl all h.fits in
-        let c : n ≤ to = subst (λ r. n ≤ r) (sym is) b in
+        let b = w.low in
+        let qs = all_registers rules es.parts in
         record {
           place = number - 1;
           number_is = h.number_is;
           row_is = row_is rows rules.rows (number - 1) r are h.row;
-          meetings = meetings_at p t;
+          meetings = meetings_at (pattern_of r.pattern) t;
           fits = h.fits;
           hand = hand_all rules rows are m obeys all h.each;
-          to_virtual = omega (arith, low, c);
+          to_virtual = omega (arith, low, b, is);
           limit = es.next;
-          parts_virtual = in_range n es.next (all_registers rules es.parts) low w.registers;
-          new = is_new p (all_registers rules es.parts) es.next to (is_chain p) refl is (λ r i. (w.registers r i).1);
+          parts_virtual = in_range n es.next qs low w.registers;
+          new = or_right (is_chain (pattern_of r.pattern)) (not (among to qs)) (not_from_false (among to qs) (false_from_ne_true (among to qs) (λ i. let u = (w.registers to i).1 in absurd (omega (arith, u, is)))));
         }
 
-    pub added_by : {R : Type 0} {r : Rule} {t : Node} {n n' to free : ℕ} {old mid : List I} {ps : List P} (d : Derivation) (new : List I) (result : Result P R) → Here rows r (out-Derivation d).rule t (map derivation_of (out-Derivation d).parts) → AddedAll rules (map derivation_of (out-Derivation d).parts) (meetings_at (pattern_of r.pattern) t) n n' old mid ps → 64 ≤ n → to ≡ register_of (is_chain (pattern_of r.pattern)) n' → free ≡ to + 1 → OnOk result (new ≡ mid ++ rules.code (out-Derivation d).rule t ps to) → IfOk result (λ p. p ≡ rules.part (out-Derivation d).rule t ps to) → IfOk result (λ p. Added rules (derivation_of d) t n free old new p)
-    added_by {R} {r} {t} {n} {n'} {to} {free} {old} {mid} {ps} d new (Ok p) h a low is next e f =
+    -- a chain rule may be applied with its part's register
+    pub applies_chain : {r : Rule} {t : Node} {d x : Derivation} {n to n' : ℕ} {code : List I} {p : P} → Chained rows r t d x → is_chain (pattern_of r.pattern) ≡ true → Emits rules (derivation_of x) t n (record { code = code; part = p; to = to; next = n' }) → 64 ≤ n → Applies rules (out-Derivation d).rule (row_of r) t (p ∷ []) to
+    applies_chain {r} {t} {d} {x} {n} {to} {n'} {code} {p} c chain one low =
+        let w = takes m rules obeys one in
+        let b = w.low in
+        let qs = all_registers rules (p ∷ []) in
+        record {
+          place = (out-Derivation d).rule - 1;
+          number_is = c.here.number_is;
+          row_is = row_is rows rules.rows ((out-Derivation d).rule - 1) r are c.here.row;
+          meetings = (c.nonterminal, t) ∷ [];
+          fits = c.here.fits ∙ ap Some c.meetings;
+          hand = (hands rules rows are m obeys one c.nonterminal c.derives, tt);
+          to_virtual = omega (arith, low, b);
+          limit = n';
+          parts_virtual = in_range n n' qs low (λ q i. w.registers q (registers_one m rules obeys q p i));
+          new = or_left (is_chain (pattern_of r.pattern)) (not (among to qs)) chain;
+        }
+
+    whole_emits : (d : Derivation) (xs : List MDerivation) (t : Node) (n : ℕ) (e : Emitted I P) → xs_of d ≡ xs → Emits rules (Apply (out-Derivation d).rule (parts_of xs)) t n e → Emits rules (derivation_of d) t n e
+    whole_emits d xs t n e are one =
+        subst (λ x. Emits rules x t n e) (sym (derivation_out d)) (subst (λ l. Emits rules (Apply (out-Derivation d).rule (parts_of l)) t n e) (sym are) one)
+
+    -- a chain rule's code behind its part's
+    pub added_chain : {r : Rule} {t : Node} {d x : Derivation} {n n' to : ℕ} {old mid new : List I} {p q : P} {ps : List P} → Chained rows r t d x → is_chain (pattern_of r.pattern) ≡ true → 64 ≤ n → Added rules (derivation_of x) t n n' old mid p to → ps ≡ p ∷ [] → new ≡ mid ++ rules.code (out-Derivation d).rule t ps to → q ≡ rules.part (out-Derivation d).rule t ps to → Added rules (derivation_of d) t n n' old new q to
+    added_chain {r} {t} {d} {x} {n} {n'} {to} {old} {mid} {new} {p} {q} {ps} w chain low a are e f =
         let number = (out-Derivation d).rule in
-        let xs = map derivation_of (out-Derivation d).parts in
-        let row = row_of r in
-        let es : EmittedAll I P = record { code = a.code; parts = ps; next = n' } in
-        let done = rule_emits number row xs (meetings_at (pattern_of r.pattern) t) t n to es (is_chain row.pattern) refl a.emits h.fits is (applies h a.emits low is) in
-        let c = rules.code number t ps to in
-        let at : Emits rules (derivation_of d) t n (behind number t es to) = subst (λ x. Emits rules x t n (behind number t es to)) (sym (derivation_out d)) done in
-        let with_part : Emits rules (derivation_of d) t n (record { code = a.code ++ c; part = p; to = to; next = to + 1 }) =
-        subst (λ q. Emits rules (derivation_of d) t n (record { code = a.code ++ c; part = q; to = to; next = to + 1 })) (sym f) at
-        in
+        let c = rules.code number t (p ∷ []) to in
+        let done : Emits rules (Apply number (parts_of (derivation_of x ∷ []))) t n (record { code = a.code ++ c; part = rules.part number t (p ∷ []) to; to = to; next = n' }) = ByChain a.emits chain (applies_chain w chain a.emits low) in
+        let same : q ≡ rules.part number t (p ∷ []) to = f ∙ ap (λ l. rules.part number t l to) are in
         record {
           code = a.code ++ c;
-          to = to;
-          appended = e ∙ ap (λ l. l ++ c) a.appended ∙ append_assoc old a.code c;
-          emits = subst (λ q. Emits rules (derivation_of d) t n (record { code = a.code ++ c; part = p; to = to; next = q })) (sym next) with_part;
+          appended = e ∙ ap (λ l. mid ++ rules.code number t l to) are ∙ ap (λ l. l ++ c) a.appended ∙ append_assoc old a.code c;
+          emits = whole_emits d (derivation_of x ∷ []) t n _ w.parts (subst (λ y. Emits rules (Apply number (parts_of (derivation_of x ∷ []))) t n (record { code = a.code ++ c; part = y; to = to; next = n' })) (sym same) done);
         }
-    added_by {R} {r} {t} {n} {n'} {to} {free} {old} {mid} {ps} d new (Err x) h a low is next e f = tt
+
+    -- another rule's code behind its parts'
+    pub added_rule : {r : Rule} {t : Node} {n n' to free : ℕ} {old mid new : List I} {ps : List P} {q : P} (d : Derivation) → Here rows r (out-Derivation d).rule t (xs_of d) → is_chain (pattern_of r.pattern) ≡ false → AddedAll rules (xs_of d) (meetings_at (pattern_of r.pattern) t) n n' old mid ps → 64 ≤ n → to ≡ n' → free ≡ n' + one_where (gives (head_of t)) → new ≡ mid ++ rules.code (out-Derivation d).rule t ps to → q ≡ rules.part (out-Derivation d).rule t ps to → Added rules (derivation_of d) t n free old new q to
+    added_rule {r} {t} {n} {n'} {to} {free} {old} {mid} {new} {ps} {q} d h chain a low is next e f =
+        let number = (out-Derivation d).rule in
+        let es : EmittedAll I P = record { code = a.code; parts = ps; next = n' } in
+        let c = rules.code number t ps n' in
+        let done : Emits rules (Apply number (parts_of (xs_of d))) t n (record { code = a.code ++ c; part = rules.part number t ps n'; to = n'; next = n' + one_where (gives (head_of t)) }) = ByRule a.emits h.fits chain (applies h a.emits low refl) in
+        let same : q ≡ rules.part number t ps n' = f ∙ ap (λ r. rules.part number t ps r) is in
+        let with_part = subst (λ y. Emits rules (Apply number (parts_of (xs_of d))) t n (record { code = a.code ++ c; part = y; to = n'; next = n' + one_where (gives (head_of t)) })) (sym same) done in
+        let with_next = subst (λ y. Emits rules (Apply number (parts_of (xs_of d))) t n (record { code = a.code ++ c; part = q; to = n'; next = y })) (sym next) with_part in
+        record {
+          code = a.code ++ c;
+          appended = e ∙ ap (λ r. mid ++ rules.code number t ps r) is ∙ ap (λ l. l ++ c) a.appended ∙ append_assoc old a.code c;
+          emits = whole_emits d (xs_of d) t n _ refl (subst (λ y. Emits rules (Apply number (parts_of (xs_of d))) t n (record { code = a.code ++ c; part = q; to = y; next = free })) (sym is) with_next);
+        }

@@ -12,9 +12,9 @@ use Rattle.lburg_grammar.specs.declared.rule.Rule.{Rule}
 use Rattle.lburg_grammar.specs.Description.{MDescription}
 use Rattle.lburg_grammar.specs.Derivation.{MDerivation, Derives}
 use Rattle.lburg_grammar.specs.DerivationOf.{derivation_of}
-use Rattle.op_forest.specs.Nodes.{Node, nodes, tree_of}
+use Rattle.op_forest.specs.Nodes.{Node, value_nodes, tree_of}
 use Rattle.vcode.specs.Machines.{Machine}
-use Rattle.vcode.specs.VirtualCode.{MCode, joined, ends_from, IsStretch, IsVirtualCode}
+use Rattle.vcode.specs.VirtualCode.{MCode, NamesBelow, joined, ends_from, IsStretch, IsVirtualCode}
 use Rattle.vcode.specs.RuleSets.{row_of, Rules, Obeys}
 use Rattle.vcode.specs.Emission.{EmitsRoots, NoRoot, OneRoot, IsLinearised}
 use Rattle.vcode.specs.Adding.{Added}
@@ -22,7 +22,8 @@ use Rattle.vcode.specs.Roots.{AreDerived, IsQuiet}
 use Rattle.vcode.proofs.Agreement.{agrees}
 use Rattle.vcode.proofs.Emitting.{take_at}
 use Rattle.vcode.proofs.Registers.{takes}
-use Rattle.vcode.proofs.Stretches.{stretch}
+use Rattle.vcode.proofs.Joining.{names_joined, names_wider}
+use Rattle.vcode.proofs.Stretches.{stretch, names_taken}
 
 joined_more : {I : Type 0} (ss : List (List I)) (s : List I) → joined (ss ++ s ∷ []) ≡ joined ss ++ s
 joined_more [] s = append-nil s
@@ -86,9 +87,10 @@ module _ {I P : Type 0} (m : Machine I) (rules : Rules I P) (obeys : Obeys m rul
     pub code_is : code ≡ joined stretches
     pub cuts_are : cuts ≡ ends_from 0 stretches
     pub each : All (IsStretch m) stretches
+    pub named : NamesBelow m free (joined stretches)
 
   pub none_gathered : (code : List I) (cuts : List ℕ) → code ≡ [] → cuts ≡ [] → Gathered [] [] 64 code cuts
-  none_gathered code cuts e f = record { stretches = []; emits = NoRoot; code_is = e; cuts_are = f; each = All-nil (IsStretch m) }
+  none_gathered code cuts e f = record { stretches = []; emits = NoRoot; code_is = e; cuts_are = f; each = All-nil (IsStretch m); named = tt }
 
   roots_low : {xs : List MDerivation} {ts : List Node} {n n' : ℕ} {ss : List (List I)} → EmitsRoots rules xs ts n ss n' → n ≤ n'
   roots_low (NoRoot {n}) = omega arith
@@ -99,29 +101,34 @@ module _ {I P : Type 0} (m : Machine I) (rules : Rules I P) (obeys : Obeys m rul
       let c = w.next in
       omega (arith, a, b, c)
 
-  roots_few : {xs : List MDerivation} {ts : List Node} {n n' : ℕ} {ss : List (List I)} → EmitsRoots rules xs ts n ss n' → n' ≤ n + sum_by nodes ts
+  roots_few : {xs : List MDerivation} {ts : List Node} {n n' : ℕ} {ss : List (List I)} → EmitsRoots rules xs ts n ss n' → n' ≤ n + sum_by value_nodes ts
   roots_few (NoRoot {n}) = omega arith
   roots_few (OneRoot {xs} {ts} {x} {t} {n} {n'} {stretches} {e} all one) =
-      let a : n' ≤ n + sum_by nodes ts = roots_few all in
+      let a : n' ≤ n + sum_by value_nodes ts = roots_few all in
       let w = takes m rules obeys one in
       let b = w.few in
-      let c : sum_by nodes (ts ++ t ∷ []) ≡ sum_by nodes ts + nodes t = sum_by_push nodes ts t in
+      let c : sum_by value_nodes (ts ++ t ∷ []) ≡ sum_by value_nodes ts + value_nodes t = sum_by_push value_nodes ts t in
       omega (arith, a, b, c)
 
   pub gathered_low : {xs : List MDerivation} {ts : List Node} {free : ℕ} {code : List I} {cuts : List ℕ} → Gathered xs ts free code cuts → 64 ≤ free
   gathered_low g = roots_low g.emits
 
-  pub gathered_room : {xs : List MDerivation} {free k : ℕ} {code : List I} {cuts : List ℕ} (ts : List Node) (t : Node) (limit : ℕ) → Gathered xs (take k ts) free code cuts → k < length ts → t ≡ get_or ts k t → 64 + sum_by nodes ts ≤ limit → free + nodes t ≤ limit
+  pub gathered_room : {xs : List MDerivation} {free k : ℕ} {code : List I} {cuts : List ℕ} (ts : List Node) (t : Node) (limit : ℕ) → Gathered xs (take k ts) free code cuts → k < length ts → t ≡ get_or ts k t → 64 + sum_by value_nodes ts ≤ limit → free + value_nodes t ≤ limit
   gathered_room {xs} {free} {k} {code} {cuts} ts t limit g h is room =
-      let a : free ≤ 64 + sum_by nodes (take k ts) = roots_few g.emits in
-      let b : sum_by nodes (take k ts) + nodes (get_or ts k t) ≤ sum_by nodes ts = sum_by_more_le nodes ts k t h in
-      let c : nodes t ≡ nodes (get_or ts k t) = ap nodes is in
+      let a : free ≤ 64 + sum_by value_nodes (take k ts) = roots_few g.emits in
+      let b : sum_by value_nodes (take k ts) + value_nodes (get_or ts k t) ≤ sum_by value_nodes ts = sum_by_more_le value_nodes ts k t h in
+      let c : value_nodes t ≡ value_nodes (get_or ts k t) = ap value_nodes is in
       omega (arith, a, b, c, room)
 
-  pub more_gathered : (rows : List Rule) (xs : List MDerivation) (ts : List Node) (k : ℕ) {free free' : ℕ} {x : MDerivation} {t : Node} {code code' : List I} {cuts cuts' : List ℕ} {p : P} → map row_of rows ≡ rules.rows → slice_get xs k ≡ Some x → slice_get ts k ≡ Some t → Gathered (take k xs) (take k ts) free code cuts → Added rules x t free free' code code' p → cuts' ≡ cuts ++ length code' ∷ [] → Derives rows rules.start (tree_of t) x → IsQuiet t → free + nodes t ≤ 2 ^ 31 → Gathered (take (k + 1) xs) (take (k + 1) ts) free' code' cuts'
-  more_gathered rows xs ts k {free} {free'} {x} {t} {code} {code'} {cuts} {cuts'} {p} are at_x at_t g a e d q room =
-      let w = (takes m rules obeys a.emits).few in
+  pub more_gathered : (rows : List Rule) (xs : List MDerivation) (ts : List Node) (k : ℕ) {free free' : ℕ} {x : MDerivation} {t : Node} {code code' : List I} {cuts cuts' : List ℕ} {p : P} {to : ℕ} → map row_of rows ≡ rules.rows → slice_get xs k ≡ Some x → slice_get ts k ≡ Some t → Gathered (take k xs) (take k ts) free code cuts → Added rules x t free free' code code' p to → cuts' ≡ cuts ++ length code' ∷ [] → Derives rows rules.start (tree_of t) x → IsQuiet t → free + value_nodes t ≤ 2 ^ 31 → Gathered (take (k + 1) xs) (take (k + 1) ts) free' code' cuts'
+  more_gathered rows xs ts k {free} {free'} {x} {t} {code} {code'} {cuts} {cuts'} {p} {to} are at_x at_t g a e d q room =
+      let taken = takes m rules obeys a.emits in
+      let w = taken.few in
+      let up = taken.low in
+      let next = taken.next in
+      let low : 64 ≤ free = roots_low g.emits in
       let le : free' ≤ 2 ^ 31 = omega (arith, w, room) in
+      let rises : free ≤ free' = omega (arith, up, next) in
       let code_is : code' ≡ joined (g.stretches ++ a.code ∷ []) = a.appended ∙ ap (λ l. l ++ a.code) g.code_is ∙ sym (joined_more g.stretches a.code) in
       let whole : code' ≡ joined g.stretches ++ a.code = a.appended ∙ ap (λ l. l ++ a.code) g.code_is in
       let place : length code' ≡ 0 + length (joined g.stretches ++ a.code) = zero_more (length code') (length (joined g.stretches ++ a.code)) (ap length whole) in
@@ -134,6 +141,7 @@ module _ {I P : Type 0} (m : Machine I) (rules : Rules I P) (obeys : Obeys m rul
         code_is = code_is;
         cuts_are = e ∙ ap (λ l. l ++ length code' ∷ []) g.cuts_are ∙ ap (λ l. ends_from 0 g.stretches ++ l ∷ []) place ∙ sym (ends_more 0 g.stretches a.code);
         each = All-push (IsStretch m) g.stretches a.code g.each (stretch m rules obeys rows are a.emits d q le);
+        named = subst (NamesBelow m free') (sym (joined_more g.stretches a.code)) (names_joined m free' (joined g.stretches) a.code (names_wider m free free' (joined g.stretches) rises g.named) (names_taken m rules obeys a.emits low));
       }
 
   pub all_gathered : {xs : List MDerivation} {ts : List Node} {k free : ℕ} {code : List I} {cuts : List ℕ} → length xs ≡ length ts → length ts ≤ k → Gathered (take k xs) (take k ts) free code cuts → Gathered xs ts free code cuts
@@ -155,5 +163,7 @@ module _ {I P : Type 0} (m : Machine I) (rules : Rules I P) (obeys : Obeys m rul
         emits = g.emits;
         code = refl;
         cuts = refl;
+        few = roots_few g.emits;
+        names = g.named;
         agrees = agrees m rules obeys xs ts g.stretches free g.emits some;
       })

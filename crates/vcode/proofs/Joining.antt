@@ -32,6 +32,10 @@ below_all limit qs (o ∷ os) le b h = (
   below_all limit qs os le b h.1,
 )
 
+below_wider : (low high : ℕ) (os : List Operand) → low ≤ high → AreBelow low os → AreBelow high os
+below_wider low high [] le h = tt
+below_wider low high (o ∷ os) le h = ((let l = h.0 in let u : o.reg < high = omega (arith, l, le) in u), below_wider low high os le h.1)
+
 module _ {I : Type 0} (m : Machine I) where
   pub flows_within : (code : List I) (qs qs' : List ℕ) → Within qs qs' → Flows m qs code → Flows m qs' code
   flows_within [] qs qs' w h = tt
@@ -64,6 +68,10 @@ module _ {I : Type 0} (m : Machine I) where
   pub names_joined : (limit : ℕ) (a b : List I) → NamesBelow m limit a → NamesBelow m limit b → NamesBelow m limit (a ++ b)
   names_joined limit [] b h k = k
   names_joined limit (i ∷ a) b h k = (h.0, names_joined limit a b h.1 k)
+
+  pub names_wider : (low high : ℕ) (code : List I) → low ≤ high → NamesBelow m low code → NamesBelow m high code
+  names_wider low high [] le h = tt
+  names_wider low high (i ∷ is) le h = (below_wider low high (m.operands i) le h.0, names_wider low high is le h.1)
 
   pub slots_joined : (a b : List I) → UsesNoSlot m a → UsesNoSlot m b → UsesNoSlot m (a ++ b)
   slots_joined [] b h k = k

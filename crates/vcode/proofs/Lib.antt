@@ -1,4 +1,3 @@
-pub mod Leaves
 pub mod Members
 pub mod Registers
 pub mod Steady

@@ -1,21 +1,21 @@
 -- The code of a root's derivation is a stretch.
-use Rattle.std.proofs.Common.{◌≡◌, ℕ, ◌≤◌, ◌<◌, ◌^◌, List, [], ◌∷◌, ◌++◌, true, Some, map, lit≤, sym, ap, ◌∙◌, subst, arith, inl, inr, ◌⊎◌, ⊎_elim, length, length-append}
+use Rattle.std.proofs.Common.{◌≡◌, ℕ, ◌≤◌, ◌<◌, ◌^◌, List, [], ◌∷◌, ◌++◌, Bool, ◌+◌, true, Some, map, lit≤, sym, ap, ◌∙◌, subst, arith, inl, inr, ◌⊎◌, ⊎_elim, length, length-append}
 use Rattle.std.proofs.lemmas.List.{map-append}
-use Rattle.std.proofs.lemmas.Bool.{false≢true, or_cases, eqb-true}
+use Rattle.std.proofs.lemmas.Bool.{false≢true}
 use Rattle.lburg_grammar.specs.declared.rule.Rule.{Rule}
 use Rattle.std.proofs.lemmas.Option.{same_Some}
 use Rattle.lburg_grammar.specs.Derivation.{MDerivation, Apply, MParts, Derives, DeriveEach}
 use Rattle.lburg_grammar.specs.DerivationOf.{parts_of}
-use Rattle.op_forest.specs.Nodes.{Node, tree_of}
+use Rattle.op_forest.specs.Nodes.{Node, head_of, gives, one_where, tree_of}
 use Rattle.vcode.specs.Machines.{Machine}
 use Rattle.vcode.specs.VirtualCode.{among, Flows, NamesBelow, UsesNoSlot, IsStretch}
 use Rattle.vcode.specs.Patterns.{Meeting, leaves_at}
-use Rattle.vcode.specs.RuleSets.{Row, row_of, Rules, Applies, Obeys, code_results, all_registers, SomeBusy}
+use Rattle.vcode.specs.RuleSets.{Row, row_of, Rules, Applies, Obeys, one_register, own_register, code_results, all_registers, SomeBusy}
 use Rattle.vcode.specs.Emission.{Emitted, EmittedAll, Emits, EmitsAll, ByChain, ByRule, Nothing, OneMore}
 use Rattle.vcode.specs.Roots.{IsQuiet}
-use Rattle.vcode.proofs.Leaves.{turned, chain_meets}
-use Rattle.vcode.proofs.Registers.{among_left, among_right, Between, registers_one, registers_more, takes, take_all}
-use Rattle.vcode.proofs.Parts.{parted, applied_at}
+use Rattle.vcode.specs.Leaves.{turned, chain_meets}
+use Rattle.vcode.proofs.Registers.{among_append, among_left, among_right, own_is, Between, registers_one, registers_more, takes, take_all}
+use Rattle.vcode.specs.Deriving.{parted, applied_at}
 use Rattle.vcode.proofs.Joining.{Within, flows_joined, results_joined, names_below, names_joined, slots_joined}
 use Rattle.vcode.proofs.Still.{rooted}
 
@@ -35,24 +35,24 @@ module _ {I P : Type 0} (m : Machine I) (rules : Rules I P) (obeys : Obeys m rul
   within_right a b qs w r h =
       subst (λ l. among r l ≡ true) (sym (results_joined m a b)) (among_right r (code_results m a) (code_results m b) (w r h))
 
-  below_of : (n high limit to : ℕ) (qs : List ℕ) → Between n high qs → high ≤ limit → to < limit → (r : ℕ) → among r (to ∷ qs) ≡ true → r < limit
-  below_of n high limit to qs b le lt r h =
+  below_of : (n high limit to : ℕ) (takes : Bool) (qs : List ℕ) → Between n high qs → high ≤ limit → to + one_where takes ≤ limit → (r : ℕ) → among r (one_register takes to ++ qs) ≡ true → r < limit
+  below_of n high limit to takes qs b le lt r h =
       ⊎_elim
-      (λ e. subst (λ x. x < limit) (sym (eqb-true r to e)) lt)
+      (λ e. let own = own_is takes r to e in let one = own.0 in let is = own.1 in let u : r < limit = omega (arith, lt, one, is) in u)
       (λ e. let k = b r e in let u : r < limit = omega (arith, k, le) in u)
-      (or_cases _ _ h)
+      (among_append r (one_register takes to) qs h)
 
-  rule_writes : (limit n high : ℕ) (code : List I) (number : ℕ) (row : Row) (t : Node) (ps : List P) (to : ℕ) → 64 ≤ limit → Writes limit code (all_registers rules ps) → Between n high (all_registers rules ps) → high ≤ limit → to < limit → Applies rules number row t ps to → Writes limit (code ++ rules.code number t ps to) (rules.registers (rules.part number t ps to))
+  rule_writes : (limit n high : ℕ) (code : List I) (number : ℕ) (row : Row) (t : Node) (ps : List P) (to : ℕ) → 64 ≤ limit → Writes limit code (all_registers rules ps) → Between n high (all_registers rules ps) → high ≤ limit → to + one_where (gives (head_of t)) ≤ limit → Applies rules number row t ps to → Writes limit (code ++ rules.code number t ps to) (rules.registers (rules.part number t ps to))
   rule_writes limit n high code number row t ps to low w b le lt a =
       let c = rules.code number t ps to in
+      let qs = own_register t to ++ all_registers rules ps in
       record {
         flows = flows_joined m code c [] (all_registers rules ps) (λ r h. inr (w.written r h)) w.flows (obeys.flows number row t ps to a);
         written = λ r h. ⊎_elim
             (λ e. within_left code c (all_registers rules ps) w.written r e)
-            (λ e. subst (λ q. among q (code_results m (code ++ c)) ≡ true) (sym e.0)
-            (subst (λ l. among to l ≡ true) (sym (results_joined m code c)) (among_right to (code_results m code) (code_results m c) e.1)))
+            (λ e. subst (λ l. among r l ≡ true) (sym (results_joined m code c)) (among_right r (code_results m code) (code_results m c) e.1))
             (obeys.part_registers number row t ps to r a h);
-        names = names_joined m limit code c w.names (names_below m limit (to ∷ all_registers rules ps) c low (below_of n high limit to (all_registers rules ps) b le lt) (obeys.names number row t ps to a));
+        names = names_joined m limit code c w.names (names_below m limit qs c low (below_of n high limit to (gives (head_of t)) (all_registers rules ps) b le lt) (obeys.names number row t ps to a));
         slots = slots_joined m code c w.slots (obeys.slots number row t ps to a);
       }
 
@@ -72,15 +72,14 @@ module _ {I P : Type 0} (m : Machine I) (rules : Rules I P) (obeys : Obeys m rul
     writes limit (ByChain {number} {row} {x} {t} {n} {e} one chain a) low le =
         let k = takes m rules obeys one in
         let f = k.next in
-        let lt : e.to < limit = omega (arith, f, le) in
+        let lt : e.to + one_where (gives (head_of t)) ≤ limit = omega (arith, f, le) in
         let w = writes limit one low le in
         let ws : Writes limit e.code (all_registers rules (e.part ∷ [])) = record { flows = w.flows; written = λ r h. w.written r (registers_one m rules obeys r e.part h); names = w.names; slots = w.slots } in
         rule_writes limit n e.next e.code number row t (e.part ∷ []) e.to low ws (λ r h. k.registers r (registers_one m rules obeys r e.part h)) le lt a
     writes limit (ByRule {number} {row} {xs} {meetings} {t} {n} {es} all fits chain a) low le =
         let k = take_all m rules obeys all in
-        let lt : es.next < limit = omega (arith, le) in
         let les : es.next ≤ limit = omega (arith, le) in
-        rule_writes limit n es.next es.code number row t es.parts es.next low (write_all limit all low les) k.registers les lt a
+        rule_writes limit n es.next es.code number row t es.parts es.next low (write_all limit all low les) k.registers les le a
 
     pub write_all : (limit : ℕ) {xs : List MDerivation} {ms : List Meeting} {n : ℕ} {es : EmittedAll I P} → EmitsAll rules xs ms n es → 64 ≤ limit → es.next ≤ limit → Writes limit es.code (all_registers rules es.parts)
     write_all limit (Nothing {n}) low le = record { flows = tt; written = none_written; names = tt; slots = tt }
@@ -90,6 +89,16 @@ module _ {I P : Type 0} (m : Machine I) (rules : Rules I P) (obeys : Obeys m rul
         let g = k.low in
         let les : es.next ≤ limit = omega (arith, le, f, g) in
         more_writes limit es.code e.code es.parts e.part (write_all limit all low les) (writes limit one low le)
+
+  -- no virtual register is named from the next one on
+  pub names_taken : {x : MDerivation} {t : Node} {n : ℕ} {e : Emitted I P} → Emits rules x t n e → 64 ≤ n → NamesBelow m e.next e.code
+  names_taken {x} {t} {n} {e} one low =
+      let k = takes m rules obeys one in
+      let a = k.low in
+      let b = k.next in
+      let some : 64 ≤ e.next = omega (arith, low, a, b) in
+      let same : e.next ≤ e.next = omega arith in
+      (writes e.next one some same).names
 
   some_left : (a b : List I) → 1 ≤ length a → 1 ≤ length (a ++ b)
   some_left a b h = omega (arith, h, length-append a b)

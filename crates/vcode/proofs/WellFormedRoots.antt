@@ -2,12 +2,13 @@
 use Rattle.std.proofs.Common.{◌≡◌, zero, suc, List, [], ◌∷◌, All, refl, arith}
 use Rattle.std.proofs.lemmas.Bool.{both_ways}
 use Rattle.std.specs.Prelude.{◌||◌, false, IsTrue}
+use Rattle.op_forest.specs.declared.forest.Forest.{Forest}
 use Rattle.op_forest.specs.declared.op.Op.{Op}
 use Rattle.op_forest.specs.declared.op.Op.TheVariants.{Ret, Eq, Ne, Lt, Le, Gt, Ge, Jump, Label}
 use Rattle.op_forest.specs.declared.suffix.Suffix.{Suffix}
 use Rattle.op_forest.specs.Nodes.{Node, Leaf, One, Two}
 use Rattle.op_forest.specs.Signature.{gives_value, has_rule}
-use Rattle.op_forest.specs.WellFormed.{op_of, suffix_of, IsOperand, AreOperands, HasKinds, IsWellFormed}
+use Rattle.op_forest.specs.WellFormed.{op_of, suffix_of, IsOperand, AreOperands, HasKinds, AreGood, IsWellFormed}
 use Rattle.vcode.specs.RuleSets.{is_label, is_move}
 use Rattle.vcode.specs.Roots.{AllStill, IsQuiet}
 
@@ -56,7 +57,10 @@ quiet (Two h a b) kinds =
     let k = both_operands _ a b kinds.0.operands in
     (rule_no_label _ _ kinds.0.rule, all_still a k.0.1.0 kinds.1, all_still b k.1.1.0 kinds.2)
 
-pub all_quiet : (ts : List Node) → IsWellFormed ts → All IsQuiet ts
-all_quiet [] w k d h = absurd (omega (arith, h))
-all_quiet (t ∷ ts) w zero d h = quiet t w.0.fit.kinds
-all_quiet (t ∷ ts) w (suc k) d h = all_quiet ts w.1 k d (omega (arith, h))
+all_quiet_in : (f : Forest) (ts : List Node) → AreGood f ts → All IsQuiet ts
+all_quiet_in f [] w k d h = absurd (omega (arith, h))
+all_quiet_in f (t ∷ ts) w zero d h = quiet t w.0.fit.kinds
+all_quiet_in f (t ∷ ts) w (suc k) d h = all_quiet_in f ts w.1 k d (omega (arith, h))
+
+pub all_quiet : (f : Forest) → IsWellFormed f → All IsQuiet f.roots
+all_quiet f w = all_quiet_in f f.roots w

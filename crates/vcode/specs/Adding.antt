@@ -7,11 +7,10 @@ use Rattle.vcode.specs.Patterns.{Meeting, leaves_at}
 use Rattle.vcode.specs.RuleSets.{Rules}
 use Rattle.vcode.specs.Emission.{Emits}
 
--- the second list is the first with the code of the derivation, which hands up the part; registers were free from the
--- first number on and are from the second on
-pub record Added {I P : Type 0} (rules : Rules I P) (x : MDerivation) (t : Node) (free free' : ℕ) (old new : List I) (p : P) : Type 0 where
+-- the second list is the first with the code of the derivation, which hands up the part, and whose node has the register;
+-- registers were free from the first number on and are from the second on
+pub record Added {I P : Type 0} (rules : Rules I P) (x : MDerivation) (t : Node) (free free' : ℕ) (old new : List I) (p : P) (to : ℕ) : Type 0 where
   pub code : List I
-  pub to : ℕ
   pub appended : new ≡ old ++ code
   pub emits : Emits rules x t free (record { code = code; part = p; to = to; next = free' })
 

@@ -1,16 +1,18 @@
--- The code of derivations: each rule's code stands behind that of its nonterminals, from left to right. Each node at
--- which a rule that is no chain rule is applied has a register of its own, and the chain rules there use the same.
+-- The code of derivations: each rule's code stands behind that of its nonterminals, from left to right. The register of
+-- a node at which a rule that is no chain rule is applied is the next one that is free, and the chain rules there use the
+-- same. A node that gives a value takes its register; a statement takes none.
 -- Source: Fraser and Hanson, A Retargetable C Compiler, chapter 14.
 use Rattle.std.specs.Prelude.{◌≡◌, ℕ, ◌+◌, ◌≤◌, List, [], ◌∷◌, ◌++◌, true, false, Some}
+use Rattle.std.specs.List.{sum_by}
 use Rattle.lburg_grammar.specs.Derivation.{MDerivation, Apply}
 use Rattle.lburg_grammar.specs.DerivationOf.{parts_of}
-use Rattle.op_forest.specs.Nodes.{Node}
+use Rattle.op_forest.specs.Nodes.{Node, head_of, gives, one_where, value_nodes}
 use Rattle.op_forest.specs.Worlds.{Failed}
 use Rattle.op_forest.specs.Rows.{Setting}
 use Rattle.op_forest.specs.Bodies.{body_run}
 use Rattle.vcode.specs.Machines.{Machine}
 use Rattle.vcode.specs.Execution.{State, executed}
-use Rattle.vcode.specs.VirtualCode.{MCode, joined, ends_from}
+use Rattle.vcode.specs.VirtualCode.{MCode, NamesBelow, joined, ends_from}
 use Rattle.vcode.specs.Patterns.{Meeting, leaves_at, is_chain}
 use Rattle.vcode.specs.RuleSets.{Row, Rules, Applies}
 
@@ -41,7 +43,7 @@ module _ {I P : Type 0} (rules : Rules I P) where
     code = es.code ++ rules.code number t es.parts es.next;
     part = rules.part number t es.parts es.next;
     to = es.next;
-    next = es.next + 1;
+    next = es.next + one_where (gives (head_of t));
   }
 
 abbrev pub no_code : {I P : Type 0} → ℕ → EmittedAll I P
@@ -66,11 +68,14 @@ pub data EmitsRoots {I P : Type 0} (rules : Rules I P) : List MDerivation → Li
   OneRoot : {xs : List MDerivation} {ts : List Node} {x : MDerivation} {t : Node} {n n' : ℕ} {stretches : List (List I)} {e : Emitted I P} → EmitsRoots rules xs ts n stretches n' → Emits rules x t n' e → EmitsRoots rules (xs ++ x ∷ []) (ts ++ t ∷ []) n (stretches ++ e.code ∷ []) e.next
 
 -- Virtual code of a forest's roots: it is what the derivations add, a stretch a root, and from each state it does what
--- the roots do, unless these have no meaning, in at least as many steps.
+-- the roots do, unless these have no meaning, in at least as many steps. It names no virtual register from the next one
+-- on, and at most as many are taken as nodes give a value.
 pub record IsLinearised {I P : Type 0} (m : Machine I) (rules : Rules I P) (roots : List Node) (derivations : List MDerivation) (c : MCode I) : Type 0 where
   pub stretches : List (List I)
   pub next : ℕ
   pub emits : EmitsRoots rules derivations roots 64 stretches next
   pub code : c.code ≡ joined stretches
   pub cuts : c.cuts ≡ ends_from 0 stretches
+  pub few : next ≤ 64 + sum_by value_nodes roots
+  pub names : NamesBelow m next c.code
   pub agrees : (s : Setting) (n : ℕ) (st : State) → (body_run s roots n roots st.point ≡ Failed → ⊥) → (k : ℕ) × (n ≤ k) × (executed m s c.code k c.code st ≡ body_run s roots n roots st.point)

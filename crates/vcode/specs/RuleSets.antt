@@ -6,14 +6,15 @@ use Rattle.lburg_grammar.specs.Pattern.{MPattern, pattern_of}
 use Rattle.op_forest.specs.declared.op.Op.{Op}
 use Rattle.op_forest.specs.declared.op.Op.TheVariants as op
 pub use Rattle.op_forest.specs.Signature.{moves as is_move}
-use Rattle.op_forest.specs.Nodes.{Node, head_of}
+use Rattle.op_forest.specs.declared.sym.Sym.TheVariants as sym
+use Rattle.op_forest.specs.Nodes.{Node, head_of, gives}
 use Rattle.op_forest.specs.Words.{Word}
 use Rattle.op_forest.specs.Worlds.{Point, Move, Next, To, End, Effect, Went, Exits, Unfinished, Stuck, goes}
 use Rattle.op_forest.specs.Rows.{Setting}
 use Rattle.vcode.specs.declared.operand.Operand.{Operand}
 use Rattle.vcode.specs.Machines.{Machine}
 use Rattle.vcode.specs.Execution.{State, executed, moved}
-use Rattle.vcode.specs.VirtualCode.{is_virtual, among, results, Flows, HasNoMark, UsesNoSlot, MarkedFirst, MovesNot, MovesLast}
+use Rattle.vcode.specs.VirtualCode.{is_virtual, among, results, Flows, HasNoMark, UsesNoSlot, MarkedFirst, BeginsWithMark, MovesNot, MovesLast}
 use Rattle.vcode.specs.Patterns.{Meeting, leaves_at, pattern_effect, is_chain, is_ordered}
 
 -- a rule of the description: its left side, pattern and template, wherever the pattern stands in memory
@@ -106,6 +107,14 @@ is_label o = false
 abbrev pub op_at : Node → Op
 op_at t = (head_of t).operator.op
 
+abbrev pub one_register : Bool → ℕ → List ℕ
+one_register true to = to ∷ []
+one_register false to = []
+
+-- the node's register, where the node gives a value; a statement has none
+abbrev pub own_register : Node → ℕ → List ℕ
+own_register t to = one_register (gives (head_of t)) to
+
 module _ {I Part : Type 0} (rules : Rules I Part) where
   -- the parts' registers
   abbrev pub all_registers : List Part → List ℕ
@@ -153,9 +162,9 @@ pub record Obeys {I Part : Type 0} (m : Machine I) (rules : Rules I Part) : Type
   pub local : (s : Setting) (p : Part) (f g : ℕ → Word) → SameAt (rules.registers p) f g → rules.means s p f ≡ rules.means s p g
   pub hands : (number : ℕ) (row : Row) (t : Node) (ps : List Part) (to : ℕ) → Applies rules number row t ps to → rules.hands row.left t (rules.part number t ps to) ≡ true
   -- the new part names no register but the given parts' and, where the code writes it, the node's
-  pub part_registers : (number : ℕ) (row : Row) (t : Node) (ps : List Part) (to r : ℕ) → Applies rules number row t ps to → among r (rules.registers (rules.part number t ps to)) ≡ true → (among r (all_registers rules ps) ≡ true) ⊎ ((r ≡ to) × (among to (code_results m (rules.code number t ps to)) ≡ true))
-  -- the code names no register but the node's, the given parts' and the machine's
-  pub names : (number : ℕ) (row : Row) (t : Node) (ps : List Part) (to : ℕ) → Applies rules number row t ps to → CodeNames m (to ∷ all_registers rules ps) (rules.code number t ps to)
+  pub part_registers : (number : ℕ) (row : Row) (t : Node) (ps : List Part) (to r : ℕ) → Applies rules number row t ps to → among r (rules.registers (rules.part number t ps to)) ≡ true → (among r (all_registers rules ps) ≡ true) ⊎ ((among r (own_register t to) ≡ true) × (among r (code_results m (rules.code number t ps to)) ≡ true))
+  -- the code names no register but the given parts', the machine's and, where the node gives a value, the node's
+  pub names : (number : ℕ) (row : Row) (t : Node) (ps : List Part) (to : ℕ) → Applies rules number row t ps to → CodeNames m (own_register t to ++ all_registers rules ps) (rules.code number t ps to)
   -- the node's register is read only after it was written, or as a given part's
   pub flows : (number : ℕ) (row : Row) (t : Node) (ps : List Part) (to : ℕ) → Applies rules number row t ps to → Flows m (all_registers rules ps) (rules.code number t ps to)
   pub settles : (number : ℕ) (row : Row) (t : Node) (ps : List Part) (to : ℕ) → Applies rules number row t ps to → Settles m (code_results m (rules.code number t ps to)) [] (rules.code number t ps to)
@@ -163,6 +172,8 @@ pub record Obeys {I Part : Type 0} (m : Machine I) (rules : Rules I Part) : Type
   -- a label is added only first, and only where the pattern's root meets a LABELV
   pub marks : (number : ℕ) (row : Row) (t : Node) (ps : List Part) (to : ℕ) → Applies rules number row t ps to → MarkedFirst m (rules.code number t ps to)
   pub marks_only : (number : ℕ) (row : Row) (t : Node) (ps : List Part) (to : ℕ) → Applies rules number row t ps to → (is_chain row.pattern || not (is_label (op_at t))) ≡ true → HasNoMark m (rules.code number t ps to)
+  -- the rule that meets a LABELV adds its label first
+  pub labels : (number : ℕ) (row : Row) (t : Node) (ps : List Part) (to l : ℕ) → Applies rules number row t ps to → is_chain row.pattern ≡ false → op_at t ≡ op.Label → (head_of t).sym ≡ sym.Label l → BeginsWithMark m l (rules.code number t ps to)
   -- what moves control is added only last, and only where the pattern's root meets a RET, a JUMP or a comparison
   pub moves : (number : ℕ) (row : Row) (t : Node) (ps : List Part) (to : ℕ) → Applies rules number row t ps to → MovesLast m (rules.code number t ps to)
   pub moves_only : (number : ℕ) (row : Row) (t : Node) (ps : List Part) (to : ℕ) → Applies rules number row t ps to → (is_chain row.pattern || not (is_move (op_at t))) ≡ true → MovesNot m (rules.code number t ps to)

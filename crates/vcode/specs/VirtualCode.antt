@@ -75,6 +75,11 @@ abbrev pub MarkedFirst : {I : Type 0} → Machine I → List I → Type 0
 MarkedFirst m [] = Unit {0}
 MarkedFirst m (i ∷ is) = HasNoMark m is
 
+-- the code begins with this label
+abbrev pub BeginsWithMark : {I : Type 0} → Machine I → ℕ → List I → Type 0
+BeginsWithMark m l [] = ⊥
+BeginsWithMark m l (i ∷ is) = m.kind i ≡ Mark l
+
 pub record IsStretch {I : Type 0} (m : Machine I) (code : List I) : Type 0 where
   pub flows : Flows m [] code
   pub names : NamesBelow m (2 ^ 31) code

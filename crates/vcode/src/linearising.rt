@@ -2,7 +2,7 @@ ghost use Rattle.std.specs.Prelude.{◌≡◌, false, ℕ, ◌+◌, ◌-◌, ◌
 ghost use Rattle.lburg_grammar.specs.Derivation.{Derives};
 ghost use Rattle.lburg_grammar.specs.DerivationOf.{derivation_of};
 ghost use Rattle.lburg_grammar.specs.Pattern.{pattern_of};
-ghost use Rattle.op_forest.specs.Nodes.{Node, nodes, tree_of};
+ghost use Rattle.op_forest.specs.Nodes.{Node, head_of, gives, one_where, nodes, value_nodes, tree_of};
 ghost use Rattle.vcode.specs.Adding.{Added, meetings_at};
 ghost use Rattle.vcode.specs.Emission.{IsLinearised};
 ghost use Rattle.vcode.specs.Patterns.{leaves_at, is_chain};
@@ -42,48 +42,73 @@ fn push_leaves<'a>(
     Ok(())
 }
 
-/// The register of the node at which the pattern is applied: of a chain rule the one that was taken
-/// last, of another the next one, which it takes.
-fn register_at(pattern: &Pattern, next: &mut Reg) -> Reg
-    requires some { 1 ≤ next.old }
-    requires room { is_chain (pattern_of pattern.now) ≡ false → next.old < 2 ^ 31 }
-    ensures to { result ≡ (if is_chain (pattern_of pattern.now) then next.old - 1 else next.old) }
-    ensures next { next.new ≡ result + 1 }
+/// Whether the pattern makes a chain rule.
+fn is_chain(pattern: &Pattern) -> bool
+    ensures { result ≡ is_chain (pattern_of pattern.now) }
 {
-    if let Pattern::Nonterminal(_) = pattern {
-        return *next - 1;
-    }
+    matches!(pattern, Pattern::Nonterminal(_))
+}
+
+/// The register of a node: the next one, which the node takes if it gives a value.
+fn register_at(tree: &Tree, next: &mut Reg) -> Reg
+    requires { next.old + one_where (gives (head_of tree.now)) ≤ 2 ^ 31 }
+    ensures to { result ≡ next.old }
+    ensures next { next.new ≡ next.old + one_where (gives (head_of tree.now)) }
+{
     let to = *next;
-    *next = to + 1;
+    if tree.operator.gives_value() {
+        *next = to + 1;
+    }
     to
+}
+
+/// What a derivation hands up, and the register of its node.
+#[derive(Drop)]
+struct HandedUp<P> {
+    part: P,
+    to: Reg,
+}
+
+/// The rules that add code, and their rows.
+#[derive(Drop)]
+struct Emitter<'a, R> {
+    alloc: Global,
+    rules: &'a R,
+    rows: &'a [Rule],
 }
 
 /// Adds the code of a derivation of the tree, and answers what it hands up. `next` is the first
 /// register that is free.
 fn emit<T: Target, R: RuleSet<T>>(
-    alloc: Global,
-    rules: &R,
-    rows: &[Rule],
+    emitter: &Emitter<R>,
     derivation: &Derivation,
     tree: &Tree,
     next: &mut Reg,
     into: &mut Items<T::Instr>,
-) -> Result<R::Part, Memory>
-    requires rows { map row_of rows.now ≡ R.rules.rows }
-    requires derives { (n : ℕ) × Derives rows.now n (tree_of tree.now) (derivation_of derivation.now) }
+) -> Result<HandedUp<R::Part>, Memory>
+    requires rows { map row_of emitter.now.rows.now ≡ R.rules.rows }
+    requires derives { (n : ℕ) × Derives emitter.now.rows.now n (tree_of tree.now) (derivation_of derivation.now) }
     requires are_virtual { 64 ≤ next.old }
-    requires room { next.old + nodes tree.now ≤ 2 ^ 31 }
-    ensures { IfOk result (λ p. Added R.rules (derivation_of derivation.now) tree.now next.old next.new into.old into.new p) }
+    requires room { next.old + value_nodes tree.now ≤ 2 ^ 31 }
+    ensures { IfOk result (λ h. Added R.rules (derivation_of derivation.now) tree.now next.old next.new into.old into.new h.part h.to) }
 {
-    let rule = &rows[derivation.rule as usize - 1];
-    let mut leaves = Vec::new(alloc);
-    push_leaves(&rule.pattern, tree, &mut leaves)?;
-    let mut parts = Items::new(alloc);
-    for (k, part) in derivation.parts.as_slice().iter().enumerate() {
-        parts.push(emit(alloc, rules, rows, part, leaves[k], next, into)?)?;
+    let alloc = emitter.alloc;
+    let rule = &emitter.rows[derivation.rule as usize - 1];
+    let mut parts = Items::with_capacity(alloc, derivation.parts.len())?;
+    if is_chain(&rule.pattern) {
+        let HandedUp { part, to } = emit(emitter, derivation.parts.at(0), tree, next, into)?;
+        parts.push(part)?;
+        let part = emitter.rules.expand(alloc, derivation.rule, tree, &parts, to, into)?;
+        return Ok(HandedUp { part, to });
     }
-    let to = register_at(&rule.pattern, next);
-    rules.expand(alloc, derivation.rule, tree, &parts, to, into)
+    let mut leaves = Vec::with_capacity(alloc, derivation.parts.len())?;
+    push_leaves(&rule.pattern, tree, &mut leaves)?;
+    for (k, part) in derivation.parts.as_slice().iter().enumerate() {
+        parts.push(emit(emitter, part, leaves[k], next, into)?.part)?;
+    }
+    let to = register_at(tree, next);
+    let part = emitter.rules.expand(alloc, derivation.rule, tree, &parts, to, into)?;
+    Ok(HandedUp { part, to })
 }
 
 /// The code of roots by their derivations, a stretch a root.
@@ -100,11 +125,12 @@ fn linearise_roots<T: Target, R: RuleSet<T>>(
     ensures { IfOk result (λ c. IsLinearised T.machine R.rules roots.now (map derivation_of cover.now) c) }
 {
     let rows = rules.description().rules();
+    let emitter = Emitter { alloc, rules, rows };
     let mut code = Items::new(alloc);
-    let mut cuts = Items::new(alloc);
+    let mut cuts = Items::with_capacity(alloc, roots.len())?;
     let mut next = FIRST_VIRTUAL;
     for (k, root) in roots.iter().enumerate() {
-        emit(alloc, rules, rows, &cover[k], root, &mut next, &mut code)?;
+        emit(&emitter, &cover[k], root, &mut next, &mut code)?;
         cuts.push(code.len())?;
     }
     Ok(VCode::new(code, cuts))

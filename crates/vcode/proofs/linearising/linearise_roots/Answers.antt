@@ -2,14 +2,15 @@ use Rattle.std.proofs.Common.{◌+◌, ◌≤◌, ◌^◌, ◌++◌, ◌∷◌, 
 use Rattle.std.proofs.lemmas.List.{length-map}
 use Rattle.lburg_grammar.specs.Description.{MDescription}
 use Rattle.lburg_grammar.specs.DerivationOf.{derivation_of}
-use Rattle.op_forest.specs.Nodes.{nodes}
+use Rattle.op_forest.specs.Nodes.{value_nodes}
+use Rattle.op_forest.specs.NodeCounts.{value_nodes_few_in}
 use Rattle.vcode.specs.Roots.{IsQuiet}
 use Rattle.vcode.specs.RuleSets.{row_of}
 use Rattle.vcode.proofs.Forests.{cover_length, root_at, none_gathered, gathered_low, gathered_room, more_gathered, all_gathered, linearised}
 use Rattle.vcode.proofs.linearising.linearise_roots.Goals as goal
 
 pub loop-k-init : goal.loop-k-init
-loop-k-init g c = none_gathered g.T.Target.machine g.R.RuleSet.rules g.met.R.RuleSet.obeys c.new-code.result c.new-cuts.result c.new-code.ensures c.new-cuts.ensures
+loop-k-init g c = none_gathered g.T.Target.machine g.R.RuleSet.rules g.met.R.RuleSet.obeys c.new-code.result c.in_ok-cuts.cuts c.new-code.ensures c.in_ok-cuts.ensures
 
 pub bounds-cover-k : goal.bounds-cover-k
 bounds-cover-k g c =
@@ -30,7 +31,8 @@ emit-requires-clause-are_virtual g c = gathered_low g.T.Target.machine g.R.RuleS
 pub emit-requires-clause-room : goal.emit-requires-clause-room
 emit-requires-clause-room g c =
     let small = c.requires.small in
-    gathered_room g.T.Target.machine g.R.RuleSet.rules g.met.R.RuleSet.obeys c.args.roots.now c.index-roots-k.result (2 ^ 31) c.loop-k.invariant c.loop-k-test.true c.index-roots-k.is (omega (arith, small))
+    let few = value_nodes_few_in c.args.roots.now in
+    gathered_room g.T.Target.machine g.R.RuleSet.rules g.met.R.RuleSet.obeys c.args.roots.now c.index-roots-k.result (2 ^ 31) c.loop-k.invariant c.loop-k-test.true c.index-roots-k.is (omega (arith, small, few))
 
 pub loop-k-preserved : goal.loop-k-preserved
 loop-k-preserved g c =
@@ -39,8 +41,9 @@ loop-k-preserved g c =
     let r = root_at d c.rules-rows.result.now g.R.RuleSet.rules.start c.args.roots.now c.args.cover.now c.loop-k.k c.index-roots-k.result c.index-cover-k.result rows c.description.ensures.start c.requires.derived c.loop-k-test.true c.index-roots-k.is c.index-cover-k.is in
     let quiet : IsQuiet c.index-roots-k.result = subst IsQuiet (sym c.index-roots-k.is) (c.requires.quiet c.loop-k.k c.index-roots-k.result c.loop-k-test.true) in
     let small = c.requires.small in
-    let room : c.loop-k.next + nodes c.index-roots-k.result ≤ 2 ^ 31 =
-    gathered_room g.T.Target.machine g.R.RuleSet.rules g.met.R.RuleSet.obeys c.args.roots.now c.index-roots-k.result (2 ^ 31) c.loop-k.invariant c.loop-k-test.true c.index-roots-k.is (omega (arith, small))
+    let few = value_nodes_few_in c.args.roots.now in
+    let room : c.loop-k.next + value_nodes c.index-roots-k.result ≤ 2 ^ 31 =
+    gathered_room g.T.Target.machine g.R.RuleSet.rules g.met.R.RuleSet.obeys c.args.roots.now c.index-roots-k.result (2 ^ 31) c.loop-k.invariant c.loop-k-test.true c.index-roots-k.is (omega (arith, small, few))
     in
     let cuts = c.in_ok-push.ensures.ok ∙ ap (λ n. c.loop-k.cuts ++ n ∷ []) c.len.ensures in
     more_gathered g.T.Target.machine g.R.RuleSet.rules g.met.R.RuleSet.obeys c.rules-rows.result.now (map derivation_of c.args.cover.now) c.args.roots.now c.loop-k.k
