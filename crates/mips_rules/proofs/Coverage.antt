@@ -1,6 +1,6 @@
 -- The shipped rules derive each tree whose operators have what they need: a register derives a value of suffix I, an
 -- address an address, and a statement each tree that is no address.
-use Rattle.std.specs.Prelude.{◌≡◌, ◌≢◌, ℕ, ◌+◌, ℤ, false, Option, Some, List, [], ◌∷◌, map, slice_get, IsTrue, refl}
+use Rattle.std.specs.Prelude.{◌≡◌, ◌≢◌, ℕ, ◌+◌, ℤ, false, Option, Some, List, [], ◌∷◌, All, map, slice_get, IsTrue, refl}
 use Rattle.std.proofs.Common.{ap, sym, ◌∙◌, subst}
 use Rattle.std.proofs.lemmas.Bool.{both_ways}
 use Rattle.std.proofs.lemmas.List.Elements.{All-nil, All-cons}
@@ -11,6 +11,7 @@ use Rattle.lburg_grammar.specs.Pattern.{Goal, goals_at}
 use Rattle.lburg_grammar.specs.Derivation.{MDerivation, MParts, Apply, NoPart, Part, Derives, DeriveEach}
 use Rattle.lburg_grammar.specs.Description.{MDescription}
 use Rattle.lburg_grammar.specs.Best.{HasNone}
+use Rattle.op_forest.specs.declared.forest.Forest.{Forest}
 use Rattle.op_forest.specs.declared.op.Op.{Op}
 use Rattle.op_forest.specs.declared.op.Op.TheVariants.{Cnst, Addrg, Arg, Call, Ret, Neg, Add, Sub, Mul}
 use Rattle.op_forest.specs.declared.suffix.Suffix.{Suffix}
@@ -18,7 +19,7 @@ use Rattle.op_forest.specs.declared.suffix.Suffix.TheVariants.{I, P}
 use Rattle.op_forest.specs.Operators.{number}
 use Rattle.op_forest.specs.Nodes.{Node, Leaf, One, Two, tree_of}
 use Rattle.op_forest.specs.Signature.{takes, gives_value, has_rule}
-use Rattle.op_forest.specs.WellFormed.{HasKind, HasKinds, AreOperands, op_of, suffix_of}
+use Rattle.op_forest.specs.WellFormed.{HasKind, HasKinds, AreOperands, AreGood, op_of, suffix_of}
 use Rattle.vcode.specs.RuleSets.{Row, row_of}
 use Rattle.mips_rules.specs.MipsRows.{nonterminals, rows, costs, stmt, con, rc, reg, addr}
 use Rattle.mips_rules.specs.MipsTerminals.{terminals}
@@ -210,12 +211,15 @@ derives_statements d is t k other =
     subst (λ n. (x : MDerivation) × Derives d.rules n (tree_of t) x) (sym is.start) (derived d.rules is.rows t k other)
 
 -- and so each root of a well-formed forest
-pub covers_roots : (d : MDescription) → IsShipped d → CoversRoots d
-covers_roots d is [] good = All-nil (λ t. HasNone d (tree_of t) → ⊥)
-covers_roots d is (t ∷ ts) good =
+covers_good : (d : MDescription) → IsShipped d → (f : Forest) (ts : List Node) → AreGood f ts → All (λ t. HasNone d (tree_of t) → ⊥) ts
+covers_good d is f [] good = All-nil (λ t. HasNone d (tree_of t) → ⊥)
+covers_good d is f (t ∷ ts) good =
     All-cons (λ u. HasNone d (tree_of u) → ⊥) t ts
     (λ none. let x = derives_statements d is t good.0.fit.kinds good.0.fit.statement in none x.0 x.1)
-    (covers_roots d is ts good.1)
+    (covers_good d is f ts good.1)
+
+pub covers_roots : (d : MDescription) → IsShipped d → CoversRoots d
+covers_roots d is f good = covers_good d is f f.roots good
 
 -- the description of lists that are those of the tables
 pub is_shipped : (d : MDescription) (ts : List Terminal) (ns : List (List ℕ)) (rules : List Rule) → d ≡ record { terminals = ts; nonterminals = ns; start = stmt; rules = rules } → ts ≡ terminals → ns ≡ nonterminals → map row_of rules ≡ rows → map (λ r. r.cost) rules ≡ costs → IsShipped d

@@ -4,7 +4,7 @@ use Rattle.vcode.specs.RuleSets.{Obeys}
 use Rattle.mips_rules.specs.Mips.{mips}
 use Rattle.mips_rules.specs.MipsRules.{mips_rules}
 use Rattle.mips_rules.specs.AppliedRules.{applied}
-use Rattle.mips_rules.specs.RuleLaws.{ordered, local, hands_by, part_registers_by, names_by, flows_by, settles_by, slots_by, marks_by, no_mark_by, moves_by, moves_only_by, silent_by, busy_by}
+use Rattle.mips_rules.specs.RuleLaws.{ordered, local, hands_by, part_registers_by, names_by, flows_by, settles_by, slots_by, marks_by, no_mark_by, no_label_by, moves_by, moves_only_by, silent_by, busy_by}
 use Rattle.mips_rules.specs.RuleMeanings.{acts_by}
 
 abbrev pub mips_obeys : Obeys mips mips_rules
@@ -19,6 +19,7 @@ mips_obeys = record {
   slots = λ number row t ps to a. slots_by to (applied number row t ps to a);
   marks = λ number row t ps to a. marks_by to (applied number row t ps to a);
   marks_only = λ number row t ps to a unmarked. no_mark_by to (applied number row t ps to a);
+  labels = λ number row t ps to l a plain at is. absurd (no_label_by (applied number row t ps to a) plain at);
   moves = λ number row t ps to a. moves_by to (applied number row t ps to a);
   moves_only = λ number row t ps to a. moves_only_by to (applied number row t ps to a);
   silent = λ number row t ps to a. silent_by to (applied number row t ps to a);

@@ -1,25 +1,35 @@
 -- The rules of MIPS keep the laws of a rule set on its machine.
-use Rattle.std.specs.Prelude.{◌≡◌, ℕ, ◌≤◌, ◌==◌, ◌||◌, not, ◌⊎◌, Bool, true, false, Some, List, [], ◌∷◌, length, slice_get, refl}
+use Rattle.std.specs.Prelude.{◌≡◌, ℕ, ◌≤◌, ◌==◌, ◌||◌, not, ◌⊎◌, Bool, true, false, Some, List, [], ◌∷◌, ◌++◌, length, slice_get, refl}
 use Rattle.std.specs.List.{AllByRecursion}
 use Rattle.std.proofs.Common.{arith, ap, sym, ◌∙◌, subst, inl, inr, ⊎_elim}
 use Rattle.std.proofs.lemmas.Bool.{both_ways, eqb-true, eq-eqb, or_cases, or_left, or_right, le-leb}
 use Rattle.lburg_grammar.specs.Pattern.{MPattern}
 use Rattle.op_forest.specs.declared.sym.Sym.{Sym}
 use Rattle.op_forest.specs.declared.sym.Sym.TheVariants as symbol
-use Rattle.op_forest.specs.Nodes.{Head, Node, head_of, number_of}
+use Rattle.asm_text.specs.declared.instruction.BinaryOp.{BinaryOp}
+use Rattle.asm_text.specs.declared.instruction.BinaryOp.TheVariants as binary
+use Rattle.op_forest.specs.declared.op.Op.{Op}
+use Rattle.op_forest.specs.declared.op.Op.TheVariants as op
+use Rattle.op_forest.specs.declared.suffix.Suffix.{Suffix}
+use Rattle.op_forest.specs.declared.suffix.Suffix.TheVariants.{I, P}
+use Rattle.op_forest.specs.Signature.{gives_value}
+use Rattle.op_forest.specs.Nodes.{Head, Node, head_of, gives, number_of}
 use Rattle.op_forest.specs.Words.{Word}
 use Rattle.op_forest.specs.Rows.{Setting}
 use Rattle.vcode.specs.VirtualCode.{is_virtual, among, Flows, UsesNoSlot, HasNoMark, MarkedFirst, MovesNot, MovesLast}
 use Rattle.vcode.specs.Patterns.{Meeting, is_chain, is_ordered}
-use Rattle.vcode.specs.RuleSets.{Row, SameAt, CodeNames, Settles, code_results, is_move, is_label, op_at, all_registers, SomeBusy}
+use Rattle.vcode.specs.RuleSets.{Row, SameAt, CodeNames, Settles, one_register, own_register, code_results, is_move, is_label, op_at, all_registers, SomeBusy}
 use Rattle.mips_rules.specs.declared.action.Action.{Action}
+use Rattle.mips_rules.specs.declared.instr.Instr.{Instr}
+use Rattle.mips_rules.specs.declared.instr.Instr.TheVariants as instr
+use Rattle.mips_rules.specs.declared.instr.Source.TheVariants as source
 use Rattle.mips_rules.specs.declared.part.Part.{Part}
 use Rattle.mips_rules.specs.declared.part.Part.TheVariants.{Register, Constant, Name, Nothing}
 use Rattle.mips_rules.specs.Mips.{mips}
-use Rattle.mips_rules.specs.MipsRows.{lines, rows, cnsti, reti}
+use Rattle.mips_rules.specs.MipsRows.{lines, rows, cnsti, argi, calli, reti, negi}
 use Rattle.mips_rules.specs.MipsRules.{means, registers, is_name, hands, busy, name_of, code_by, part_by, mips_rules}
-use Rattle.mips_rules.specs.OperatorNumbers.{is_cnsti, is_reti}
-use Rattle.mips_rules.specs.AppliedRules.{Applied, Discards, TakesConstant, PassesConstant, PassesRegister, LoadsConstant, TakesName, CombinesRegisters, CombinesConstant, Negates, HandsOver, Calls, Returns, at_row}
+use Rattle.mips_rules.specs.OperatorNumbers.{is_cnsti, is_addrgp, is_argi, is_calli, is_reti, is_negi, is_addi, is_subi, is_muli}
+use Rattle.mips_rules.specs.AppliedRules.{operator_for, Applied, Discards, TakesConstant, PassesConstant, PassesRegister, LoadsConstant, TakesName, CombinesRegisters, CombinesConstant, Negates, HandsOver, Calls, Returns, at_row}
 
 -- no pattern has an operator below its root
 all_ordered : AllByRecursion (λ l. is_ordered l.row.pattern ≡ true) lines
@@ -80,23 +90,47 @@ hands_by to (HandsOver h a r low e) = refl
 hands_by to (Calls h a name offset e) = refl
 hands_by to (Returns h a r low e) = refl
 
+-- which operators give a value
+gives_as : (h : Head) (o : Op) (x : Suffix) (b : Bool) → (h.operator.op ≡ o) × (h.operator.suffix ≡ x) → gives_value o x ≡ b → gives h ≡ b
+gives_as h o x b e g = ap (λ q. gives_value q h.operator.suffix) e.0 ∙ ap (λ y. gives_value o y) e.1 ∙ g
+
+constant_gives : (h : Head) → cnsti ≡ number_of h → gives h ≡ true
+constant_gives h e = gives_as h op.Cnst I true (is_cnsti h e) refl
+
+combined_gives : (o : BinaryOp) (h : Head) → operator_for o ≡ number_of h → gives h ≡ true
+combined_gives binary.Add h e = gives_as h op.Add I true (is_addi h e) refl
+combined_gives binary.Subtract h e = gives_as h op.Sub I true (is_subi h e) refl
+combined_gives binary.Multiply h e = gives_as h op.Mul I true (is_muli h e) refl
+
+negation_gives : (h : Head) → negi ≡ number_of h → gives h ≡ true
+negation_gives h e = gives_as h op.Neg I true (is_negi h e) refl
+
+call_gives : (h : Head) → calli ≡ number_of h → gives h ≡ true
+call_gives h e = gives_as h op.Call I true (is_calli h e) refl
+
+argument_gives : (h : Head) → argi ≡ number_of h → gives h ≡ false
+argument_gives h e = gives_as h op.Arg I false (is_argi h e) refl
+
+return_gives : (h : Head) → reti ≡ number_of h → gives h ≡ false
+return_gives h e = gives_as h op.Ret I false (is_reti h e) refl
+
 -- the node's register alone is named, and the code writes it
-own : (r to : ℕ) (rs : List ℕ) → among r (to ∷ []) ≡ true → (among r rs ≡ true) ⊎ ((r ≡ to) × (among to (to ∷ []) ≡ true))
-own r to rs h = inr (alone r to h, here to [])
+own : (r to : ℕ) (rs : List ℕ) (takes : Bool) → takes ≡ true → among r (to ∷ []) ≡ true → (among r rs ≡ true) ⊎ ((among r (one_register takes to) ≡ true) × (among r (to ∷ []) ≡ true))
+own r to rs takes g h = inr (subst (λ b. among r (one_register b to) ≡ true) (sym g) h, h)
 
 -- the new part's registers
-pub part_registers_by : {d : Action} {left : ℕ} {pattern : MPattern} {t : Node} {ps : List Part} {ms : List Meeting} (to q : ℕ) → Applied d left pattern t ps ms → among q (registers (part_by d t ps to)) ≡ true → (among q (all_registers mips_rules ps) ≡ true) ⊎ ((q ≡ to) × (among to (code_results mips (code_by d ps to)) ≡ true))
+pub part_registers_by : {d : Action} {left : ℕ} {pattern : MPattern} {t : Node} {ps : List Part} {ms : List Meeting} (to q : ℕ) → Applied d left pattern t ps ms → among q (registers (part_by d t ps to)) ≡ true → (among q (all_registers mips_rules ps) ≡ true) ⊎ ((among q (own_register t to) ≡ true) × (among q (code_results mips (code_by d ps to)) ≡ true))
 part_registers_by to q (Discards t r low) k = no k
 part_registers_by to q (TakesConstant h e) k = no k
 part_registers_by to q (PassesConstant t n) k = no k
 part_registers_by to q (PassesRegister t r low) k = inl k
-part_registers_by to q (LoadsConstant t n e) k = own q to [] k
+part_registers_by to q (LoadsConstant t n e) k = own q to [] (gives (head_of t)) (constant_gives (head_of t) e) k
 part_registers_by to q (TakesName h e) k = no (ap (among q) (sym (nameless h.sym)) ∙ k)
-part_registers_by to q (CombinesRegisters op h a b x y low_x low_y e) k = own q to (x ∷ y ∷ []) k
-part_registers_by to q (CombinesConstant op h a b x n low e) k = own q to (x ∷ []) k
-part_registers_by to q (Negates h a r low e) k = own q to (r ∷ []) k
+part_registers_by to q (CombinesRegisters op h a b x y low_x low_y e) k = own q to (x ∷ y ∷ []) (gives h) (combined_gives op h e) k
+part_registers_by to q (CombinesConstant op h a b x n low e) k = own q to (x ∷ []) (gives h) (combined_gives op h e) k
+part_registers_by to q (Negates h a r low e) k = own q to (r ∷ []) (gives h) (negation_gives h e) k
 part_registers_by to q (HandsOver h a r low e) k = no k
-part_registers_by to q (Calls h a name offset e) k = own q to [] k
+part_registers_by to q (Calls h a name offset e) k = own q to [] (gives h) (call_gives h e) k
 part_registers_by to q (Returns h a r low e) k = no k
 
 -- the test of a register that an instruction names, where it is among these
@@ -109,20 +143,30 @@ named_here b r rs = named b r (r ∷ rs) (here r rs)
 named_later : (b : Bool) (r q : ℕ) (rs : List ℕ) → (b || among r (q ∷ (r ∷ rs))) ≡ true
 named_later b r q rs = named b r (q ∷ (r ∷ rs)) (later r q (r ∷ rs) (here r rs))
 
+-- the registers that code names, where its node gives a value, and where it gives none
+with_own : (takes : Bool) (to : ℕ) (rs : List ℕ) (code : List Instr) → takes ≡ true → CodeNames mips (to ∷ rs) code → CodeNames mips (one_register takes to ++ rs) code
+with_own takes to rs code g h = subst (λ b. CodeNames mips (one_register b to ++ rs) code) (sym g) h
+
+without_own : (takes : Bool) (to : ℕ) (rs : List ℕ) (code : List Instr) → takes ≡ false → CodeNames mips rs code → CodeNames mips (one_register takes to ++ rs) code
+without_own takes to rs code g h = subst (λ b. CodeNames mips (one_register b to ++ rs) code) (sym g) h
+
 -- the registers that the code names
-pub names_by : {d : Action} {left : ℕ} {pattern : MPattern} {t : Node} {ps : List Part} {ms : List Meeting} (to : ℕ) → Applied d left pattern t ps ms → CodeNames mips (to ∷ all_registers mips_rules ps) (code_by d ps to)
+pub names_by : {d : Action} {left : ℕ} {pattern : MPattern} {t : Node} {ps : List Part} {ms : List Meeting} (to : ℕ) → Applied d left pattern t ps ms → CodeNames mips (own_register t to ++ all_registers mips_rules ps) (code_by d ps to)
 names_by to (Discards t r low) = tt
 names_by to (TakesConstant h e) = tt
 names_by to (PassesConstant t n) = tt
 names_by to (PassesRegister t r low) = tt
-names_by to (LoadsConstant t n e) = ((named_here _ to [], tt), tt)
+names_by to (LoadsConstant t n e) = with_own (gives (head_of t)) to [] (instr.LoadNumber to n ∷ []) (constant_gives (head_of t) e) ((named_here _ to [], tt), tt)
 names_by to (TakesName h e) = tt
-names_by to (CombinesRegisters op h a b q r low_q low_r e) = ((named_here _ to (q ∷ r ∷ []), (named_later _ q to (r ∷ []), (named _ r (to ∷ q ∷ r ∷ []) (later r to (q ∷ r ∷ []) (later r q (r ∷ []) (here r []))), tt))), tt)
-names_by to (CombinesConstant op h a b q n low e) = ((named_here _ to (q ∷ []), (named_later _ q to [], tt)), tt)
-names_by to (Negates h a r low e) = ((named_here _ to (r ∷ []), (named_later _ r to [], tt)), tt)
-names_by to (HandsOver h a r low e) = ((named_later _ r to [], tt), tt)
-names_by to (Calls h a name offset e) = ((named_here _ to [], tt), tt)
-names_by to (Returns h a r low e) = ((named_later _ r to [], tt), tt)
+names_by to (CombinesRegisters op h a b q r low_q low_r e) =
+    with_own (gives h) to (q ∷ r ∷ []) (instr.Binary op to q (source.Register r) ∷ []) (combined_gives op h e)
+    ((named_here _ to (q ∷ r ∷ []), (named_later _ q to (r ∷ []), (named _ r (to ∷ q ∷ r ∷ []) (later r to (q ∷ r ∷ []) (later r q (r ∷ []) (here r []))), tt))), tt)
+names_by to (CombinesConstant op h a b q n low e) =
+    with_own (gives h) to (q ∷ []) (instr.Binary op to q (source.Number n) ∷ []) (combined_gives op h e) ((named_here _ to (q ∷ []), (named_later _ q to [], tt)), tt)
+names_by to (Negates h a r low e) = with_own (gives h) to (r ∷ []) (instr.Negate to r ∷ []) (negation_gives h e) ((named_here _ to (r ∷ []), (named_later _ r to [], tt)), tt)
+names_by to (HandsOver h a r low e) = without_own (gives h) to (r ∷ []) (instr.Argument r ∷ []) (argument_gives h e) ((named_here _ r [], tt), tt)
+names_by to (Calls h a name offset e) = with_own (gives h) to [] (instr.Call to name ∷ []) (call_gives h e) ((named_here _ to [], tt), tt)
+names_by to (Returns h a r low e) = without_own (gives h) to (r ∷ []) (instr.Return r ∷ []) (return_gives h e) ((named_here _ r [], tt), tt)
 
 -- the registers that the code reads
 pub flows_by : {d : Action} {left : ℕ} {pattern : MPattern} {t : Node} {ps : List Part} {ms : List Meeting} (to : ℕ) → Applied d left pattern t ps ms → Flows mips (all_registers mips_rules ps) (code_by d ps to)
@@ -200,6 +244,29 @@ no_mark_by to (Negates h a r low e) = ((λ x. x), tt)
 no_mark_by to (HandsOver h a r low e) = ((λ x. x), tt)
 no_mark_by to (Calls h a name offset e) = ((λ x. x), tt)
 no_mark_by to (Returns h a r low e) = ((λ x. x), tt)
+
+-- no rule but a chain rule meets a label yet
+not_label : (h : Head) (o : Op) (x : Suffix) → (h.operator.op ≡ o) × (h.operator.suffix ≡ x) → is_label o ≡ false → h.operator.op ≡ op.Label → ⊥
+not_label h o x e other at = both_ways (is_label o) other (ap is_label (sym e.0 ∙ at))
+
+combined_no_label : (o : BinaryOp) (h : Head) → operator_for o ≡ number_of h → h.operator.op ≡ op.Label → ⊥
+combined_no_label binary.Add h e at = not_label h op.Add I (is_addi h e) refl at
+combined_no_label binary.Subtract h e at = not_label h op.Sub I (is_subi h e) refl at
+combined_no_label binary.Multiply h e at = not_label h op.Mul I (is_muli h e) refl at
+
+pub no_label_by : {d : Action} {left : ℕ} {pattern : MPattern} {t : Node} {ps : List Part} {ms : List Meeting} → Applied d left pattern t ps ms → is_chain pattern ≡ false → op_at t ≡ op.Label → ⊥
+no_label_by (Discards t r low) k at = no (sym k)
+no_label_by (TakesConstant h e) k at = not_label h op.Cnst I (is_cnsti h e) refl at
+no_label_by (PassesConstant t n) k at = no (sym k)
+no_label_by (PassesRegister t r low) k at = no (sym k)
+no_label_by (LoadsConstant t n e) k at = no (sym k)
+no_label_by (TakesName h e) k at = not_label h op.Addrg P (is_addrgp h e) refl at
+no_label_by (CombinesRegisters o h a b q r low_q low_r e) k at = combined_no_label o h e at
+no_label_by (CombinesConstant o h a b q n low e) k at = combined_no_label o h e at
+no_label_by (Negates h a r low e) k at = not_label h op.Neg I (is_negi h e) refl at
+no_label_by (HandsOver h a r low e) k at = not_label h op.Arg I (is_argi h e) refl at
+no_label_by (Calls h a name offset e) k at = not_label h op.Call I (is_calli h e) refl at
+no_label_by (Returns h a r low e) k at = not_label h op.Ret I (is_reti h e) refl at
 
 -- what moves control stands last, and only a return does
 pub moves_by : {d : Action} {left : ℕ} {pattern : MPattern} {t : Node} {ps : List Part} {ms : List Meeting} (to : ℕ) → Applied d left pattern t ps ms → MovesLast mips (code_by d ps to)

@@ -1,7 +1,8 @@
 -- Templates: what a rule's template says once its marks are filled in, and which texts and instruction lines the
--- templates of derivations give.
+-- templates of derivations give. Names and labels have texts: each name by its number, and each label of the function.
 -- Source: Fraser and Hanson, A Retargetable C Compiler, chapter 13 (templates) and chapter 14.
 use Rattle.std.specs.Prelude.{◌≡◌, ℕ, ◌+◌, ◌-◌, ◌<◌, ◌==◌, ◌&&◌, List, [], ◌∷◌, ◌++◌, Bool, true, false, Option, Some, None, ℤ, pos, negsuc, decimal, get_or, slice_get, if◌then◌else◌}
+use Rattle.lcc_text.specs.Lines.{lines_of}
 use Rattle.lburg_grammar.specs.Derivation.{MDerivation, Apply}
 use Rattle.lburg_grammar.specs.DerivationOf.{parts_of}
 use Rattle.op_forest.specs.declared.sym.Sym.{Sym}
@@ -64,16 +65,16 @@ constant_text None = []
 constant_text (Some z) = signed_decimal z
 
 -- a node's symbol or constant
-abbrev pub symbol_text : List (List ℕ) → Sym → Option ℤ → List ℕ
-symbol_text names sym.Nothing value = constant_text value
-symbol_text names (sym.Global name offset) value = moved_name (get_or names name []) offset
-symbol_text names (sym.Label l) value = 76 ∷ 46 ∷ decimal l
-symbol_text names (sym.Block size align) value = decimal size
+abbrev pub symbol_text : List (List ℕ) → (ℕ → List ℕ) → Sym → Option ℤ → List ℕ
+symbol_text names labels sym.Nothing value = constant_text value
+symbol_text names labels (sym.Global name offset) value = moved_name (get_or names name []) offset
+symbol_text names labels (sym.Label l) value = labels l
+symbol_text names labels (sym.Block size align) value = decimal size
 
-abbrev pub fillings : List (List ℕ) → List ℕ → Node → List ℕ → List (List ℕ) → Fillings
-fillings names frame t register parts = record {
+abbrev pub fillings : List (List ℕ) → (ℕ → List ℕ) → List ℕ → Node → List ℕ → List (List ℕ) → Fillings
+fillings names labels frame t register parts = record {
   register = register;
-  symbol = symbol_text names (head_of t).sym (head_of t).value;
+  symbol = symbol_text names labels (head_of t).sym (head_of t).value;
   frame = frame;
   parts = parts;
 }
@@ -82,19 +83,19 @@ fillings names frame t register parts = record {
 abbrev pub RowIs : List Row → ℕ → Row → Type 0
 RowIs rows number row = (place : ℕ) × (number ≡ place + 1) × (slice_get rows place ≡ Some row)
 
--- The text that a derivation at a node hands up, and the instruction lines that it gives, with any registers of the
--- machine in the places of assigned registers and of register operands. A part's lines stand before the rule's, from
--- left to right.
+-- The text that a derivation at a node hands up, and the instruction lines that it gives, without their line feeds, with
+-- any registers of the machine in the places of assigned registers and of register operands. A part's lines stand before
+-- the rule's, from left to right; a rule's are those of its template.
 mutual
-  pub data Writes (rows : List Row) (names : List (List ℕ)) (frame : List ℕ) : MDerivation → Node → List ℕ → List (List ℕ) → Type 0 where
-    APart : {number : ℕ} {row : Row} {xs : List MDerivation} {t : Node} {meetings : List Meeting} {texts lines : List (List ℕ)} → RowIs rows number row → leaves_at row.pattern t ≡ Some meetings → WritesAll rows names frame xs meetings texts lines → is_instruction row.template ≡ false → Writes rows names frame (Apply number (parts_of xs)) t (expanded (fillings names frame t [] texts) row.template) lines
-    ALine : {number : ℕ} {row : Row} {xs : List MDerivation} {t : Node} {meetings : List Meeting} {texts lines : List (List ℕ)} (register operand : ℕ) → RowIs rows number row → leaves_at row.pattern t ≡ Some meetings → WritesAll rows names frame xs meetings texts lines → is_instruction row.template ≡ true → register < 64 → operand < 64 → Writes rows names frame (Apply number (parts_of xs)) t (decimal operand) (lines ++ expanded (fillings names frame t (decimal register) texts) row.template ∷ [])
+  pub data Writes (rows : List Row) (names : List (List ℕ)) (labels : ℕ → List ℕ) (frame : List ℕ) : MDerivation → Node → List ℕ → List (List ℕ) → Type 0 where
+    APart : {number : ℕ} {row : Row} {xs : List MDerivation} {t : Node} {meetings : List Meeting} {texts lines : List (List ℕ)} → RowIs rows number row → leaves_at row.pattern t ≡ Some meetings → WritesAll rows names labels frame xs meetings texts lines → is_instruction row.template ≡ false → Writes rows names labels frame (Apply number (parts_of xs)) t (expanded (fillings names labels frame t [] texts) row.template) lines
+    ALine : {number : ℕ} {row : Row} {xs : List MDerivation} {t : Node} {meetings : List Meeting} {texts lines : List (List ℕ)} (register operand : ℕ) → RowIs rows number row → leaves_at row.pattern t ≡ Some meetings → WritesAll rows names labels frame xs meetings texts lines → is_instruction row.template ≡ true → register < 64 → operand < 64 → Writes rows names labels frame (Apply number (parts_of xs)) t (decimal operand) (lines ++ lines_of (expanded (fillings names labels frame t (decimal register) texts) row.template))
 
-  pub data WritesAll (rows : List Row) (names : List (List ℕ)) (frame : List ℕ) : List MDerivation → List Meeting → List (List ℕ) → List (List ℕ) → Type 0 where
-    NoText : WritesAll rows names frame [] [] [] []
-    OneText : {xs : List MDerivation} {meetings : List Meeting} {texts lines : List (List ℕ)} {x : MDerivation} {text : List ℕ} {more : List (List ℕ)} (meeting : Meeting) → WritesAll rows names frame xs meetings texts lines → Writes rows names frame x meeting.1 text more → WritesAll rows names frame (xs ++ x ∷ []) (meetings ++ meeting ∷ []) (texts ++ text ∷ []) (lines ++ more)
+  pub data WritesAll (rows : List Row) (names : List (List ℕ)) (labels : ℕ → List ℕ) (frame : List ℕ) : List MDerivation → List Meeting → List (List ℕ) → List (List ℕ) → Type 0 where
+    NoText : WritesAll rows names labels frame [] [] [] []
+    OneText : {xs : List MDerivation} {meetings : List Meeting} {texts lines : List (List ℕ)} {x : MDerivation} {text : List ℕ} {more : List (List ℕ)} (meeting : Meeting) → WritesAll rows names labels frame xs meetings texts lines → Writes rows names labels frame x meeting.1 text more → WritesAll rows names labels frame (xs ++ x ∷ []) (meetings ++ meeting ∷ []) (texts ++ text ∷ []) (lines ++ more)
 
 -- the instruction lines of the derivations of roots, in order
-pub data WritesRoots (rows : List Row) (names : List (List ℕ)) (frame : List ℕ) : List MDerivation → List Node → List (List ℕ) → Type 0 where
-  NoLine : WritesRoots rows names frame [] [] []
-  OneLine : {xs : List MDerivation} {ts : List Node} {lines : List (List ℕ)} {x : MDerivation} {t : Node} {text : List ℕ} {more : List (List ℕ)} → WritesRoots rows names frame xs ts lines → Writes rows names frame x t text more → WritesRoots rows names frame (xs ++ x ∷ []) (ts ++ t ∷ []) (lines ++ more)
+pub data WritesRoots (rows : List Row) (names : List (List ℕ)) (labels : ℕ → List ℕ) (frame : List ℕ) : List MDerivation → List Node → List (List ℕ) → Type 0 where
+  NoLine : WritesRoots rows names labels frame [] [] []
+  OneLine : {xs : List MDerivation} {ts : List Node} {lines : List (List ℕ)} {x : MDerivation} {t : Node} {text : List ℕ} {more : List (List ℕ)} → WritesRoots rows names labels frame xs ts lines → Writes rows names labels frame x t text more → WritesRoots rows names labels frame (xs ++ x ∷ []) (ts ++ t ∷ []) (lines ++ more)
