@@ -21,14 +21,14 @@ use Rattle.asm_text.specs.declared.line.Directive.TheVariants as directive
 use Rattle.asm_text.specs.declared.program.Program.{Program}
 use Rattle.asm_text.specs.declared.program.Label.{Label}
 use Rattle.asm_text.specs.Tokens.{Tok, Word, Number, Minus, Dollar, Mark, Wrong, Spaced}
-use Rattle.asm_text.specs.Instructions.{IsRegister, IsNumber, IsOperand, IsTarget, IsInstruction, IsStatement, IsLine, AreLines, AreLabels, toks}
-use Rattle.asm_text.specs.Words.{IsRow}
+use Rattle.asm_text.specs.Instructions.{IsRegister, IsNumber, IsOperand, IsTarget, IsInstruction, IsStatement, IsLine, AreLines, AreLabels, IsRow, toks}
+use Rattle.asm_text.specs.Words.{head_of}
 use Rattle.asm_text.specs.Program.{Makes, IsWithinLimit}
 use Rattle.asm_text.specs.AssemblyText.{IsText, IsAssembly}
 use Rattle.asm_text.proofs.Numerals.{value_decimal, digits_decimal}
 use Rattle.asm_text.proofs.Once.{once}
 use Rattle.asm_text.proofs.Labels.{same_labels, statement_no_label}
-use Rattle.asm_text.proofs.Rows.{same_word, head, head_of, instruction_word, row_word}
+use Rattle.asm_text.proofs.Rows.{same_word, head, instruction_word, row_word}
 
 -- ---- operands
 

@@ -16,3 +16,4 @@ pub mod MadeProgram
 pub mod Written
 pub mod Printed
 pub mod BlankLines
+pub mod Words

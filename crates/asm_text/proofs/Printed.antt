@@ -25,11 +25,12 @@ use Rattle.asm_text.specs.declared.line.Statement.TheVariants as statement
 use Rattle.asm_text.specs.declared.line.Directive.TheVariants as directive
 use Rattle.asm_text.specs.declared.program.Program.{Program}
 use Rattle.asm_text.specs.Tokens.{Tok, Number, Spaced, IsName, IsToken}
-use Rattle.asm_text.specs.Instructions.{IsRegister, IsNumber, IsOperand, IsTarget, IsInstruction, IsStatement, IsApart, AreLabels, IsLine, AreLines, toks, two, three, placed, binary_word, unary_word, load_word, store_word}
+use Rattle.asm_text.specs.Instructions.{IsRegister, IsNumber, IsOperand, IsTarget, IsInstruction, IsStatement, IsApart, AreLabels, IsLine, AreLines, toks, two, three, placed}
+use Rattle.asm_text.specs.Words.{binary_word, unary_word, load_word, store_word, head_word}
 use Rattle.asm_text.specs.Program.{Makes, names_of, names_of_instruction, target_names}
 use Rattle.asm_text.specs.AssemblyText.{IsText}
 use Rattle.asm_text.specs.Printable.{AreNames, PrintableFrom, ArePrintable}
-use Rattle.asm_text.specs.Printed.{register_token, operand_token, target_token, operand_tokens, head_word, spaced, statement_tokens, label_tokens, line_tokens, lines_text, spaced_text, written, IsOperandWithin, IsTargetWithin, IsInstructionWithin, IsStatementWithin, IsLineWithin, AreWithin}
+use Rattle.asm_text.specs.Printed.{register_token, operand_token, target_token, operand_tokens, spaced, statement_tokens, label_tokens, line_tokens, lines_text, spaced_text, written, IsOperandWithin, IsTargetWithin, IsInstructionWithin, IsStatementWithin, IsLineWithin, AreWithin}
 use Rattle.asm_text.proofs.Numerals.{value_decimal, digits_decimal}
 use Rattle.asm_text.proofs.Written.{Ends, Fits, spelled, no_feed, line_break, digit_symbol, digits_symbols}
 

@@ -21,9 +21,9 @@ use Rattle.asm_text.specs.declared.line.Statement.{Statement}
 use Rattle.asm_text.specs.declared.line.Statement.TheVariants as statement
 use Rattle.asm_text.specs.declared.line.Directive.TheVariants as directive
 use Rattle.asm_text.specs.Tokens.{Tok, Word, Spaced}
-use Rattle.asm_text.specs.Instructions.{IsInstruction, IsDirective, IsStatement, toks, binary_word, unary_word, load_word, store_word}
+use Rattle.asm_text.specs.Instructions.{IsInstruction, IsDirective, IsStatement, IsRow, toks}
 use Rattle.asm_text.specs.Operands.{IsRegisterNumber, AreRegisters, AreThree, IsPlaced, IsOneTarget}
-use Rattle.asm_text.specs.Words.{word_of, operation_word, IsRow}
+use Rattle.asm_text.specs.Words.{binary_word, unary_word, load_word, store_word, operation_word, word_of, head_of}
 
 -- a word as one number, its first byte weighing least
 abbrev number_of : List ℕ → ℕ
@@ -52,27 +52,8 @@ back mnemonic.Call = refl
 pub same_word : (m k : Mnemonic) → word_of m ≡ word_of k → m ≡ k
 same_word m k e = sym (back m) ∙ ap (λ (w : List ℕ). mnemonic_from (number_of w)) e ∙ back k
 
-abbrev pub head_of : Instruction → Mnemonic
-head_of (LoadNumber d n) = mnemonic.Operation operation.LoadNumber
-head_of (Move d s) = mnemonic.Operation operation.Move
-head_of (Binary op d s t) = mnemonic.Operation (operation.Binary op)
-head_of (Unary op d s) = mnemonic.Operation (operation.Unary op)
-head_of (Load op d at) = mnemonic.Operation (operation.Load op)
-head_of (Store op s at) = mnemonic.Operation (operation.Store op)
-head_of (Branch name) = mnemonic.Branch
-head_of (Jump to) = mnemonic.Jump
-head_of (Call to) = mnemonic.Call
-
 pub instruction_word : (word : List ℕ) (ts : List Tok) (i : Instruction) → IsInstruction word ts i → word ≡ word_of (head_of i)
-instruction_word word ts (LoadNumber d n) h = h.0
-instruction_word word ts (Move d s) h = h.0
-instruction_word word ts (Binary op d s t) h = h.0
-instruction_word word ts (Unary op d s) h = h.0
-instruction_word word ts (Load op d at) h = h.0
-instruction_word word ts (Store op s at) h = h.0
-instruction_word word ts (Branch name) h = h.0
-instruction_word word ts (Jump to) h = h.0
-instruction_word word ts (Call to) h = h.0
+instruction_word word ts i h = h.0
 
 abbrev pub head : Statement → Mnemonic
 head statement.Nothing = mnemonic.Text

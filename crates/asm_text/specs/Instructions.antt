@@ -7,14 +7,6 @@ use Rattle.lcc_text.specs.Decimal.{value_of}
 use Rattle.asm_text.specs.declared.token.Sign.TheVariants.{Colon, Comma, Open, Close}
 use Rattle.asm_text.specs.declared.instruction.Instruction.{Instruction}
 use Rattle.asm_text.specs.declared.instruction.Instruction.TheVariants.{LoadNumber, Move, Binary, Unary, Load, Store, Branch, Jump, Call}
-use Rattle.asm_text.specs.declared.instruction.BinaryOp.{BinaryOp}
-use Rattle.asm_text.specs.declared.instruction.BinaryOp.TheVariants.{Add, Subtract, Multiply}
-use Rattle.asm_text.specs.declared.instruction.UnaryOp.{UnaryOp}
-use Rattle.asm_text.specs.declared.instruction.UnaryOp.TheVariants.{Negate}
-use Rattle.asm_text.specs.declared.instruction.LoadOp.{LoadOp}
-use Rattle.asm_text.specs.declared.instruction.LoadOp.TheVariants as load
-use Rattle.asm_text.specs.declared.instruction.StoreOp.{StoreOp}
-use Rattle.asm_text.specs.declared.instruction.StoreOp.TheVariants as store
 use Rattle.asm_text.specs.declared.instruction.Operand.{Operand}
 use Rattle.asm_text.specs.declared.instruction.Operand.TheVariants as operand
 use Rattle.asm_text.specs.declared.instruction.Target.{Target}
@@ -24,6 +16,8 @@ use Rattle.asm_text.specs.declared.line.Statement.{Statement}
 use Rattle.asm_text.specs.declared.line.Statement.TheVariants as statement
 use Rattle.asm_text.specs.declared.line.Directive.{Directive}
 use Rattle.asm_text.specs.declared.line.Directive.TheVariants as directive
+use Rattle.asm_text.specs.declared.mnemonic.Mnemonic.TheVariants as mnemonic
+use Rattle.asm_text.specs.Words.{word_of, head_word}
 use Rattle.asm_text.specs.Tokens.{Tok, Word, Number, Minus, Dollar, Mark, Spaced}
 use Rattle.asm_text.specs.Spelling.{Spells}
 
@@ -46,20 +40,6 @@ abbrev pub IsTarget : Tok → Target → Type 0
 IsTarget t (target.Label name) = t ≡ Word name
 IsTarget t (target.Register r) = IsRegister t r
 
-abbrev pub binary_word : BinaryOp → List ℕ
-binary_word Add = codes "addu"
-binary_word Subtract = codes "subu"
-binary_word Multiply = codes "mul"
-
-abbrev pub unary_word : UnaryOp → List ℕ
-unary_word Negate = codes "negu"
-
-abbrev pub load_word : LoadOp → List ℕ
-load_word load.Word = codes "lw"
-
-abbrev pub store_word : StoreOp → List ℕ
-store_word store.Word = codes "sw"
-
 -- two operands, or three, and an operand with an address
 abbrev pub two : Tok → Tok → List Tok
 two a b = a ∷ Mark Comma ∷ b ∷ []
@@ -70,21 +50,31 @@ three a b c = a ∷ Mark Comma ∷ b ∷ Mark Comma ∷ c ∷ []
 abbrev pub placed : Tok → Tok → Tok → List Tok
 placed a n r = a ∷ Mark Comma ∷ n ∷ Mark Open ∷ r ∷ Mark Close ∷ []
 
+-- the operands of an instruction
+abbrev pub AreOperands : List Tok → Instruction → Type 0
+AreOperands ts (LoadNumber d n) = (a b : Tok) × (ts ≡ two a b) × IsRegister a d × IsNumber b n
+AreOperands ts (Move d s) = (a b : Tok) × (ts ≡ two a b) × IsRegister a d × IsRegister b s
+AreOperands ts (Binary op d s t) = (a b c : Tok) × (ts ≡ three a b c) × IsRegister a d × IsRegister b s × IsOperand c t
+AreOperands ts (Unary op d s) = (a b : Tok) × (ts ≡ two a b) × IsRegister a d × IsRegister b s
+AreOperands ts (Load op d at) = (a n r : Tok) × (ts ≡ placed a n r) × IsRegister a d × IsNumber n at.offset × IsRegister r at.base
+AreOperands ts (Store op s at) = (a n r : Tok) × (ts ≡ placed a n r) × IsRegister a s × IsNumber n at.offset × IsRegister r at.base
+AreOperands ts (Branch name) = ts ≡ Word name ∷ []
+AreOperands ts (Jump to) = (a : Tok) × (ts ≡ a ∷ []) × IsTarget a to
+AreOperands ts (Call to) = (a : Tok) × (ts ≡ a ∷ []) × IsTarget a to
+
 -- the word of an instruction, and its operands
 abbrev pub IsInstruction : List ℕ → List Tok → Instruction → Type 0
-IsInstruction word ts (LoadNumber d n) = (word ≡ codes "li") × ((a b : Tok) × (ts ≡ two a b) × IsRegister a d × IsNumber b n)
-IsInstruction word ts (Move d s) = (word ≡ codes "move") × ((a b : Tok) × (ts ≡ two a b) × IsRegister a d × IsRegister b s)
-IsInstruction word ts (Binary op d s t) = (word ≡ binary_word op) × ((a b c : Tok) × (ts ≡ three a b c) × IsRegister a d × IsRegister b s × IsOperand c t)
-IsInstruction word ts (Unary op d s) = (word ≡ unary_word op) × ((a b : Tok) × (ts ≡ two a b) × IsRegister a d × IsRegister b s)
-IsInstruction word ts (Load op d at) = (word ≡ load_word op) × ((a n r : Tok) × (ts ≡ placed a n r) × IsRegister a d × IsNumber n at.offset × IsRegister r at.base)
-IsInstruction word ts (Store op s at) = (word ≡ store_word op) × ((a n r : Tok) × (ts ≡ placed a n r) × IsRegister a s × IsNumber n at.offset × IsRegister r at.base)
-IsInstruction word ts (Branch name) = (word ≡ codes "b") × (ts ≡ Word name ∷ [])
-IsInstruction word ts (Jump to) = (word ≡ codes "j") × ((a : Tok) × (ts ≡ a ∷ []) × IsTarget a to)
-IsInstruction word ts (Call to) = (word ≡ codes "jal") × ((a : Tok) × (ts ≡ a ∷ []) × IsTarget a to)
+IsInstruction word ts i = (word ≡ head_word i) × AreOperands ts i
 
 abbrev pub IsDirective : List ℕ → List Tok → Directive → Type 0
-IsDirective word ts directive.Text = (word ≡ codes ".text") × (ts ≡ [])
-IsDirective word ts (directive.Global name) = (word ≡ codes ".globl") × (ts ≡ Word name ∷ [])
+IsDirective word ts directive.Text = (word ≡ word_of mnemonic.Text) × (ts ≡ [])
+IsDirective word ts (directive.Global name) = (word ≡ word_of mnemonic.Global) × (ts ≡ Word name ∷ [])
+
+-- the statement of this word with these operands
+abbrev pub IsRow : List ℕ → List Tok → Statement → Type 0
+IsRow word ts statement.Nothing = ⊥
+IsRow word ts (statement.Directive d) = IsDirective word ts d
+IsRow word ts (statement.Instruction i) = IsInstruction word ts i
 
 abbrev pub toks : List Spaced → List Tok
 toks ts = map (λ t. t.tok) ts

@@ -16,3 +16,4 @@ pub mod IsPrefix
 pub mod Agrees
 pub mod RunsAs
 pub mod RunLaws
+pub mod StuckCause

@@ -1,6 +1,6 @@
 -- How a line is printed: its labels without blanks, and a tab before the word of its statement and before the
 -- first operand. Numbers are unsigned.
-use Rattle.std.specs.Prelude.{◌≤◌, ◌<◌, true, false, ℕ, List, [], ◌∷◌, ◌++◌, map, codes, decimal, if◌then◌else◌}
+use Rattle.std.specs.Prelude.{◌≤◌, ◌<◌, true, false, ℕ, List, [], ◌∷◌, ◌++◌, map, decimal, if◌then◌else◌}
 use Rattle.asm_text.specs.declared.token.Sign.TheVariants.{Colon}
 use Rattle.asm_text.specs.declared.instruction.Instruction.{Instruction}
 use Rattle.asm_text.specs.declared.instruction.Instruction.TheVariants.{LoadNumber, Move, Binary, Unary, Load, Store, Branch, Jump, Call}
@@ -14,7 +14,9 @@ use Rattle.asm_text.specs.declared.line.Statement.{Statement}
 use Rattle.asm_text.specs.declared.line.Statement.TheVariants as statement
 use Rattle.asm_text.specs.declared.line.Directive.TheVariants as directive
 use Rattle.asm_text.specs.Tokens.{Tok, Word, Number, Dollar, Mark, Spaced, text_of}
-use Rattle.asm_text.specs.Instructions.{two, three, placed, binary_word, unary_word, load_word, store_word}
+use Rattle.asm_text.specs.Instructions.{two, three, placed}
+use Rattle.asm_text.specs.Words.{word_of, head_word}
+use Rattle.asm_text.specs.declared.mnemonic.Mnemonic.TheVariants as mnemonic
 
 abbrev pub apart : Tok → Spaced
 apart t = record { tok = t; is_spaced = true }
@@ -36,17 +38,6 @@ target_token (target.Register r) = register_token r
 abbrev pub address_tokens : ℕ → Address → List Tok
 address_tokens r at = placed (register_token r) (Number (decimal at.offset)) (register_token at.base)
 
-abbrev pub head_word : Instruction → List ℕ
-head_word (LoadNumber d n) = codes "li"
-head_word (Move d s) = codes "move"
-head_word (Binary op d s t) = binary_word op
-head_word (Unary op d s) = unary_word op
-head_word (Load op d at) = load_word op
-head_word (Store op s at) = store_word op
-head_word (Branch name) = codes "b"
-head_word (Jump to) = codes "j"
-head_word (Call to) = codes "jal"
-
 abbrev pub operand_tokens : Instruction → List Tok
 operand_tokens (LoadNumber d n) = two (register_token d) (Number (decimal n))
 operand_tokens (Move d s) = two (register_token d) (register_token s)
@@ -65,8 +56,8 @@ spaced (t ∷ ts) = apart t ∷ map joined ts
 
 abbrev pub statement_tokens : Statement → List Spaced
 statement_tokens statement.Nothing = []
-statement_tokens (statement.Directive directive.Text) = apart (Word (codes ".text")) ∷ []
-statement_tokens (statement.Directive (directive.Global name)) = apart (Word (codes ".globl")) ∷ apart (Word name) ∷ []
+statement_tokens (statement.Directive directive.Text) = apart (Word (word_of mnemonic.Text)) ∷ []
+statement_tokens (statement.Directive (directive.Global name)) = apart (Word (word_of mnemonic.Global)) ∷ apart (Word name) ∷ []
 statement_tokens (statement.Instruction i) = apart (Word (head_word i)) ∷ spaced (operand_tokens i)
 
 abbrev pub label_tokens : List (List ℕ) → List Spaced

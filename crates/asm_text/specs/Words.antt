@@ -1,13 +1,33 @@
--- The word at the front of a directive or an instruction.
+-- The words at the front of directives and instructions.
 use Rattle.std.specs.Prelude.{ℕ, List, codes}
 use Rattle.asm_text.specs.declared.mnemonic.Mnemonic.{Mnemonic}
 use Rattle.asm_text.specs.declared.mnemonic.Mnemonic.TheVariants as mnemonic
 use Rattle.asm_text.specs.declared.mnemonic.Operation.{Operation}
 use Rattle.asm_text.specs.declared.mnemonic.Operation.TheVariants as operation
-use Rattle.asm_text.specs.declared.line.Statement.{Statement}
-use Rattle.asm_text.specs.declared.line.Statement.TheVariants as statement
-use Rattle.asm_text.specs.Tokens.{Tok}
-use Rattle.asm_text.specs.Instructions.{IsInstruction, IsDirective, binary_word, unary_word, load_word, store_word}
+use Rattle.asm_text.specs.declared.instruction.Instruction.{Instruction}
+use Rattle.asm_text.specs.declared.instruction.Instruction.TheVariants.{LoadNumber, Move, Binary, Unary, Load, Store, Branch, Jump, Call}
+use Rattle.asm_text.specs.declared.instruction.BinaryOp.{BinaryOp}
+use Rattle.asm_text.specs.declared.instruction.BinaryOp.TheVariants.{Add, Subtract, Multiply}
+use Rattle.asm_text.specs.declared.instruction.UnaryOp.{UnaryOp}
+use Rattle.asm_text.specs.declared.instruction.UnaryOp.TheVariants.{Negate}
+use Rattle.asm_text.specs.declared.instruction.LoadOp.{LoadOp}
+use Rattle.asm_text.specs.declared.instruction.LoadOp.TheVariants as load
+use Rattle.asm_text.specs.declared.instruction.StoreOp.{StoreOp}
+use Rattle.asm_text.specs.declared.instruction.StoreOp.TheVariants as store
+
+abbrev pub binary_word : BinaryOp → List ℕ
+binary_word Add = codes "addu"
+binary_word Subtract = codes "subu"
+binary_word Multiply = codes "mul"
+
+abbrev pub unary_word : UnaryOp → List ℕ
+unary_word Negate = codes "negu"
+
+abbrev pub load_word : LoadOp → List ℕ
+load_word load.Word = codes "lw"
+
+abbrev pub store_word : StoreOp → List ℕ
+store_word store.Word = codes "sw"
 
 abbrev pub operation_word : Operation → List ℕ
 operation_word operation.LoadNumber = codes "li"
@@ -25,8 +45,17 @@ word_of mnemonic.Branch = codes "b"
 word_of mnemonic.Jump = codes "j"
 word_of mnemonic.Call = codes "jal"
 
--- the statement of this word with these operands
-abbrev pub IsRow : List ℕ → List Tok → Statement → Type 0
-IsRow word ts statement.Nothing = ⊥
-IsRow word ts (statement.Directive d) = IsDirective word ts d
-IsRow word ts (statement.Instruction i) = IsInstruction word ts i
+-- what an instruction begins with
+abbrev pub head_of : Instruction → Mnemonic
+head_of (LoadNumber d n) = mnemonic.Operation operation.LoadNumber
+head_of (Move d s) = mnemonic.Operation operation.Move
+head_of (Binary op d s t) = mnemonic.Operation (operation.Binary op)
+head_of (Unary op d s) = mnemonic.Operation (operation.Unary op)
+head_of (Load op d at) = mnemonic.Operation (operation.Load op)
+head_of (Store op s at) = mnemonic.Operation (operation.Store op)
+head_of (Branch name) = mnemonic.Branch
+head_of (Jump to) = mnemonic.Jump
+head_of (Call to) = mnemonic.Call
+
+abbrev pub head_word : Instruction → List ℕ
+head_word i = word_of (head_of i)

@@ -2,13 +2,16 @@ ghost use Rattle.std.specs.Prelude.{◌≡◌};
 
 use lcc_base::Memory;
 use std::alloc::{AllocError, AllocFailed};
+use thiserror::Error;
 
 /// Why no program was read.
-#[derive(Clone, Copy, Debug, PartialEq, Eq)]
+#[derive(Clone, Copy, Debug, PartialEq, Eq, Error)]
 pub enum AsmFault {
     /// The text is no assembly text.
+    #[error("the text is no assembly text")]
     BadText,
     /// Memory ran out.
+    #[error("memory ran out")]
     Memory,
 }
 

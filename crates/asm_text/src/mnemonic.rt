@@ -38,6 +38,23 @@ pub enum Operation {
     Store(StoreOp),
 }
 
+/// All words.
+const ALL: [Mnemonic; 13] = [
+    Mnemonic::Text,
+    Mnemonic::Global,
+    Mnemonic::Operation(Operation::LoadNumber),
+    Mnemonic::Operation(Operation::Move),
+    Mnemonic::Operation(Operation::Binary(BinaryOp::Add)),
+    Mnemonic::Operation(Operation::Binary(BinaryOp::Subtract)),
+    Mnemonic::Operation(Operation::Binary(BinaryOp::Multiply)),
+    Mnemonic::Operation(Operation::Unary(UnaryOp::Negate)),
+    Mnemonic::Operation(Operation::Load(LoadOp::Word)),
+    Mnemonic::Operation(Operation::Store(StoreOp::Word)),
+    Mnemonic::Branch,
+    Mnemonic::Jump,
+    Mnemonic::Call,
+];
+
 /// How it is written.
 pub fn text_of_operation(operation: Operation) -> &'static [u8]
     ensures { result.now ≡ operation_word operation }
@@ -73,20 +90,10 @@ pub fn mnemonic_at(word: &[u8]) -> Option<Mnemonic>
     ensures some { IfSome result (λ m. word.now ≡ word_of m) }
     ensures none { IfNone result ((m : Mnemonics) → word_of m ≢ word.now) }
 {
-    match word {
-        b".text" => Some(Mnemonic::Text),
-        b".globl" => Some(Mnemonic::Global),
-        b"li" => Some(Mnemonic::Operation(Operation::LoadNumber)),
-        b"move" => Some(Mnemonic::Operation(Operation::Move)),
-        b"addu" => Some(Mnemonic::Operation(Operation::Binary(BinaryOp::Add))),
-        b"subu" => Some(Mnemonic::Operation(Operation::Binary(BinaryOp::Subtract))),
-        b"mul" => Some(Mnemonic::Operation(Operation::Binary(BinaryOp::Multiply))),
-        b"negu" => Some(Mnemonic::Operation(Operation::Unary(UnaryOp::Negate))),
-        b"lw" => Some(Mnemonic::Operation(Operation::Load(LoadOp::Word))),
-        b"sw" => Some(Mnemonic::Operation(Operation::Store(StoreOp::Word))),
-        b"b" => Some(Mnemonic::Branch),
-        b"j" => Some(Mnemonic::Jump),
-        b"jal" => Some(Mnemonic::Call),
-        _ => None,
+    for mnemonic in ALL {
+        if text_of_word(mnemonic) == word {
+            return Some(mnemonic);
+        }
     }
+    None
 }

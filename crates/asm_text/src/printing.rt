@@ -6,6 +6,7 @@ ghost use Rattle.asm_text.specs.Tokens.{Number, text_of};
 ghost use Rattle.asm_text.specs.Instructions.{AreLines, two, three};
 ghost use Rattle.asm_text.specs.Program.{Makes};
 ghost use Rattle.asm_text.specs.AssemblyText.{IsText};
+ghost use Rattle.asm_text.specs.Words.{head_word};
 ghost use Rattle.asm_text.specs.Printable.{ArePrintable};
 ghost use Rattle.asm_text.specs.Printed.{
   joined,
@@ -14,7 +15,6 @@ ghost use Rattle.asm_text.specs.Printed.{
   target_token,
   address_tokens,
   operand_tokens,
-  head_word,
   label_tokens,
   statement_tokens,
   written,

@@ -1,3 +1,5 @@
+ghost use Rattle.std.specs.Prelude.{◌≡◌};
+
 use lcc_base::Bytes;
 
 /// What a step of a machine does.
@@ -24,6 +26,30 @@ pub enum StuckCause {
     Outside,
     /// An access isn't at a multiple of its size.
     Misaligned,
+    /// A divisor is 0.
+    ZeroDivisor,
+    /// -2^31 is divided by -1.
+    DivideOverflow,
+    /// No register window is left.
+    NoWindow,
+}
+
+impl StuckCause {
+    ghost use Rattle.asm_text.specs.StuckCause.{cause_name};
+
+    /// Its name in a report.
+    pub fn name(self) -> &'static str
+        ensures { result.now ≡ cause_name self }
+    {
+        match self {
+            StuckCause::BadJump => "BadJump",
+            StuckCause::Outside => "Outside",
+            StuckCause::Misaligned => "Misaligned",
+            StuckCause::ZeroDivisor => "ZeroDivisor",
+            StuckCause::DivideOverflow => "DivideOverflow",
+            StuckCause::NoWindow => "NoWindow",
+        }
+    }
 }
 
 /// The bytes that a program reads, and how many of them it has read.

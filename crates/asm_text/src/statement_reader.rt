@@ -3,8 +3,8 @@ ghost use Rattle.std.specs.Prelude.{◌≡◌, ◌≢◌, ◌∷◌, [], ℕ, Li
 ghost use Rattle.asm_text.specs.declared.instruction.Instruction.{Instruction as Instructions};
 ghost use Rattle.asm_text.specs.declared.line.Statement.{Statement as Statements};
 ghost use Rattle.asm_text.specs.Tokens.{views};
-ghost use Rattle.asm_text.specs.Instructions.{toks, IsApart, IsInstruction, IsStatement};
-ghost use Rattle.asm_text.specs.Words.{operation_word, word_of, IsRow};
+ghost use Rattle.asm_text.specs.Instructions.{toks, IsApart, IsInstruction, IsRow, IsStatement};
+ghost use Rattle.asm_text.specs.Words.{operation_word, word_of};
 
 use crate::asm_fault::AsmFault;
 use crate::instruction::Instruction;

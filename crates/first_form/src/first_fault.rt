@@ -2,13 +2,16 @@ ghost use Rattle.std.specs.Prelude.{◌≡◌};
 
 use lcc_base::Memory;
 use std::alloc::AllocFailed;
+use thiserror::Error;
 
 /// Why no program was read.
-#[derive(Clone, Copy, Debug, PartialEq, Eq)]
+#[derive(Clone, Copy, Debug, PartialEq, Eq, Error)]
 pub enum FirstFault {
     /// The text is of no program of the first form.
+    #[error("the text is of no program of the first form")]
     BadText,
     /// Memory ran out.
+    #[error("memory ran out")]
     Memory,
 }
 

@@ -3,13 +3,16 @@ ghost use Rattle.mips_machine.specs.declared.load_fault.LoadFault.TheVariants as
 
 use lcc_base::Memory;
 use std::alloc::AllocError;
+use thiserror::Error;
 
 /// Why a program wasn't loaded.
-#[derive(Clone, Copy, Debug, PartialEq, Eq)]
+#[derive(Clone, Copy, Debug, PartialEq, Eq, Error)]
 pub enum LoadFault {
     /// No code label is `main`.
+    #[error("no code label is main")]
     NoMain,
     /// An allocation was refused.
+    #[error("an allocation was refused")]
     Memory,
 }
 
