@@ -1,12 +1,10 @@
 -- Values of registers and slots, where one was changed and elsewhere.
-use Rattle.std.proofs.Common.{◌≡◌, ℕ, ◌-◌, ℤ, pos, List, [], ◌∷◌, ◌++◌, Bool, true, false, ◌||◌, refl, ap, ◌∙◌, arith}
+use Rattle.std.proofs.Common.{◌≡◌, ℕ, ◌-◌, pos, List, [], ◌∷◌, ◌++◌, Bool, true, false, ◌||◌, refl, ap, ◌∙◌, arith}
 use Rattle.std.specs.Prelude.{◌==◌, if◌then◌else◌}
-use Rattle.std.specs.Ordering.{int_eq}
-use Rattle.std.proofs.lemmas.Bool.{leb-true, eq-eqb, ne_eqb, both_ways, or_parts, false_from_ne_true}
-use Rattle.std.proofs.lemmas.Bool.Decides.{Decides-int_eq}
+use Rattle.std.proofs.lemmas.Bool.{leb-true, eq-eqb, ne_eqb, both_ways, or_parts}
 use Rattle.op_forest.specs.Words.{Word}
 use Rattle.vcode.specs.declared.operand.Operand.{Operand}
-use Rattle.vcode.specs.Execution.{with_value, with_slot, first_of, rest_of, written, without}
+use Rattle.vcode.specs.Execution.{with_value, first_of, rest_of, written, without}
 use Rattle.vcode.specs.VirtualCode.{is_virtual, among}
 use Rattle.slot_allocator.specs.Slots.{slot_of}
 
@@ -21,12 +19,6 @@ value_same f g r w q e = ap (λ x. if q == r then w else x) e
 
 pub kept_value : (lost : ℕ → Bool) (f : ℕ → Word) (q : ℕ) → lost q ≡ false → without lost f q ≡ f q
 kept_value lost f q e = rw e refl
-
-pub slot_at : (f : ℤ → Word) (z : ℤ) (w : Word) → with_slot f z w z ≡ w
-slot_at f z w = rw ((Decides-int_eq z z).1 refl) refl
-
-pub slot_off : (f : ℤ → Word) (z : ℤ) (w : Word) (y : ℤ) → (y ≡ z → ⊥) → with_slot f z w y ≡ f y
-slot_off f z w y ne = rw (false_from_ne_true (int_eq y z) (λ e. ne ((Decides-int_eq y z).0 e))) refl
 
 pos_same : (a b : ℕ) → pos a ≡ pos b → a ≡ b
 pos_same a b e = cc

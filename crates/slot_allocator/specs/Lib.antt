@@ -1,3 +1,4 @@
 pub mod Slots
 pub mod SlotCounts
+pub mod Values
 pub mod Following

@@ -48,7 +48,7 @@ fn operands_of<T: Target>(
 ) -> Result<Vec<Operand>, Memory>
     ensures { IfOk result (λ os. os.items ≡ T.machine.operands instr.now) }
 {
-    let mut operands = Vec::new(alloc);
+    let mut operands = Vec::with_capacity(alloc, 3)?;
     for n in 0..3 {
         let Some(operand) = target.operand(instr, n) else {
             break;
