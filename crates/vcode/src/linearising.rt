@@ -98,7 +98,9 @@ fn emit<T: Target, R: RuleSet<T>>(
     if is_chain(&rule.pattern) {
         let HandedUp { part, to } = emit(emitter, derivation.parts.at(0), tree, next, into)?;
         parts.push(part)?;
-        let part = emitter.rules.expand(alloc, derivation.rule, tree, &parts, to, into)?;
+        let part = emitter
+            .rules
+            .expand(alloc, derivation.rule, tree, &parts, to, into)?;
         return Ok(HandedUp { part, to });
     }
     let mut leaves = Vec::with_capacity(alloc, derivation.parts.len())?;
@@ -107,7 +109,9 @@ fn emit<T: Target, R: RuleSet<T>>(
         parts.push(emit(emitter, part, leaves[k], next, into)?.part)?;
     }
     let to = register_at(tree, next);
-    let part = emitter.rules.expand(alloc, derivation.rule, tree, &parts, to, into)?;
+    let part = emitter
+        .rules
+        .expand(alloc, derivation.rule, tree, &parts, to, into)?;
     Ok(HandedUp { part, to })
 }
 
