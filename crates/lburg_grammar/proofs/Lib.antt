@@ -10,9 +10,6 @@ pub mod Built
 pub mod Assembled
 pub mod OneMeaning
 pub mod Sizes
-pub mod Applied
-pub mod OneBest
-pub mod SameNumbers
 pub mod TreePlaces
 pub mod Tails
 pub mod Numbers

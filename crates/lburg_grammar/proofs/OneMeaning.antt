@@ -1,24 +1,23 @@
 -- The words of a text mean one description at most.
-use Rattle.std.proofs.Common.{◌≡◌, ℕ, zero, suc, ◌+◌, ◌<◌, ◌≤◌, ◌⊎◌, List, [], ◌∷◌, length, map, get_or, Option, Some, None, refl, sym, ap, ◌∙◌, subst, inl, inr, arith}
+use Rattle.std.proofs.Common.{◌≡◌, ℕ, suc, ◌+◌, List, [], ◌∷◌, length, map, Option, Some, None, refl, sym, ap, ◌∙◌, subst, inl, inr, arith}
 use Rattle.std.specs.Prelude.{slice_get, Result, Ok, Err, IfOk}
-use Rattle.std.proofs.lemmas.Option.{slice_get_within, slice_get-get_or, same_Some}
+use Rattle.std.proofs.lemmas.Option.{same_Some}
 use Rattle.std.proofs.lemmas.List.{length-map}
-use Rattle.lcc_text.specs.Decimal.{value_of}
 use Rattle.lburg_syntax.specs.Grammar.{MRule}
 use Rattle.lburg_syntax.specs.Sections.{MSyntax}
 use Rattle.lburg_grammar.specs.declared.rule.Rule.{Rule}
 use Rattle.lburg_grammar.specs.declared.terminal.Terminal.{Terminal}
 use Rattle.lburg_grammar.specs.Pattern.{MPattern, PHole, PLeaf, POne, PTwo, pattern_of}
-use Rattle.lburg_grammar.specs.Description.{MDescription, RuleAt, Uses, HasArity, terminal_names}
-use Rattle.lburg_grammar.specs.DescriptionText.{Means, CostMeans, StartMeans, declared_in, starts_in}
+use Rattle.lburg_grammar.specs.Description.{MDescription, RuleAt, Uses, HasArity}
+use Rattle.lburg_grammar.specs.DescriptionText.{Means, CostMeans, declared_in, starts_in}
 use Rattle.lburg_grammar.specs.DeclaredTerminals.{names_of}
 use Rattle.lburg_grammar.specs.FirstUses.{lefts_of}
 use Rattle.lburg_grammar.specs.Places.{RuleFor, RulesFor, StartFor}
-use Rattle.lburg_grammar.specs.Uses.{UsesWith, AreUsing, known, arity_at}
+use Rattle.lburg_grammar.specs.Uses.{UsesWith, known, arity_at}
 use Rattle.lburg_grammar.specs.SameParts.{SameRule, SameParts}
 use Rattle.lburg_grammar.proofs.Firsts.{one_order}
 use Rattle.lburg_grammar.proofs.Meaning.{rule_back, means_names, means_numbers, means_many, means_start, means_firsts, means_rules, means_table}
-use Rattle.lburg_grammar.proofs.PatternPlaces.{element_at, fitting, arity_has}
+use Rattle.lburg_grammar.proofs.PatternPlaces.{element_at, fitting}
 
 same_cost : (cost : Option (List ℕ)) (a b : ℕ) → CostMeans cost a → CostMeans cost b → a ≡ b
 same_cost None a b h k = h ∙ sym k

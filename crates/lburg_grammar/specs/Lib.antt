@@ -5,6 +5,7 @@ pub mod DescriptionText
 pub mod TailText
 pub mod Derivation
 pub mod Best
+pub mod Laws
 pub mod CoverText
 pub mod SameParts
 pub mod Shape
@@ -15,3 +16,4 @@ pub mod Places
 pub mod Uses
 pub mod TreeLines
 pub mod DerivationOf
+pub mod Faults

@@ -6,7 +6,7 @@ ghost use Rattle.lburg_grammar.specs.SameParts.{SameParts};
 use crate::desc_fault::DescFault;
 use crate::description::Description;
 use crate::resolve::resolved;
-use lburg_syntax::{SyntaxError, read_syntax};
+use lburg_syntax::read_syntax;
 use std::alloc::Global;
 
 /// The description that the text before its tail spells. BadText exactly where that text is no
@@ -19,13 +19,10 @@ pub fn read(alloc: Global, text: &[u8]) -> Result<Description, DescFault>
     // A description's text is read, unless memory ran out.
     ensures only { (d : MDescription) → IsText d text.now → IfErr result (λ e. e ≡ DescFault.Memory) }
 {
-    match read_syntax(alloc, text) {
-        Ok(syntax) => resolved(
-            alloc,
-            syntax.declarations.as_slice(),
-            syntax.rules.as_slice(),
-        ),
-        Err(SyntaxError::BadText) => Err(DescFault::BadText),
-        Err(SyntaxError::Memory) => Err(DescFault::Memory),
-    }
+    let syntax = read_syntax(alloc, text)?;
+    resolved(
+        alloc,
+        syntax.declarations.as_slice(),
+        syntax.rules.as_slice(),
+    )
 }

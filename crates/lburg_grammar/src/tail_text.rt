@@ -11,7 +11,7 @@ use crate::named_tree::{sized_tree, terminal_names};
 use crate::text_tree::TextTree;
 use crate::tree_fault::TreeFault;
 use indexmap::IndexSet;
-use lburg_syntax::{SyntaxError, read_tree_line, tail};
+use lburg_syntax::{read_tree_line, tail};
 use lcc_base::Items;
 use lcc_text::next_line;
 use std::alloc::Global;
@@ -67,14 +67,9 @@ fn add_line<'a>(
     ensures one { (here : List MTree) → IsTreeLine d.now line.now here → OnOk result (trees.new ≡ trees.old ++ here) }
     ensures only { (here : List MTree) → IsTreeLine d.now line.now here → IfErr result (λ e. e ≡ TreeFault.Memory) }
 {
-    match read_tree_line(alloc, line) {
-        Err(SyntaxError::BadText) => Err(TreeFault::BadText),
-        Err(SyntaxError::Memory) => Err(TreeFault::Memory),
-        Ok(None) => Ok(()),
-        Ok(Some(named)) => {
-            let tree = sized_tree(alloc, d, names, &named)?;
-            trees.push(tree)?;
-            Ok(())
-        }
+    if let Some(named) = read_tree_line(alloc, line)? {
+        let tree = sized_tree(alloc, d, names, &named)?;
+        trees.push(tree)?;
     }
+    Ok(())
 }

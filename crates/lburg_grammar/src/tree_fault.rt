@@ -1,14 +1,18 @@
 ghost use Rattle.std.specs.Prelude.{◌≡◌};
 
+use lburg_syntax::SyntaxError;
 use lcc_base::Memory;
 use std::alloc::AllocFailed;
+use thiserror::Error;
 
 /// Why the trees of a tail were not read.
-#[derive(Clone, Copy, Debug, PartialEq, Eq)]
+#[derive(Clone, Copy, Debug, PartialEq, Eq, Error)]
 pub enum TreeFault {
     /// A line is no tree of the description, or a tree is too large.
+    #[error("a line is no tree of the description, or too large a one")]
     BadText,
     /// An allocation was refused.
+    #[error("an allocation was refused")]
     Memory,
 }
 
@@ -29,5 +33,18 @@ impl<T: Drop> From<AllocFailed<T>> for TreeFault {
 
     fn from(_: AllocFailed<T>) -> Self {
         TreeFault::Memory
+    }
+}
+
+impl From<SyntaxError> for TreeFault {
+    ghost use Rattle.lburg_grammar.specs.Faults.{tree_fault};
+
+    ghost from_gives = { λ why e. e ≡ tree_fault why };
+
+    fn from(why: SyntaxError) -> Self {
+        match why {
+            SyntaxError::BadText => TreeFault::BadText,
+            SyntaxError::Memory => TreeFault::Memory,
+        }
     }
 }

@@ -5,14 +5,17 @@ ghost use Rattle.lburg_syntax.specs.Readings.{error_of};
 
 use crate::syntax::SyntaxError;
 use std::alloc::{AllocError, AllocFailed};
+use thiserror::Error;
 
 /// Why a reader of tokens gave no value.
-#[derive(Clone, Copy, Debug, PartialEq, Eq)]
+#[derive(Clone, Copy, Debug, PartialEq, Eq, Error)]
 pub(crate) enum ReadError {
     /// An allocation was refused.
+    #[error("an allocation was refused")]
     Memory,
     /// The token behind which so many are left, itself included, can't go on, or, where none is
     /// left, one is missing.
+    #[error("stuck with {0} tokens left")]
     Stuck(usize),
 }
 

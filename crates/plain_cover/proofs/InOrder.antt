@@ -7,7 +7,7 @@ use Rattle.lburg_grammar.specs.Tree.{MTree}
 use Rattle.lburg_grammar.specs.Pattern.{Goal, goals_at, pattern_of}
 use Rattle.lburg_grammar.specs.Derivation.{MDerivation, MParts, Apply, NoPart, Part, Derives, DeriveEach, cost, count, numbers, numbers_in}
 use Rattle.lburg_grammar.specs.Best.{Earlier}
-use Rattle.lburg_grammar.proofs.SameNumbers.{same_front}
+use Rattle.lburg_grammar.specs.Laws.{same_front}
 use Rattle.plain_cover.specs.Told.{told}
 use Rattle.plain_cover.specs.Less.{Less, ByCost, ByCount, ByNumbers, Upto}
 

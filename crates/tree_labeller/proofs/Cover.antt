@@ -13,7 +13,7 @@ use Rattle.tree_labeller.specs.Reduced.{Reduced}
 use Rattle.tree_labeller.specs.Runs.{Runs}
 use Rattle.tree_labeller.proofs.Greatest.{found, none, follows_best}
 use Rattle.tree_labeller.proofs.Erased.{derives, indexed, cost_kept, count_kept, numbers_kept, applied_kept}
-use Rattle.lburg_grammar.proofs.SameNumbers.{same_numbers}
+use Rattle.lburg_grammar.specs.Laws.{same_numbers}
 
 better : (d : List Rule) (x y : MDerivation) (k m : ℕ) (xs : List ℕ) (k' m' : ℕ) (xs' : List ℕ) → Less k m xs k' m' xs' → cost d x ≡ k → count x ≡ m → numbers x ≡ xs → cost d y ≡ k' → count y ≡ m' → numbers y ≡ xs' → Better d x y
 better d x y k m xs k' m' xs' (less_by_cost h) a b c a' b' c' = ByCost (omega arith)

@@ -7,10 +7,10 @@ use Rattle.lburg_grammar.proofs.description_text.read.Goals as goal
 
 pub resolved-requires : goal.resolved-requires
 resolved-requires c = record {
-  small = rw c.as_slice-in-Ok.ensures.value (small_rules (rule_lines c.args.text.now) (map rule_of c.in-Ok.syntax.rules.items) c.in-Ok.ensures.found.rules);
+  small = rw c.as_slice-2.ensures.value (small_rules (rule_lines c.args.text.now) (map rule_of c.in_ok-syntax.syntax.rules.items) c.in_ok-syntax.ensures.found.rules);
 }
 
-pub returns-in-Ok-clause-one : goal.returns-in-Ok-clause-one
-returns-in-Ok-clause-one c = λ d is.
-    (let same = c.in-Ok.ensures.read is.syntax is.spelled in
-    one_read c.resolved.result _ is.syntax d (rw (c.as_slice.ensures.value, c.as_slice-in-Ok.ensures.value) same) c.resolved.ensures.found is.means)
+pub returns-clause-one : goal.returns-clause-one
+returns-clause-one c = λ d is.
+    (let same = c.in_ok-syntax.ensures.read is.syntax is.spelled in
+    one_read c.resolved.result _ is.syntax d (rw (c.as_slice.ensures.value, c.as_slice-2.ensures.value) same) c.resolved.ensures.found is.means)

@@ -5,9 +5,9 @@ use Rattle.lburg_grammar.specs.Tree.{MTree}
 use Rattle.lburg_grammar.proofs.Tails.{same_line}
 use Rattle.lburg_grammar.proofs.tail_text.add_line.Goals as goal
 
-pub returns-in_ok-push-in-Ok-Some-clause-one : goal.returns-in_ok-push-in-Ok-Some-clause-one
-returns-in_ok-push-in-Ok-Some-clause-one c = λ here h.
-    let r = c.in-Ok-Some.ensures.read h.named h.spelled in
-    let e : h.named ≡ Some (named_of c.in-Ok-Some.named) = sym r ∙ ap (option_map named_of) c.in-Ok-Some.field-0-is in
-    let s = same_line c.args.d.now c.args.line.now here (named_of c.in-Ok-Some.named) c.in_ok-tree-in-Ok-Some.tree h c.requires.is e c.in_ok-tree-in-Ok-Some.ensures.found in
-    c.in_ok-push-in-Ok-Some.ensures.ok ∙ ap (λ (ts : List MTree). c.args.trees.now ++ ts) (sym s)
+pub returns-in_ok-push-clause-one : goal.returns-in_ok-push-clause-one
+returns-in_ok-push-clause-one c = λ here h.
+    let r = c.in_ok-named.ensures.read h.named h.spelled in
+    let e : h.named ≡ Some (named_of c.in-Some.named) = sym r ∙ ap (option_map named_of) c.in-Some.is in
+    let s = same_line c.args.d.now c.args.line.now here (named_of c.in-Some.named) c.in_ok-tree.tree h c.requires.is e c.in_ok-tree.ensures.found in
+    c.in_ok-push.ensures.ok ∙ ap (λ (ts : List MTree). c.args.trees.now ++ ts) (sym s)
