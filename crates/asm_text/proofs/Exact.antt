@@ -25,7 +25,7 @@ use Rattle.asm_text.specs.Instructions.{IsRegister, IsNumber, IsOperand, IsTarge
 use Rattle.asm_text.specs.Words.{head_of}
 use Rattle.asm_text.specs.Program.{Makes, IsWithinLimit}
 use Rattle.asm_text.specs.AssemblyText.{IsText, IsAssembly}
-use Rattle.asm_text.proofs.Numerals.{value_decimal, digits_decimal}
+use Rattle.asm_text.specs.Numerals.{value_decimal, digits_decimal}
 use Rattle.asm_text.proofs.Once.{once}
 use Rattle.asm_text.proofs.Labels.{same_labels, statement_no_label}
 use Rattle.asm_text.proofs.Rows.{same_word, head, instruction_word, row_word}

@@ -1,4 +1,3 @@
-pub mod FirstBytes
 pub mod Next
 pub mod Blanks
 pub mod Once
@@ -15,5 +14,4 @@ pub mod Making
 pub mod MadeProgram
 pub mod Written
 pub mod Printed
-pub mod BlankLines
 pub mod Words

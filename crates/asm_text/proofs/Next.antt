@@ -1,5 +1,5 @@
 -- The longest token of each kind.
-use Rattle.std.proofs.Common.{◌≡◌, ◌≤◌, ℕ, Bool, zero, suc, false, ◌==◌, List, [], ◌∷◌, ◌++◌, length, take, drop, refl, arith}
+use Rattle.std.proofs.Common.{◌≡◌, ◌≤◌, ℕ, Bool, zero, suc, false, ◌==◌, List, [], ◌∷◌, ◌++◌, take, drop, arith}
 use Rattle.std.proofs.lemmas.List.{take-append-drop}
 use Rattle.std.specs.Prelude.{◌≢◌}
 use Rattle.std.proofs.lemmas.Bool.Decides.{nat_tests}
@@ -7,15 +7,12 @@ use Rattle.lcc_text.specs.declared.class.Class.TheVariants.{Digit}
 use Rattle.asm_text.specs.declared.class.AsmClass.TheVariants.{Symbol}
 use Rattle.lcc_text.specs.Classes.{in_class, AllIn, StartsIn, StopsIn}
 use Rattle.asm_text.specs.Classes.{in_asm}
-use Rattle.lcc_text.proofs.Runs.{longest_run, run_pos, starts_take}
+use Rattle.lcc_text.proofs.Runs.{run_pos, starts_take}
 use Rattle.asm_text.specs.declared.token.Sign.{Sign}
 use Rattle.asm_text.specs.Tokens.{Tok, Word, Number, Minus, Dollar, Mark, Wrong, text_of, IsName, IsToken, sign_code}
 use Rattle.asm_text.specs.Spelling.{IsNext, NoToken}
-use Rattle.asm_text.proofs.FirstBytes.{kind, kind_of, first_kind, same_kind, other_kind}
-
-pub name_symbols : (n : List ℕ) → IsName n → AllIn (in_asm Symbol) n
-name_symbols [] h = absurd h
-name_symbols (b ∷ n) h = h.1
+use Rattle.asm_text.specs.FirstBytes.{kind, kind_of, first_kind, other_kind}
+use Rattle.asm_text.specs.LongestTokens.{word_is_next, number_is_next, minus_is_next, dollar_is_next, same_tail}
 
 name_front : (bytes : List ℕ) (n : ℕ) → 1 ≤ n → StartsIn (in_asm Symbol) bytes → StopsIn (in_class Digit) bytes → AllIn (in_asm Symbol) (take n bytes) → IsName (take n bytes)
 name_front [] n k h d f = absurd h
@@ -23,12 +20,6 @@ name_front (b ∷ bs) zero k h d f = absurd (omega arith)
 name_front (b ∷ bs) (suc n) k h d f = (d, f)
 
 -- ---- words
-
-pub word_is_next : (n rest : List ℕ) → IsName n → StopsIn (in_asm Symbol) rest → IsNext (n ++ rest) (Word n) rest
-word_is_next n rest t k = record { token = t; parts = refl; longest = longest } where
-  longest : (u : Tok) (z : List ℕ) → IsToken u → n ++ rest ≡ text_of u ++ z → length (text_of u) ≤ length n
-  longest (Word m) z p e = longest_run (in_asm Symbol) n m rest z (name_symbols m p) k e
-  longest u z p e = let h : 0 ≡ kind_of u = same_kind (Word n) u rest z t p e in absurd (omega arith)
 
 pub at_front : (bytes : List ℕ) (n : ℕ) (t : Tok) → IsNext (take n bytes ++ drop n bytes) t (drop n bytes) → IsNext bytes t (drop n bytes)
 at_front bytes n t h = rw (take-append-drop n bytes) at h
@@ -38,29 +29,14 @@ word_next bytes n h d f k = at_front bytes n (Word (take n bytes)) (word_is_next
 
 -- ---- numbers
 
-pub number_is_next : (n rest : List ℕ) → StartsIn (in_class Digit) n → AllIn (in_class Digit) n → StopsIn (in_class Digit) rest → IsNext (n ++ rest) (Number n) rest
-number_is_next n rest s f k = record { token = (s, f); parts = refl; longest = longest } where
-  longest : (u : Tok) (z : List ℕ) → IsToken u → n ++ rest ≡ text_of u ++ z → length (text_of u) ≤ length n
-  longest (Number m) z p e = longest_run (in_class Digit) n m rest z p.1 k e
-  longest u z p e = let h : 1 ≡ kind_of u = same_kind (Number n) u rest z (s, f) p e in absurd (omega arith)
-
 pub number_next : (bytes : List ℕ) (n : ℕ) → StartsIn (in_class Digit) bytes → AllIn (in_class Digit) (take n bytes) → StopsIn (in_class Digit) (drop n bytes) → IsNext bytes (Number (take n bytes)) (drop n bytes)
 number_next bytes n h f k = at_front bytes n (Number (take n bytes)) (number_is_next (take n bytes) (drop n bytes) (starts_take (in_class Digit) bytes n h (run_pos (in_class Digit) bytes n h k)) f k)
 
 -- ---- what stands behind a minus sign and a dollar sign
 
-same_tail : (a b : ℕ) (x y : List ℕ) → a ∷ x ≡ b ∷ y → x ≡ y
-same_tail a b x y e = cc
-
 starts_front : (c : ℕ → Bool) (bytes m z : List ℕ) → StartsIn c m → bytes ≡ m ++ z → StartsIn c bytes
 starts_front c bytes [] z h e = absurd h
 starts_front c bytes (b ∷ m) z h e = rw e h
-
-pub minus_is_next : (n rest : List ℕ) → StartsIn (in_class Digit) n → AllIn (in_class Digit) n → StopsIn (in_class Digit) rest → IsNext (45 ∷ (n ++ rest)) (Minus n) rest
-minus_is_next n rest s f k = record { token = (s, f); parts = refl; longest = longest } where
-  longest : (u : Tok) (z : List ℕ) → IsToken u → 45 ∷ (n ++ rest) ≡ text_of u ++ z → length (text_of u) ≤ suc (length n)
-  longest (Minus m) z p e = let h = longest_run (in_class Digit) n m rest z p.1 k (same_tail _ _ _ _ e) in omega arith
-  longest u z p e = let h : 2 ≡ kind_of u = first_kind (45 ∷ (n ++ rest)) u z p e in absurd (omega arith)
 
 pub minus_next : (bytes : List ℕ) (n : ℕ) → StartsIn (in_class Digit) bytes → AllIn (in_class Digit) (take n bytes) → StopsIn (in_class Digit) (drop n bytes) → IsNext (45 ∷ bytes) (Minus (take n bytes)) (drop n bytes)
 minus_next bytes n h f k = rw (take-append-drop n bytes) at (minus_is_next (take n bytes) (drop n bytes) (starts_take (in_class Digit) bytes n h (run_pos (in_class Digit) bytes n h k)) f k)
@@ -71,12 +47,6 @@ no_minus bytes h = none where
   none : (u : Tok) (z : List ℕ) → IsToken u → 45 ∷ bytes ≡ text_of u ++ z → ⊥
   none (Minus m) z p e = h (starts_front (in_class Digit) bytes m z p.0 (same_tail _ _ _ _ e))
   none u z p e = let k : 2 ≡ kind_of u = first_kind (45 ∷ bytes) u z p e in omega arith
-
-pub dollar_is_next : (n rest : List ℕ) → StartsIn (in_asm Symbol) n → AllIn (in_asm Symbol) n → StopsIn (in_asm Symbol) rest → IsNext (36 ∷ (n ++ rest)) (Dollar n) rest
-dollar_is_next n rest s f k = record { token = (s, f); parts = refl; longest = longest } where
-  longest : (u : Tok) (z : List ℕ) → IsToken u → 36 ∷ (n ++ rest) ≡ text_of u ++ z → length (text_of u) ≤ suc (length n)
-  longest (Dollar m) z p e = let h = longest_run (in_asm Symbol) n m rest z p.1 k (same_tail _ _ _ _ e) in omega arith
-  longest u z p e = let h : 3 ≡ kind_of u = first_kind (36 ∷ (n ++ rest)) u z p e in absurd (omega arith)
 
 pub dollar_next : (bytes : List ℕ) (n : ℕ) → StartsIn (in_asm Symbol) bytes → AllIn (in_asm Symbol) (take n bytes) → StopsIn (in_asm Symbol) (drop n bytes) → IsNext (36 ∷ bytes) (Dollar (take n bytes)) (drop n bytes)
 dollar_next bytes n h f k = rw (take-append-drop n bytes) at (dollar_is_next (take n bytes) (drop n bytes) (starts_take (in_asm Symbol) bytes n h (run_pos (in_asm Symbol) bytes n h k)) f k)
@@ -89,12 +59,6 @@ no_dollar bytes h = none where
   none u z p e = let k : 3 ≡ kind_of u = first_kind (36 ∷ bytes) u z p e in omega arith
 
 -- ---- signs, and no token
-
-pub sign_next : (s : Sign) (rest : List ℕ) → IsNext (sign_code s ∷ rest) (Mark s) rest
-sign_next s rest = record { token = tt; parts = refl; longest = longest } where
-  longest : (u : Tok) (z : List ℕ) → IsToken u → sign_code s ∷ rest ≡ text_of u ++ z → length (text_of u) ≤ 1
-  longest (Mark v) z p e = omega arith
-  longest u z p e = let k : 4 ≡ kind_of u = same_kind (Mark s) u rest z tt p e in absurd (omega arith)
 
 none_at : (b : ℕ) (bs : List ℕ) → kind b ≡ 4 → ((s : Sign) → sign_code s ≢ b) → (u : Tok) (z : List ℕ) → IsToken u → b ∷ bs ≡ text_of u ++ z → ⊥
 none_at b bs h s (Mark v) z p e = s v cc

@@ -5,7 +5,7 @@ use Rattle.lcc_text.specs.Classes.{AllIn}
 use Rattle.asm_text.specs.Classes.{in_asm}
 use Rattle.asm_text.specs.Tokens.{Tok, Word, Number, Minus, Dollar, Mark, Wrong, Spaced, text_of, IsToken}
 use Rattle.asm_text.specs.Spelling.{IsNext, IsRemark, Starts, Spells, some_gap}
-use Rattle.asm_text.proofs.FirstBytes.{kind_of, same_kind, same_sign}
+use Rattle.asm_text.specs.FirstBytes.{kind_of, same_kind, same_sign}
 
 space_not : (x y : ℕ) → x ≡ y → in_asm Space x ≡ true → in_asm Space y ≡ false → ⊥
 space_not x y e h k = let g : true ≡ false = sym h ∙ ap (in_asm Space) e ∙ k in cc

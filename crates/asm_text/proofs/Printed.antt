@@ -1,8 +1,7 @@
 -- Printed lines are the lines of their text.
 use Rattle.std.proofs.Common.{◌≡◌, ◌≤◌, ◌<◌, ◌+◌, ℕ, List, [], ◌∷◌, ◌++◌, codes, decimal, refl, sym, ap, subst, ◌∙◌, append_assoc, inl, arith}
-use Rattle.lcc_text.specs.declared.class.Class.TheVariants.{Digit}
 use Rattle.asm_text.specs.declared.class.AsmClass.TheVariants.{Symbol}
-use Rattle.lcc_text.specs.Classes.{in_class, StartsIn, StopsIn}
+use Rattle.lcc_text.specs.Classes.{StopsIn}
 use Rattle.asm_text.specs.Classes.{in_asm}
 use Rattle.lcc_text.specs.Lines.{lines_of}
 use Rattle.asm_text.specs.declared.instruction.Instruction.{Instruction}
@@ -25,32 +24,23 @@ use Rattle.asm_text.specs.declared.line.Statement.TheVariants as statement
 use Rattle.asm_text.specs.declared.line.Directive.TheVariants as directive
 use Rattle.asm_text.specs.declared.program.Program.{Program}
 use Rattle.asm_text.specs.Tokens.{Tok, Number, Spaced, IsName, IsToken}
-use Rattle.asm_text.specs.Instructions.{IsRegister, IsNumber, IsOperand, IsTarget, IsInstruction, IsStatement, IsApart, AreLabels, IsLine, AreLines, toks, two, three, placed}
+use Rattle.asm_text.specs.Instructions.{IsRegister, IsOperand, IsTarget, IsInstruction, IsStatement, IsApart, AreLabels, IsLine, AreLines, toks, two, three, placed}
 use Rattle.asm_text.specs.Words.{binary_word, unary_word, load_word, store_word, head_word}
 use Rattle.asm_text.specs.Program.{Makes, names_of, names_of_instruction, target_names}
 use Rattle.asm_text.specs.AssemblyText.{IsText}
 use Rattle.asm_text.specs.Printable.{AreNames, PrintableFrom, ArePrintable}
 use Rattle.asm_text.specs.Printed.{register_token, operand_token, target_token, operand_tokens, spaced, statement_tokens, label_tokens, line_tokens, lines_text, spaced_text, written, IsOperandWithin, IsTargetWithin, IsInstructionWithin, IsStatementWithin, IsLineWithin, AreWithin}
-use Rattle.asm_text.proofs.Numerals.{value_decimal, digits_decimal}
-use Rattle.asm_text.proofs.Written.{Ends, Fits, spelled, no_feed, line_break, digit_symbol, digits_symbols}
+use Rattle.asm_text.specs.LongestTokens.{Ends}
+use Rattle.asm_text.specs.BlankLines.{register_token_is, numeral_token, numeral_is}
+use Rattle.asm_text.proofs.Written.{Fits, spelled, no_feed, line_break}
 
 -- ---- operands
 
-starts_symbol : (n : List ℕ) → StartsIn (in_class Digit) n → StartsIn (in_asm Symbol) n
-starts_symbol [] h = h
-starts_symbol (b ∷ n) h = digit_symbol b h
-
-register_token_is : (r : ℕ) → r < 32 → IsToken (register_token r)
-register_token_is r h = let d = digits_decimal r (omega arith) in (starts_symbol (decimal r) d.0, digits_symbols (decimal r) d.1)
-
 number_token_is : (n : ℕ) → n ≤ 4294967295 → IsToken (Number (decimal n))
-number_token_is n h = digits_decimal n (omega arith)
+number_token_is n h = numeral_token n (omega arith)
 
 is_register : (r : ℕ) → r < 32 → IsRegister (register_token r) r
 is_register r h = inl (refl, h)
-
-is_number : (n : ℕ) → n ≤ 4294967295 → IsNumber (Number (decimal n)) n
-is_number n h = let e = value_decimal n (omega arith) in (sym e, omega arith)
 
 operand_token_is : (t : Operand) → IsOperandWithin t → IsToken (operand_token t)
 operand_token_is (operand.Register r) h = register_token_is r h
@@ -62,7 +52,7 @@ operand_ends (operand.Number n) = tt
 
 is_operand : (t : Operand) → IsOperandWithin t → IsOperand (operand_token t) t
 is_operand (operand.Register r) h = is_register r h
-is_operand (operand.Number n) h = is_number n h
+is_operand (operand.Number n) h = numeral_is n h
 
 target_token_is : (t : Target) → IsTargetWithin t → AreNames (target_names t) → IsToken (target_token t)
 target_token_is (target.Label n) h k = k.0
@@ -146,12 +136,12 @@ is_apart (LoadNumber d n) = refl
 is_apart i = refl
 
 is_instruction : (i : Instruction) → IsInstructionWithin i → IsInstruction (head_word i) (toks (spaced (operand_tokens i))) i
-is_instruction (LoadNumber d n) h = (refl, (register_token d, Number (decimal n), refl, is_register d h.0, is_number n h.1))
+is_instruction (LoadNumber d n) h = (refl, (register_token d, Number (decimal n), refl, is_register d h.0, numeral_is n h.1))
 is_instruction (Move d s) h = (refl, (register_token d, register_token s, refl, is_register d h.0, is_register s h.1))
 is_instruction (Binary op d s t) h = (refl, (register_token d, register_token s, operand_token t, refl, is_register d h.0, is_register s h.1, is_operand t h.2))
 is_instruction (Unary op d s) h = (refl, (register_token d, register_token s, refl, is_register d h.0, is_register s h.1))
-is_instruction (Load op d at) h = (refl, (register_token d, Number (decimal at.offset), register_token at.base, refl, is_register d h.0, is_number at.offset h.1.0, is_register at.base h.1.1))
-is_instruction (Store op s at) h = (refl, (register_token s, Number (decimal at.offset), register_token at.base, refl, is_register s h.0, is_number at.offset h.1.0, is_register at.base h.1.1))
+is_instruction (Load op d at) h = (refl, (register_token d, Number (decimal at.offset), register_token at.base, refl, is_register d h.0, numeral_is at.offset h.1.0, is_register at.base h.1.1))
+is_instruction (Store op s at) h = (refl, (register_token s, Number (decimal at.offset), register_token at.base, refl, is_register s h.0, numeral_is at.offset h.1.0, is_register at.base h.1.1))
 is_instruction (Branch n) h = (refl, refl)
 is_instruction (Jump t) h = (refl, (target_token t, refl, is_target t h))
 is_instruction (Call t) h = (refl, (target_token t, refl, is_target t h))

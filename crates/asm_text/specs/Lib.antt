@@ -17,3 +17,7 @@ pub mod Agrees
 pub mod RunsAs
 pub mod RunLaws
 pub mod StuckCause
+pub mod FirstBytes
+pub mod LongestTokens
+pub mod Numerals
+pub mod BlankLines

@@ -75,7 +75,7 @@ fn dollar<'a>(bytes: &'a [u8]) -> Option<(Kind<'a>, &'a [u8])>
 }
 
 /// The longest token at the front, and the bytes behind it. None where no token begins.
-#[tactic(auto, using(crate::proofs::Next::sign_next, crate::proofs::Next::none_next, crate::proofs::Next::none_empty))]
+#[tactic(auto, using(crate::specs::LongestTokens::sign_next, crate::proofs::Next::none_next, crate::proofs::Next::none_empty))]
 fn next_kind<'a>(bytes: &'a [u8]) -> Option<(Kind<'a>, &'a [u8])>
     ensures some { IfSome result (λ x. IsNext bytes.now (tok_of x.0) x.1.now) }
     ensures shorter { IfSome result (λ x. length x.1.now < length bytes.now) }

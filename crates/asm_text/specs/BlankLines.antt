@@ -11,8 +11,8 @@ use Rattle.asm_text.specs.Tokens.{Tok, Word, Number, Minus, Spaced, text_of, IsN
 use Rattle.asm_text.specs.Spelling.{Spells}
 use Rattle.asm_text.specs.Printed.{joined, spaced, register_token}
 use Rattle.asm_text.specs.Instructions.{IsNumber, IsInstruction, IsLine}
-use Rattle.asm_text.proofs.Numerals.{value_decimal, digits_decimal}
-use Rattle.asm_text.proofs.Written.{Ends, next_of, starts_of, digit_symbol, digits_symbols}
+use Rattle.asm_text.specs.Numerals.{value_decimal, digits_decimal}
+use Rattle.asm_text.specs.LongestTokens.{Ends, next_of, starts_of, digit_symbol, digits_symbols}
 
 -- tokens with a blank before those that stand apart
 abbrev pub blank_text : Spaced → List ℕ
