@@ -7,3 +7,4 @@ pub mod Acted
 pub mod Did
 pub mod Resolved
 pub mod Stepped
+pub mod KnownNames
