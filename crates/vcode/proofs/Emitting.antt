@@ -1,5 +1,5 @@
 -- A derivation at the node of a chain rule, or one derivation after another, and then their rule.
-use Rattle.std.proofs.Common.{◌≡◌, ℕ, zero, suc, ◌+◌, ◌-◌, ◌≤◌, ◌<◌, List, [], ◌∷◌, ◌++◌, true, false, Option, Some, None, Bor, map, length, take, get_or, refl, sym, ap, ◌∙◌, subst, arith, append_assoc}
+use Rattle.std.proofs.Common.{◌≡◌, ℕ, zero, suc, ◌+◌, ◌-◌, ◌≤◌, ◌<◌, List, [], ◌∷◌, ◌++◌, Bool, true, false, Option, Some, None, Bor, map, length, take, get_or, refl, sym, ap, ◌∙◌, subst, arith, append_assoc}
 use Rattle.std.specs.Prelude.{slice_get, IsSome, not}
 use Rattle.std.specs.Option.{option_map}
 use Rattle.std.proofs.lemmas.List.{length-map, append-nil, take_more, take_all}
@@ -166,13 +166,14 @@ pub record Loop (rows : List Rule) (r : Rule) (t : Node) (d : Derivation) (ds : 
   pub leaves : map (λ x. x.now) bs ≡ map (λ m. m.1) (meetings_at (pattern_of r.pattern) t)
   pub count : length (meetings_at (pattern_of r.pattern) t) ≡ length ds
 
-pub loop_of : (rows : List Rule) (r : Rule) (n : ℕ) (t : Node) (d : Derivation) (ds : List Derivation) (old bs : List (Bor Node)) → r ≡ get_or rows ((out-Derivation d).rule - 1) r → Derives rows n (tree_of t) (derivation_of d) → ds ≡ (out-Derivation d).parts → old ≡ [] → map (λ x. x.now) bs ≡ map (λ x. x.now) old ++ map (λ m. m.1) (meetings_at (pattern_of r.pattern) t) → Loop rows r t d ds bs
+pub loop_of : (rows : List Rule) (r : Rule) (n : ℕ) (t : Node) (d : Derivation) (ds : List Derivation) (old bs : List (Bor Node)) → r ≡ get_or rows ((out-Derivation d).rule - 1) r → Derives rows n (tree_of t) (derivation_of d) → ds ≡ (out-Derivation d).parts → old ≡ [] → map (λ x. x.now) bs ≡ map (λ x. x.now) old ++ map (λ m. m.1) (meetings_at (pattern_of (get_or rows ((out-Derivation d).rule - 1) r).pattern) t) → Loop rows r t d ds bs
 loop_of rows r n t d ds old bs is h eds eold ebs =
     let w = here rows r n t d is h in
+    let same : map (λ m. m.1) (meetings_at (pattern_of (get_or rows ((out-Derivation d).rule - 1) r).pattern) t) ≡ map (λ m. m.1) (meetings_at (pattern_of r.pattern) t) = ap (λ (q : Rule). map (λ m. m.1) (meetings_at (pattern_of q.pattern) t)) (sym is) in
     record {
       here = w;
       parts = eds;
-      leaves = ebs ∙ ap (λ l. map (λ x. x.now) l ++ map (λ m. m.1) (meetings_at (pattern_of r.pattern) t)) eold;
+      leaves = ebs ∙ ap (λ l. map (λ x. x.now) old ++ l) same ∙ ap (λ l. map (λ x. x.now) l ++ map (λ m. m.1) (meetings_at (pattern_of r.pattern) t)) eold;
       count = each_length rows (meetings_at (pattern_of r.pattern) t) (xs_of d) w.each ∙ length-map (out-Derivation d).parts derivation_of ∙ ap length (sym eds);
     }
 
@@ -181,6 +182,17 @@ loop_step {rows} {r} {t} {d} {ds} {bs} k b x w h is_b is_x =
     step_at rows (meetings_at (pattern_of r.pattern) t) ds bs k b x
     (subst (λ l. DeriveEach rows (map turned (meetings_at (pattern_of r.pattern) t)) (parts_of (map derivation_of l))) (sym w.parts) w.here.each)
     w.leaves h is_b is_x
+
+-- whether the rule is a chain rule, by a test of the rule that stands at its place
+pub chain_is : {r q : Rule} {b c : Bool} → r ≡ q → b ≡ is_chain (pattern_of q.pattern) → b ≡ c → is_chain (pattern_of r.pattern) ≡ c
+chain_is same test is = ap (λ (w : Rule). is_chain (pattern_of w.pattern)) same ∙ sym test ∙ is
+
+pub fits_at : {r q : Rule} (t : Node) → r ≡ q → IsSome (leaves_at (pattern_of r.pattern) t) → IsSome (leaves_at (pattern_of q.pattern) t)
+fits_at {r} {q} t same h = subst (λ (w : Rule). IsSome (leaves_at (pattern_of w.pattern) t)) same h
+
+-- one part, put into an empty list
+pub one_pushed : {A : Type 0} {xs ys : List A} {x : A} → ys ≡ xs ++ x ∷ [] → xs ≡ [] → ys ≡ x ∷ []
+one_pushed {A} {xs} {ys} {x} pushed none = pushed ∙ ap (λ l. l ++ x ∷ []) none
 
 -- the part of a chain rule, which is derived at the same node
 pub record Chained (rows : List Rule) (r : Rule) (t : Node) (d : Derivation) (x : Derivation) : Type 0 where
@@ -228,6 +240,13 @@ module _ {I P : Type 0} (m : Machine I) (rules : Rules I P) (obeys : Obeys m rul
   pub added_none : (n : ℕ) (old : List I) (ps : List P) → ps ≡ [] → AddedAll rules [] [] n n old old ps
   added_none n old ps e =
       subst (λ l. AddedAll rules [] [] n n old old l) (sym e) (record { code = []; appended = sym (append-nil old); emits = Nothing })
+
+  -- the meetings of the rule at its place, and those of the rule itself
+  pub loop_here : {rows : List Rule} {r : Rule} {t : Node} {d : Derivation} {ds : List Derivation} {bs : List (Bor Node)} {xs : List MDerivation} (k : ℕ) {n n' : ℕ} {old new : List I} {ps : List P} → Loop rows r t d ds bs → AddedAll rules xs (take k (rule_meetings (slice_get rows ((out-Derivation d).rule - 1)) t)) n n' old new ps → AddedAll rules xs (take k (meetings_at (pattern_of r.pattern) t)) n n' old new ps
+  loop_here {rows} {r} {t} {d} {ds} {bs} {xs} k {n} {n'} {old} {new} {ps} w a = subst (λ ms. AddedAll rules xs (take k ms) n n' old new ps) (met_here w.here) a
+
+  pub loop_there : {rows : List Rule} {r : Rule} {t : Node} {d : Derivation} {ds : List Derivation} {bs : List (Bor Node)} {xs : List MDerivation} (k : ℕ) {n n' : ℕ} {old new : List I} {ps : List P} → Loop rows r t d ds bs → AddedAll rules xs (take k (meetings_at (pattern_of r.pattern) t)) n n' old new ps → AddedAll rules xs (take k (rule_meetings (slice_get rows ((out-Derivation d).rule - 1)) t)) n n' old new ps
+  loop_there {rows} {r} {t} {d} {ds} {bs} {xs} k {n} {n'} {old} {new} {ps} w a = subst (λ ms. AddedAll rules xs (take k ms) n n' old new ps) (sym (met_here w.here)) a
 
   pub added_low : {xs : List MDerivation} {ms : List Meeting} {n n' : ℕ} {old new : List I} {ps : List P} → AddedAll rules xs ms n n' old new ps → n ≤ n'
   added_low a = (take_each m rules obeys a.emits).low
@@ -293,8 +312,8 @@ module _ {I P : Type 0} (m : Machine I) (rules : Rules I P) (obeys : Obeys m rul
         }
 
     -- a chain rule may be applied with its part's register
-    pub applies_chain : {r : Rule} {t : Node} {d x : Derivation} {n to n' : ℕ} {code : List I} {p : P} → Chained rows r t d x → is_chain (pattern_of r.pattern) ≡ true → Emits rules (derivation_of x) t n (record { code = code; part = p; to = to; next = n' }) → 64 ≤ n → Applies rules (out-Derivation d).rule (row_of r) t (p ∷ []) to
-    applies_chain {r} {t} {d} {x} {n} {to} {n'} {code} {p} c chain one low =
+    chain_applies : {r : Rule} {t : Node} {d x : Derivation} {n to n' : ℕ} {code : List I} {p : P} → Chained rows r t d x → is_chain (pattern_of r.pattern) ≡ true → Emits rules (derivation_of x) t n (record { code = code; part = p; to = to; next = n' }) → 64 ≤ n → Applies rules (out-Derivation d).rule (row_of r) t (p ∷ []) to
+    chain_applies {r} {t} {d} {x} {n} {to} {n'} {code} {p} c chain one low =
         let w = takes m rules obeys one in
         let b = w.low in
         let qs = all_registers rules (p ∷ []) in
@@ -311,6 +330,10 @@ module _ {I P : Type 0} (m : Machine I) (rules : Rules I P) (obeys : Obeys m rul
           new = or_left (is_chain (pattern_of r.pattern)) (not (among to qs)) chain;
         }
 
+    pub applies_chain : {r : Rule} {t : Node} {d x : Derivation} {n to n' : ℕ} {code : List I} {p : P} {ps : List P} → Chained rows r t d x → is_chain (pattern_of r.pattern) ≡ true → Emits rules (derivation_of x) t n (record { code = code; part = p; to = to; next = n' }) → 64 ≤ n → ps ≡ p ∷ [] → Applies rules (out-Derivation d).rule (row_of r) t ps to
+    applies_chain {r} {t} {d} {x} {n} {to} {n'} {code} {p} {ps} c chain one low are =
+        subst (λ l. Applies rules (out-Derivation d).rule (row_of r) t l to) (sym are) (chain_applies c chain one low)
+
     whole_emits : (d : Derivation) (xs : List MDerivation) (t : Node) (n : ℕ) (e : Emitted I P) → xs_of d ≡ xs → Emits rules (Apply (out-Derivation d).rule (parts_of xs)) t n e → Emits rules (derivation_of d) t n e
     whole_emits d xs t n e are one =
         subst (λ x. Emits rules x t n e) (sym (derivation_out d)) (subst (λ l. Emits rules (Apply (out-Derivation d).rule (parts_of l)) t n e) (sym are) one)
@@ -320,7 +343,7 @@ module _ {I P : Type 0} (m : Machine I) (rules : Rules I P) (obeys : Obeys m rul
     added_chain {r} {t} {d} {x} {n} {n'} {to} {old} {mid} {new} {p} {q} {ps} w chain low a are e f =
         let number = (out-Derivation d).rule in
         let c = rules.code number t (p ∷ []) to in
-        let done : Emits rules (Apply number (parts_of (derivation_of x ∷ []))) t n (record { code = a.code ++ c; part = rules.part number t (p ∷ []) to; to = to; next = n' }) = ByChain a.emits chain (applies_chain w chain a.emits low) in
+        let done : Emits rules (Apply number (parts_of (derivation_of x ∷ []))) t n (record { code = a.code ++ c; part = rules.part number t (p ∷ []) to; to = to; next = n' }) = ByChain a.emits chain (chain_applies w chain a.emits low) in
         let same : q ≡ rules.part number t (p ∷ []) to = f ∙ ap (λ l. rules.part number t l to) are in
         record {
           code = a.code ++ c;

@@ -1,26 +1,22 @@
-use Rattle.std.proofs.Common.{◌≡◌, ℕ, ◌+◌, ◌<◌, ◌≤◌, ◌^◌, ◌++◌, ◌∷◌, [], true, map, take, sym, ap, ◌∙◌, subst, arith}
-use Rattle.lburg_grammar.specs.declared.rule.Rule.{Rule}
+use Rattle.std.proofs.Common.{◌≡◌, ℕ, ◌+◌, ◌<◌, ◌≤◌, ◌^◌, true, arith}
 use Rattle.lburg_grammar.specs.Derivation.{count}
 use Rattle.lburg_grammar.specs.DerivationOf.{derivation_of}
 use Rattle.lburg_grammar.specs.Pattern.{pattern_of}
 use Rattle.op_forest.specs.Nodes.{value_nodes}
 use Rattle.vcode.specs.Adding.{meetings_at}
-use Rattle.std.specs.Prelude.{IsSome}
-use Rattle.lburg_grammar.specs.declared.derivation.Derivation.{out-Derivation}
-use Rattle.vcode.specs.Patterns.{Meeting, leaves_at, is_chain}
-use Rattle.vcode.specs.RuleSets.{row_of, Applies}
-use Rattle.vcode.proofs.Emitting.{AddedAll, Loop, Chained, within_rows, here, met_here, fewer_rules, fits_here, loop_of, loop_step, loop_over, over_room, leaf_count, chain_part, chained, added_none, added_low, added_room, added_more, applies, applies_chain, added_chain, added_rule}
+use Rattle.vcode.specs.Patterns.{is_chain}
+use Rattle.vcode.specs.RuleSets.{row_of}
+use Rattle.vcode.proofs.Emitting.{Loop, Chained, within_rows, here, chain_is, fits_at, one_pushed, loop_here, loop_there, fewer_rules, fits_here, loop_of, loop_step, loop_over, over_room, leaf_count, chain_part, chained, added_none, added_low, added_room, added_more, applies, applies_chain, added_chain, added_rule}
 use Rattle.vcode.proofs.linearising.+emit.Given.{Over}
 use Rattle.vcode.proofs.linearising.+emit.Goals as goal
 use Rattle.vcode.proofs.linearising.+emit.Goals.{After-as_slice-part-items, After-at}
 
 looped : (g : Over) (t : ℕ) (c : After-as_slice-part-items g t) → Loop c.args.emitter.now.rows.now c.index-emitter-derivation.result c.args.tree.now c.args.derivation.now c.as_slice-part-items.result.now c.push_leaves.new.into.items
 looped g t c =
-    loop_of c.args.emitter.now.rows.now c.index-emitter-derivation.result c.requires.derives.0 c.args.tree.now c.args.derivation.now c.as_slice-part-items.result.now c.in_ok-leaves.leaves.items c.push_leaves.new.into.items c.index-emitter-derivation.is c.requires.derives.1 c.as_slice-part-items.ensures c.in_ok-leaves.ensures.items
-    (c.in_ok-push_leaves.ensures ∙ ap (λ (w : Rule). map (λ x. x.now) c.in_ok-leaves.leaves.items ++ map (λ (m : Meeting). m.1) (meetings_at (pattern_of w.pattern) c.args.tree.now)) (sym c.index-emitter-derivation.is))
+    loop_of c.args.emitter.now.rows.now c.index-emitter-derivation.result c.requires.derives.0 c.args.tree.now c.args.derivation.now c.as_slice-part-items.result.now c.in_ok-leaves.leaves.items c.push_leaves.new.into.items c.index-emitter-derivation.is c.requires.derives.1 c.as_slice-part-items.ensures c.in_ok-leaves.ensures.items c.in_ok-push_leaves.ensures
 
 chain_at : (g : Over) (t : ℕ) (c : After-at g t) → is_chain (pattern_of c.index-emitter-derivation.result.pattern) ≡ true
-chain_at g t c = ap (λ (w : Rule). is_chain (pattern_of w.pattern)) c.index-emitter-derivation.is ∙ sym c.is_chain.ensures ∙ c.if-is_chain.true
+chain_at g t c = chain_is c.index-emitter-derivation.is c.is_chain.ensures c.if-is_chain.true
 
 one_part : (g : Over) (t : ℕ) (c : After-at g t) → Chained c.args.emitter.now.rows.now c.index-emitter-derivation.result c.args.tree.now c.args.derivation.now c.at.result.now
 one_part g t c =
@@ -31,7 +27,7 @@ bounds-emitter-derivation g t c = within_rows c.args.emitter.now.rows.now c.requ
 
 pub at-requires : goal.at-requires
 at-requires g t c =
-    let chain = ap (λ (w : Rule). is_chain (pattern_of w.pattern)) c.index-emitter-derivation.is ∙ sym c.is_chain.ensures ∙ c.if-is_chain.true in
+    let chain = chain_is c.index-emitter-derivation.is c.is_chain.ensures c.if-is_chain.true in
     chain_part c.args.emitter.now.rows.now c.index-emitter-derivation.result c.requires.derives.0 c.args.tree.now c.args.derivation.now c.index-emitter-derivation.is c.requires.derives.1 chain
 
 pub emit-requires : goal.emit-requires
@@ -45,19 +41,19 @@ emit-requires g t c κs within =
 pub expand-requires : goal.expand-requires
 expand-requires g t c =
     let at = (goal.at.expand-requires g t c).After-at in
-    let are = c.in_ok-push.ensures.ok ∙ ap (λ l. l ++ c.in_ok-part.field-0.part ∷ []) c.in_ok-parts.ensures in
-    let a = applies_chain g.T.Target.machine g.R.RuleSet.rules g.met.R.RuleSet.obeys c.args.emitter.now.rows.now c.requires.rows (one_part g t at) (chain_at g t at) c.in_ok-part.ensures.emits c.requires.are_virtual in
-    (row_of c.index-emitter-derivation.result, subst (λ l. Applies g.R.RuleSet.rules (out-Derivation c.args.derivation.now).rule (row_of c.index-emitter-derivation.result) c.args.tree.now l c.in_ok-part.field-0.to) (sym are) a)
+    let are = one_pushed c.in_ok-push.ensures.ok c.in_ok-parts.ensures in
+    let a = applies_chain g.T.Target.machine g.R.RuleSet.rules g.met.R.RuleSet.obeys c.args.emitter.now.rows.now c.requires.rows (one_part g t at) (chain_at g t at) c.in_ok-part.ensures.emits c.requires.are_virtual are in
+    (row_of c.index-emitter-derivation.result, a)
 
 pub returns-then-is_chain : goal.returns-then-is_chain
 returns-then-is_chain g t c =
     let at = (goal.at.returns-then-is_chain g t c).After-at in
-    let are = c.in_ok-push.ensures.ok ∙ ap (λ l. l ++ c.in_ok-part.field-0.part ∷ []) c.in_ok-parts.ensures in
+    let are = one_pushed c.in_ok-push.ensures.ok c.in_ok-parts.ensures in
     added_chain g.T.Target.machine g.R.RuleSet.rules g.met.R.RuleSet.obeys c.args.emitter.now.rows.now c.requires.rows (one_part g t at) (chain_at g t at) c.requires.are_virtual c.in_ok-part.ensures are c.in_ok-part-2.ensures.code c.in_ok-part-2.ensures.part
 
 pub push_leaves-requires : goal.push_leaves-requires
 push_leaves-requires g t c =
-    subst (λ (w : Rule). IsSome (leaves_at (pattern_of w.pattern) c.args.tree.now)) c.index-emitter-derivation.is
+    fits_at c.args.tree.now c.index-emitter-derivation.is
     (fits_here (here c.args.emitter.now.rows.now c.index-emitter-derivation.result c.requires.derives.0 c.args.tree.now c.args.derivation.now c.index-emitter-derivation.is c.requires.derives.1))
 
 pub loop-k-init : goal.loop-k-init
@@ -76,13 +72,12 @@ pub emit-requires-in-loop-k : goal.emit-requires-in-loop-k
 emit-requires-in-loop-k g t c κs within =
     let w = looped g t (goal.at.emit-requires-in-loop-k g t c).After-as_slice-part-items in
     let s = loop_step c.loop-k.k c.index.result.now c.part-item.result w c.loop-k-test.true c.index.ensures c.part-item.is in
-    let met = met_here w.here in
     let low = added_low g.T.Target.machine g.R.RuleSet.rules g.met.R.RuleSet.obeys c.loop-k.invariant in
     let first = c.requires.are_virtual in
     let virtual : 64 ≤ c.loop-k.next = omega (arith, low, first) in
     let room : c.loop-k.next + value_nodes c.index.result.now.now ≤ 2 ^ 31 =
     added_room g.T.Target.machine g.R.RuleSet.rules g.met.R.RuleSet.obeys (2 ^ 31) (pattern_of c.index-emitter-derivation.result.pattern) c.args.tree.now s
-    (subst (λ ms. AddedAll g.R.RuleSet.rules (take c.loop-k.k (map derivation_of c.as_slice-part-items.result.now)) (take c.loop-k.k ms) c.args.next.now c.loop-k.next c.args.into.now c.loop-k.into c.loop-k.parts) met c.loop-k.invariant)
+    (loop_here g.T.Target.machine g.R.RuleSet.rules g.met.R.RuleSet.obeys c.loop-k.k w c.loop-k.invariant)
     w.here.fits c.requires.room
     in
     let fewer = fewer_rules c.args.derivation.now c.as_slice-part-items.result.now c.loop-k.k c.part-item.result c.as_slice-part-items.ensures c.loop-k-test.true c.part-item.is in
@@ -94,34 +89,30 @@ pub loop-k-preserved : goal.loop-k-preserved
 loop-k-preserved g t c =
     let w = looped g t (goal.at.loop-k-preserved g t c).After-as_slice-part-items in
     let s = loop_step c.loop-k.k c.index.result.now c.part-item.result w c.loop-k-test.true c.index.ensures c.part-item.is in
-    let met = met_here w.here in
-    subst (λ ms. AddedAll g.R.RuleSet.rules (take (c.loop-k.k + 1) (map derivation_of c.as_slice-part-items.result.now)) (take (c.loop-k.k + 1) ms) c.args.next.now c.emit-in-loop-k.new.next c.args.into.now c.emit-in-loop-k.new.into c.push-in-loop-k.new.self) (sym met)
+    loop_there g.T.Target.machine g.R.RuleSet.rules g.met.R.RuleSet.obeys (c.loop-k.k + 1) w
     (added_more g.T.Target.machine g.R.RuleSet.rules g.met.R.RuleSet.obeys s
-    (subst (λ ms. AddedAll g.R.RuleSet.rules (take c.loop-k.k (map derivation_of c.as_slice-part-items.result.now)) (take c.loop-k.k ms) c.args.next.now c.loop-k.next c.args.into.now c.loop-k.into c.loop-k.parts) met c.loop-k.invariant)
+    (loop_here g.T.Target.machine g.R.RuleSet.rules g.met.R.RuleSet.obeys c.loop-k.k w c.loop-k.invariant)
     c.in_ok-emit.ensures c.in_ok-push-2.ensures.ok)
 
 pub register_at-to-requires : goal.register_at-to-requires
 register_at-to-requires g t c =
     let w = looped g t (goal.at.register_at-to-requires g t c).After-as_slice-part-items in
-    let met = met_here w.here in
     let a = loop_over g.T.Target.machine g.R.RuleSet.rules g.met.R.RuleSet.obeys w c.loop-k-test.false
-    (subst (λ ms. AddedAll g.R.RuleSet.rules (take c.loop-k.k (map derivation_of c.as_slice-part-items.result.now)) (take c.loop-k.k ms) c.args.next.now c.loop-k.next c.args.into.now c.loop-k.into c.loop-k.parts) met c.loop-k.invariant) in
-    let chain = ap (λ (r : Rule). is_chain (pattern_of r.pattern)) c.index-emitter-derivation.is ∙ sym c.is_chain.ensures ∙ c.if-is_chain.false in
+    (loop_here g.T.Target.machine g.R.RuleSet.rules g.met.R.RuleSet.obeys c.loop-k.k w c.loop-k.invariant) in
+    let chain = chain_is c.index-emitter-derivation.is c.is_chain.ensures c.if-is_chain.false in
     over_room g.T.Target.machine g.R.RuleSet.rules g.met.R.RuleSet.obeys (2 ^ 31) (pattern_of c.index-emitter-derivation.result.pattern) c.args.tree.now a w.here.fits c.requires.room chain
 
 pub expand-requires-2 : goal.expand-requires-2
 expand-requires-2 g t c =
     let w = looped g t (goal.at.expand-requires-2 g t c).After-as_slice-part-items in
-    let met = met_here w.here in
     let a = loop_over g.T.Target.machine g.R.RuleSet.rules g.met.R.RuleSet.obeys w c.loop-k-test.false
-    (subst (λ ms. AddedAll g.R.RuleSet.rules (take c.loop-k.k (map derivation_of c.as_slice-part-items.result.now)) (take c.loop-k.k ms) c.args.next.now c.loop-k.next c.args.into.now c.loop-k.into c.loop-k.parts) met c.loop-k.invariant) in
+    (loop_here g.T.Target.machine g.R.RuleSet.rules g.met.R.RuleSet.obeys c.loop-k.k w c.loop-k.invariant) in
     (row_of c.index-emitter-derivation.result, applies g.T.Target.machine g.R.RuleSet.rules g.met.R.RuleSet.obeys c.args.emitter.now.rows.now c.requires.rows w.here a.emits c.requires.are_virtual c.register_at-to.ensures.to)
 
 pub returns : goal.returns
 returns g t c =
     let w = looped g t (goal.at.returns g t c).After-as_slice-part-items in
-    let met = met_here w.here in
     let a = loop_over g.T.Target.machine g.R.RuleSet.rules g.met.R.RuleSet.obeys w c.loop-k-test.false
-    (subst (λ ms. AddedAll g.R.RuleSet.rules (take c.loop-k.k (map derivation_of c.as_slice-part-items.result.now)) (take c.loop-k.k ms) c.args.next.now c.loop-k.next c.args.into.now c.loop-k.into c.loop-k.parts) met c.loop-k.invariant) in
-    let chain = ap (λ (r : Rule). is_chain (pattern_of r.pattern)) c.index-emitter-derivation.is ∙ sym c.is_chain.ensures ∙ c.if-is_chain.false in
+    (loop_here g.T.Target.machine g.R.RuleSet.rules g.met.R.RuleSet.obeys c.loop-k.k w c.loop-k.invariant) in
+    let chain = chain_is c.index-emitter-derivation.is c.is_chain.ensures c.if-is_chain.false in
     added_rule g.T.Target.machine g.R.RuleSet.rules g.met.R.RuleSet.obeys c.args.emitter.now.rows.now c.requires.rows c.args.derivation.now w.here chain a c.requires.are_virtual c.register_at-to.ensures.to c.register_at-to.ensures.next c.in_ok-part-3.ensures.code c.in_ok-part-3.ensures.part
