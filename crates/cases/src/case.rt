@@ -1,0 +1,19 @@
+/// A case: words and an input, and what has to come of them. Behind the first command others may
+/// stand, each with the output of the one before as its input.
+#[derive(Drop)]
+pub struct Case {
+    pub name: String,
+    pub input: Vec<u8>,
+    pub steps: Vec<Step>,
+}
+
+/// A command of a case: the words behind the program's name, and what the call has to give.
+#[derive(Drop)]
+pub struct Step {
+    pub words: Vec<String>,
+    /// What the output has to take. Where it isn't stated and another step follows, it may be
+    /// anything; for a last step it is empty then.
+    pub output: Option<Vec<u8>>,
+    pub report: Vec<u8>,
+    pub status: u8,
+}
