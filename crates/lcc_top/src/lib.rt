@@ -16,8 +16,4 @@ pub use calling::top;
 pub use status::Status;
 
 #[cfg(test)]
-mod calls;
-#[cfg(test)]
-mod rcc_tests;
-#[cfg(test)]
 mod tests;
