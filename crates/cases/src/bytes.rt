@@ -1,6 +1,7 @@
 //! The lines of a case file that stand for bytes.
-ghost use Rattle.std.specs.Prelude.{◌≡◌, ◌↔◌, ◌<◌, ◌+◌, ◌*◌, IfSome, IsNone};
-ghost use Rattle.cases.specs.Hexadecimal.{IsDigitOf};
+ghost use Rattle.std.specs.Prelude.{◌≡◌, ◌<◌, ◌++◌, ℕ, IfSome, IfNone, OnOk};
+ghost use Rattle.cases.specs.Hexadecimal.{IsDigitOf, IsPairOf};
+ghost use Rattle.cases.specs.Repetition.{repeated, numbered};
 
 use crate::fault::CaseFault;
 use std::alloc::Global;
@@ -16,6 +17,7 @@ pub struct NamedText {
 fn digit_value(digit: u8) -> Option<u8>
     ensures some { IfSome result (λ value. IsDigitOf digit value) }
     ensures below { IfSome result (λ value. value < 16) }
+    ensures none { IfNone result ((value : ℕ) → IsDigitOf digit value → ⊥) }
 {
     match digit {
         b'0'..=b'9' => Some(digit - b'0'),
@@ -26,7 +28,9 @@ fn digit_value(digit: u8) -> Option<u8>
 }
 
 /// The byte that two hexadecimal digits write.
-fn byte_of(pair: &[u8]) -> Option<u8> {
+fn byte_of(pair: &[u8]) -> Option<u8>
+    ensures { IfSome result (λ byte. IsPairOf pair.now byte) }
+{
     let [high, low] = pair else {
         return None;
     };
@@ -95,17 +99,23 @@ fn cut_count(line: &str) -> Result<Counted<'_>, CaseFault> {
     }
 }
 
-/// Adds a piece with a number in place of each `#`.
-fn add_numbered(
-    alloc: Global,
-    piece: &[u8],
-    number: u32,
-    into: &mut Vec<u8>,
-) -> Result<(), CaseFault> {
-    let digits = number.to_string(alloc)?;
+/// Adds a piece so often, one behind another.
+fn add_repeated(piece: &[u8], count: u32, into: &mut Vec<u8>) -> Result<(), CaseFault>
+    ensures { OnOk result (into.new.items ≡ into.old.items ++ repeated count piece.now) }
+{
+    for _ in 0..count {
+        into.extend_from_slice(piece)?;
+    }
+    Ok(())
+}
+
+/// Adds a piece with these digits in place of each `#`.
+fn add_numbered(piece: &[u8], digits: &[u8], into: &mut Vec<u8>) -> Result<(), CaseFault>
+    ensures { OnOk result (into.new.items ≡ into.old.items ++ numbered digits.now piece.now) }
+{
     for byte in piece {
         if *byte == b'#' {
-            into.extend_from_slice(digits.as_bytes())?;
+            into.extend_from_slice(digits)?;
         } else {
             into.push(*byte)?;
         }
@@ -120,18 +130,17 @@ pub fn bytes_of(alloc: Global, texts: &[NamedText], line: &str) -> Result<Vec<u8
     let mut bytes = Vec::new(alloc);
     let mut piece = Vec::new(alloc);
     if let Some(rest) = line.strip_prefix('*') {
-        let repeated = cut_count(rest)?;
-        add_plain(texts, repeated.line, &mut piece)?;
-        for _ in 0..repeated.count {
-            bytes.extend_from_slice(&piece)?;
-        }
+        let counted = cut_count(rest)?;
+        add_plain(texts, counted.line, &mut piece)?;
+        add_repeated(&piece, counted.count, &mut bytes)?;
         return Ok(bytes);
     }
     if let Some(rest) = line.strip_prefix('+') {
-        let numbered = cut_count(rest)?;
-        add_plain(texts, numbered.line, &mut piece)?;
-        for i in 0..numbered.count {
-            add_numbered(alloc, &piece, i + 1, &mut bytes)?;
+        let counted = cut_count(rest)?;
+        add_plain(texts, counted.line, &mut piece)?;
+        for i in 0..counted.count {
+            let digits = (i + 1).to_string(alloc)?;
+            add_numbered(&piece, digits.as_bytes(), &mut bytes)?;
         }
         return Ok(bytes);
     }

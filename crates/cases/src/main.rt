@@ -10,6 +10,8 @@ mod case;
 mod fault;
 mod reading;
 mod running;
+#[cfg(test)]
+mod tests;
 
 use case::Case;
 use reading::{Refused, read_cases};
@@ -52,7 +54,13 @@ fn run_file<R: Print + Files + AllocGlobal>(
     file: &str,
     tally: &mut Tally,
 ) -> io::Result<()> {
-    let text = fs::read_to_string(rt, file)?;
+    let text = match fs::read_to_string(rt, file) {
+        Ok(text) => text,
+        Err(error) => {
+            tally.unread = tally.unread.saturating_add(1);
+            return println!(rt; "{file}: {error}");
+        }
+    };
     match read_cases(rt.alloc(), text.as_str()) {
         Ok(cases) => {
             let count = cases.len();
