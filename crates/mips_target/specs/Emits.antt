@@ -1,7 +1,7 @@
--- Emits: a function's instructions, but for those that keep its frame, its argument words and its result, are the
--- expanded templates of derivations of its roots.
+-- Emits: a function's code, but for what keeps its frame, its argument words and its result, is the expanded templates of
+-- derivations of its roots.
 -- Source: Fraser and Hanson, A Retargetable C Compiler, chapters 13 and 14.
-use Rattle.std.specs.Prelude.{◌≡◌, ℕ, ◌+◌, ◌*◌, ◌==◌, ◌&&◌, nat_lt, Bool, true, false, List, [], ◌∷◌, ◌++◌, decimal, if◌then◌else◌}
+use Rattle.std.specs.Prelude.{◌≡◌, ◌≤◌, ℕ, ◌==◌, ◌&&◌, nat_lt, Bool, true, false, List, [], ◌∷◌, ◌++◌, decimal, if◌then◌else◌}
 use Rattle.std.specs.List.{AllZip}
 use Rattle.lburg_grammar.specs.Derivation.{MDerivation}
 use Rattle.asm_text.specs.declared.instruction.Instruction.{Instruction}
@@ -9,17 +9,16 @@ use Rattle.asm_text.specs.declared.instruction.Instruction.TheVariants.{LoadNumb
 use Rattle.asm_text.specs.declared.instruction.Address.{Address}
 use Rattle.asm_text.specs.declared.instruction.Target.{Target}
 use Rattle.asm_text.specs.declared.instruction.Target.TheVariants as target
-use Rattle.asm_text.specs.declared.line.Statement.TheVariants as statement
 use Rattle.asm_text.specs.Instructions.{IsLine}
 use Rattle.op_forest.specs.Nodes.{Node}
 use Rattle.vcode.specs.Templates.{WritesRoots}
 use Rattle.mips_rules.specs.MipsRows.{rows}
-use Rattle.mips_target.specs.declared.layout.Layout.{Layout}
-use Rattle.mips_target.specs.Frame.{frame_size}
+use Rattle.mips_target.specs.Items.{CodeItem, Line as AnInstruction, Mark}
+use Rattle.mips_target.specs.UnitLines.{item_of}
 
--- a word of the frame: of the argument words, the spill slots or the return address
-abbrev pub is_frame_word : Layout → Address → Bool
-is_frame_word l a = (a.base == 29) && nat_lt a.offset (4 * (l.arguments + l.slots + 1))
+-- a word of the frame's first so many bytes, which are its argument words, its spill slots and the return address
+abbrev pub is_frame_word : ℕ → Address → Bool
+is_frame_word words a = (a.base == 29) && nat_lt a.offset words
 
 abbrev pub is_return : Target → Bool
 is_return (target.Label name) = false
@@ -27,28 +26,38 @@ is_return (target.Register r) = r == 31
 
 -- Whether an instruction is no template's: a load or a store of a word of the frame, a register move, a change of the
 -- stack pointer, or the return.
-abbrev pub keeps_frame : Layout → Instruction → Bool
-keeps_frame l (LoadNumber d n) = false
-keeps_frame l (Move d s) = true
-keeps_frame l (Binary op d s t) = d == 29
-keeps_frame l (Unary op d s) = false
-keeps_frame l (Load op d a) = is_frame_word l a
-keeps_frame l (Store op s a) = is_frame_word l a
-keeps_frame l (Branch name) = false
-keeps_frame l (Jump to) = is_return to
-keeps_frame l (Call to) = false
+abbrev pub keeps_frame : ℕ → Instruction → Bool
+keeps_frame words (LoadNumber d n) = false
+keeps_frame words (Move d s) = true
+keeps_frame words (Binary op d s t) = d == 29
+keeps_frame words (Unary op d s) = false
+keeps_frame words (Load op d a) = is_frame_word words a
+keeps_frame words (Store op s a) = is_frame_word words a
+keeps_frame words (Branch name) = false
+keeps_frame words (Jump to) = is_return to
+keeps_frame words (Call to) = false
 
--- the instructions of templates, in order
-abbrev pub from_templates : Layout → List Instruction → List Instruction
-from_templates l [] = []
-from_templates l (i ∷ is) = if keeps_frame l i then from_templates l is else i ∷ from_templates l is
+-- the items of templates, in order
+abbrev pub from_templates : ℕ → List (CodeItem Instruction) → List (CodeItem Instruction)
+from_templates words [] = []
+from_templates words (AnInstruction i ∷ xs) = if keeps_frame words i then from_templates words xs else AnInstruction i ∷ from_templates words xs
+from_templates words (Mark l ∷ xs) = Mark l ∷ from_templates words xs
 
--- the text is a line of assembly, with its line feed, that says this instruction
-abbrev pub Says : List ℕ → Instruction → Type 0
-Says text i = (bytes : List ℕ) × (text ≡ bytes ++ 10 ∷ []) × IsLine bytes 1 (record { labels = []; statement = statement.Instruction i; number = 1 })
+-- the text is a line of assembly, without its line feed, that says this instruction, or that has this label alone
+abbrev pub Says : (ℕ → List ℕ) → List ℕ → CodeItem Instruction → Type 0
+Says labels text x = IsLine text 1 (record { labels = (item_of labels x).labels; statement = (item_of labels x).statement; number = 1 })
 
--- the instructions of templates are the expanded templates of the roots' derivations, in order
-pub record Emits (names : List (List ℕ)) (l : Layout) (derivations : List MDerivation) (roots : List Node) (code : List Instruction) : Type 0 where
+-- the same of a text that ends with a line feed
+abbrev pub SaysLine : (ℕ → List ℕ) → List ℕ → CodeItem Instruction → Type 0
+SaysLine labels text x = (line : List ℕ) × (text ≡ line ++ 10 ∷ []) × Says labels line x
+
+-- The items of templates are the expanded templates of the roots' derivations, in order, where the function's labels have
+-- these texts.
+pub record Emits (names : List (List ℕ)) (labels : ℕ → List ℕ) (derivations : List MDerivation) (roots : List Node) (code : List (CodeItem Instruction)) : Type 0 where
+  -- the bytes of the frame's argument words, spill slots and return address, and those of the whole frame
+  pub words : ℕ
+  pub frame : ℕ
+  pub within : words ≤ frame
   pub texts : List (List ℕ)
-  pub writes : WritesRoots rows names (decimal (frame_size l)) derivations roots texts
-  pub say : AllZip Says texts (from_templates l code)
+  pub writes : WritesRoots rows names (decimal frame) derivations roots texts
+  pub say : AllZip (SaysLine labels) texts (from_templates words code)

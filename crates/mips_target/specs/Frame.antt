@@ -12,6 +12,10 @@ slot_place l slot = 4 * (l.arguments + unsigned_abs slot)
 abbrev pub return_place : Layout → ℕ
 return_place l = 4 * (l.arguments + l.slots)
 
+-- the bytes of these words
+abbrev pub words_size : Layout → ℕ
+words_size l = 4 * (l.arguments + l.slots + 1)
+
 -- the frame's bytes, a multiple of 8
 abbrev pub frame_size : Layout → ℕ
 frame_size l = 8 * ((l.arguments + l.slots + 2) / 2)

@@ -1,9 +1,9 @@
--- The instructions of a function, given its allocated code: each as one or a few of the machine's, between those that
--- make the frame and those that give it back.
+-- The code of a function, given its allocated code: each instruction as one or a few of the machine's, between those
+-- that make the frame and those that give it back.
 -- Calls are those of MIPS: the first four argument words go in $4 to $7, the others behind 16 bytes on the stack, and the
 -- result comes in $2. A caller keeps all argument words at the low end of its frame.
 -- Source: Fraser and Hanson, A Retargetable C Compiler, chapter 16; G. Kane and J. Heinrich, MIPS RISC Architecture, 1992.
-use Rattle.std.specs.Prelude.{ℕ, zero, suc, ◌+◌, ◌*◌, max, min, List, [], ◌∷◌, ◌++◌, get_or}
+use Rattle.std.specs.Prelude.{ℕ, zero, suc, ◌+◌, ◌*◌, max, min, List, [], ◌∷◌, ◌++◌, map, get_or}
 use Rattle.asm_text.specs.declared.instruction.Instruction.{Instruction}
 use Rattle.asm_text.specs.declared.instruction.Instruction.TheVariants.{LoadNumber, Move, Binary, Unary, Load, Store, Jump, Call}
 use Rattle.asm_text.specs.declared.instruction.BinaryOp.TheVariants as binary
@@ -19,6 +19,7 @@ use Rattle.mips_rules.specs.declared.instr.Instr.TheVariants as instr
 use Rattle.mips_rules.specs.declared.instr.Source.{Source}
 use Rattle.mips_rules.specs.declared.instr.Source.TheVariants as source
 use Rattle.mips_target.specs.declared.layout.Layout.{Layout}
+use Rattle.mips_target.specs.Items.{CodeItem, Line}
 use Rattle.mips_target.specs.Frame.{slot_place, return_place, frame_size}
 
 -- a place in the frame, in bytes from the stack pointer, which is $29
@@ -84,10 +85,18 @@ most_handed k (i ∷ is) = max k (most_handed (handed_behind k i) is)
 abbrev pub argument_words : List Instr → ℕ
 argument_words code = max 4 (most_handed 0 code)
 
--- the instructions of code, where k argument words were handed, and those that end the function
-abbrev pub body_of : List (List ℕ) → Layout → ℕ → List Instr → List Instruction
-body_of names l k [] = epilogue l
-body_of names l k (i ∷ is) = instructions_of names l k i ++ body_of names l (handed_behind k i) is
+-- instructions without a label
+abbrev pub unmarked : List Instruction → List (CodeItem Instruction)
+unmarked is = map (λ i. Line i) is
 
-abbrev pub function_code : List (List ℕ) → Layout → List Instr → List Instruction
-function_code names l code = prologue l ++ body_of names l 0 code
+-- the code of one, which is no label so far
+abbrev pub code_of_one : List (List ℕ) → Layout → ℕ → Instr → List (CodeItem Instruction)
+code_of_one names l k i = unmarked (instructions_of names l k i)
+
+-- the code of all, where k argument words were handed, and what ends the function
+abbrev pub body_of : List (List ℕ) → Layout → ℕ → List Instr → List (CodeItem Instruction)
+body_of names l k [] = unmarked (epilogue l)
+body_of names l k (i ∷ is) = code_of_one names l k i ++ body_of names l (handed_behind k i) is
+
+abbrev pub function_code : List (List ℕ) → Layout → List Instr → List (CodeItem Instruction)
+function_code names l code = unmarked (prologue l) ++ body_of names l 0 code

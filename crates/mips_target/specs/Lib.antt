@@ -1,11 +1,15 @@
 pub mod Frame
+pub mod Items
 pub mod Registers
 pub mod FunctionCode
 pub mod Sizes
 pub mod UnitLines
+pub mod Entries
 pub mod Emits
-pub mod Generated
 pub mod CalledNames
 pub mod Callable
+pub mod Generated
+pub mod Allocated
 pub mod Bounds
+pub mod UnitAssembly
 pub mod NamedBelow

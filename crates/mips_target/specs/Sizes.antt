@@ -1,6 +1,6 @@
--- What allocated code keeps so that a frame can be laid out for it: the registers are the machine's, the slots are in the
--- frame, the argument words have their places, and the names are there.
-use Rattle.std.specs.Prelude.{ℕ, ◌<◌, List, [], ◌∷◌, length}
+-- What allocated code keeps so that a frame can be laid out for it: the registers are the machine's, the numbers that it
+-- loads are words, the slots are in the frame, the argument words have their places, and the names are there.
+use Rattle.std.specs.Prelude.{ℕ, ◌<◌, ◌^◌, List, [], ◌∷◌, length}
 use Rattle.std.specs.Int.RustNames.{unsigned_abs}
 use Rattle.mips_rules.specs.declared.instr.Instr.{Instr}
 use Rattle.mips_rules.specs.declared.instr.Instr.TheVariants as instr
@@ -14,7 +14,7 @@ IsSourceWithin (source.Register r) = r < 32
 IsSourceWithin (source.Number n) = Unit {0}
 
 abbrev pub FitsOne : List (List ℕ) → Layout → ℕ → Instr → Type 0
-FitsOne names l k (instr.LoadNumber to n) = to < 32
+FitsOne names l k (instr.LoadNumber to n) = (to < 32) × (n < 2 ^ 32)
 FitsOne names l k (instr.Binary op to from x) = (to < 32) × (from < 32) × IsSourceWithin x
 FitsOne names l k (instr.Negate to from) = (to < 32) × (from < 32)
 FitsOne names l k (instr.Argument from) = (from < 32) × (k < l.arguments)

@@ -1,10 +1,11 @@
 -- The lines of a unit: its functions in order in the code section, each with its name, which is seen from outside.
-use Rattle.std.specs.Prelude.{ℕ, ◌+◌, List, [], ◌∷◌, ◌++◌, map}
+use Rattle.std.specs.Prelude.{ℕ, ◌+◌, List, [], ◌∷◌, ◌++◌, map, codes, decimal}
 use Rattle.asm_text.specs.declared.instruction.Instruction.{Instruction}
 use Rattle.asm_text.specs.declared.line.Line.{Line}
 use Rattle.asm_text.specs.declared.line.Statement.{Statement}
 use Rattle.asm_text.specs.declared.line.Statement.TheVariants as statement
 use Rattle.asm_text.specs.declared.line.Directive.TheVariants as directive
+use Rattle.mips_target.specs.Items.{CodeItem, Line as AnInstruction, Mark}
 
 -- a line without its number: its labels, and what stands behind them
 pub record Item : Type 0 where
@@ -19,24 +20,38 @@ abbrev pub numbered : ℕ → List Item → List Line
 numbered n [] = []
 numbered n (x ∷ xs) = record { labels = x.labels; statement = x.statement; number = n } ∷ numbered (n + 1) xs
 
-abbrev pub instruction_items : List Instruction → List Item
-instruction_items code = map (λ i. plain (statement.Instruction i)) code
+-- a line with this label alone
+abbrev pub marked : List ℕ → Item
+marked name = record { labels = name ∷ []; statement = statement.Nothing }
 
--- a function's name is a label, seen from outside
-abbrev pub function_items : List ℕ → List Instruction → List Item
-function_items name code =
-    plain (statement.Directive (directive.Global name))
-    ∷ record { labels = name ∷ []; statement = statement.Nothing }
-    ∷ instruction_items code
+-- the text of a label, which has a number of its own in the whole unit
+abbrev pub label_text : ℕ → List ℕ
+label_text l = codes "L." ++ decimal l
 
--- a function's name and its instructions
+-- the line of an item, where labels have these texts
+abbrev pub item_of : (ℕ → List ℕ) → CodeItem Instruction → Item
+item_of labels (AnInstruction i) = plain (statement.Instruction i)
+item_of labels (Mark l) = marked (labels l)
+
+abbrev pub code_lines : (ℕ → List ℕ) → List (CodeItem Instruction) → List Item
+code_lines labels code = map (item_of labels) code
+
+-- a function: its name, the texts of its labels, and its code
 pub record Coded : Type 0 where
   pub name : List ℕ
-  pub code : List Instruction
+  pub labels : ℕ → List ℕ
+  pub items : List (CodeItem Instruction)
+
+-- a function's name is a label, seen from outside
+abbrev pub function_items : Coded → List Item
+function_items f =
+    plain (statement.Directive (directive.Global f.name))
+    ∷ marked f.name
+    ∷ code_lines f.labels f.items
 
 abbrev pub items_of : List Coded → List Item
 items_of [] = []
-items_of (f ∷ fs) = function_items f.name f.code ++ items_of fs
+items_of (f ∷ fs) = function_items f ++ items_of fs
 
 abbrev pub unit_lines : List Coded → List Line
 unit_lines fs = numbered 1 (plain (statement.Directive directive.Text) ∷ items_of fs)

@@ -2,7 +2,7 @@
 ghost use Rattle.std.specs.Prelude.{◌≡◌, ◌+◌, ◌*◌, ◌≤◌, ◌<◌, ◌^◌, ◌++◌, [], ◌∷◌, max, min, length, get_or, drop, IfOk, OnOk};
 ghost use Rattle.mips_rules.specs.Mips.{mips};
 ghost use Rattle.mips_target.specs.Frame.{slot_place, return_place, frame_size};
-ghost use Rattle.mips_target.specs.FunctionCode.{in_frame, operand_of, prologue, epilogue, loads_of, call_of, instructions_of, handed_behind, most_handed, argument_words, body_of, function_code};
+ghost use Rattle.mips_target.specs.FunctionCode.{in_frame, operand_of, prologue, epilogue, loads_of, call_of, instructions_of, handed_behind, most_handed, argument_words, unmarked, body_of, function_code};
 ghost use Rattle.mips_target.specs.Sizes.{IsSourceWithin, FitsOne, Fits};
 
 use crate::layout::Layout;
@@ -178,7 +178,7 @@ pub(crate) fn argument_words(code: &[Instr]) -> u32
     most
 }
 
-/// The instructions of a function with this allocated code.
+/// The instructions of a function with this allocated code. It has no labels so far.
 pub(crate) fn function_code(
     alloc: Global,
     names: &[Bytes],
@@ -188,7 +188,7 @@ pub(crate) fn function_code(
     requires fits { Fits names.now layout 0 code.now }
     requires frame { layout.arguments + layout.slots < 2 ^ 28 }
     requires size { length code.now < 2 ^ 31 }
-    ensures { IfOk result (λ is. is ≡ function_code names.now layout code.now) }
+    ensures { IfOk result (λ is. unmarked is ≡ function_code names.now layout code.now) }
 {
     let mut into = Items::new(alloc);
     push_prologue(layout, &mut into)?;

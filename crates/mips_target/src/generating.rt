@@ -8,7 +8,10 @@ ghost use Rattle.asm_text.specs.declared.program.Program.{Program};
 ghost use Rattle.asm_text.specs.Program.{Makes};
 ghost use Rattle.asm_text.specs.Printable.{ArePrintable};
 ghost use Rattle.mips_target.specs.Callable.{AreCallable};
-ghost use Rattle.mips_target.specs.Generated.{IsAllocated, IsCodeOf, IsGenerated};
+ghost use Rattle.mips_target.specs.Allocated.{IsAllocated};
+ghost use Rattle.mips_target.specs.FunctionCode.{unmarked};
+ghost use Rattle.mips_target.specs.Generated.{IsCodeOf, IsGenerated};
+ghost use Rattle.mips_target.specs.UnitLines.{label_text};
 
 use crate::function_code::{argument_words, function_code};
 use crate::layout::Layout;
@@ -63,7 +66,7 @@ fn code_of(
     requires function { IsFunctionOf lowered.now function.now }
     requires well_formed { IsWellFormed function.now.forest.roots }
     requires size { sum_by nodes function.now.forest.roots ≤ 2 ^ 24 }
-    ensures { IfOk result (λ code. IsCodeOf lowered.now.names function.now.forest.roots code) }
+    ensures { IfOk result (λ code. IsCodeOf lowered.now label_text function.now.forest.roots (unmarked code)) }
 {
     let forest = well_formed(alloc, &function.forest)?;
     let code = allocated(alloc, rules, &forest)?;

@@ -1,6 +1,7 @@
 //! The lines of a unit.
 ghost use Rattle.std.specs.Prelude.{◌≡◌, ◌+◌, ◌++◌, [], ◌∷◌, length, IfOk, OnOk};
-ghost use Rattle.mips_target.specs.UnitLines.{Item, plain, numbered, instruction_items, function_items};
+ghost use Rattle.mips_target.specs.FunctionCode.{unmarked};
+ghost use Rattle.mips_target.specs.UnitLines.{Item, plain, numbered, label_text, code_lines, function_items};
 
 use asm_text::{Directive, Instruction, Line, Lines, Statement};
 use lcc_base::{Bytes, Items, Memory};
@@ -50,7 +51,7 @@ fn push_label(alloc: Global, lines: &mut Lines, name: &[u8]) -> Result<(), Memor
 
 /// Adds a line for each instruction.
 fn push_code(alloc: Global, lines: &mut Lines, code: Items<Instruction>) -> Result<(), Memory>
-    ensures { OnOk result (lines.new ≡ lines.old ++ numbered (length lines.old + 1) (instruction_items code)) }
+    ensures { OnOk result (lines.new ≡ lines.old ++ numbered (length lines.old + 1) (code_lines label_text (unmarked code))) }
 {
     for instruction in code.into_vec() {
         push_plain(alloc, lines, Statement::Instruction(instruction))?;
@@ -65,7 +66,7 @@ pub(crate) fn push_function(
     name: &[u8],
     code: Items<Instruction>,
 ) -> Result<(), Memory>
-    ensures { OnOk result (lines.new ≡ lines.old ++ numbered (length lines.old + 1) (function_items name.now code)) }
+    ensures { OnOk result (lines.new ≡ lines.old ++ numbered (length lines.old + 1) (function_items (record { name = name.now; labels = label_text; items = unmarked code }))) }
 {
     let global = Directive::Global(Bytes::copied(alloc, name)?);
     push_plain(alloc, lines, Statement::Directive(global))?;

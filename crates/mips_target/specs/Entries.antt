@@ -1,0 +1,47 @@
+-- Where the functions of a unit stand in the program that its lines make: one behind the other, each with its name as a
+-- label at its first instruction, and with its own labels.
+use Rattle.std.specs.Prelude.{◌≡◌, ℕ, zero, suc, ◌+◌, List, [], ◌∷◌, ◌++◌, length, Option, Some, None, if◌then◌else◌}
+use Rattle.std.specs.Str.{bytes_eq}
+use Rattle.asm_text.specs.declared.instruction.Instruction.{Instruction}
+use Rattle.asm_text.specs.declared.program.Program.{Program}
+use Rattle.asm_text.specs.declared.program.Label.{Label}
+use Rattle.asm_text.specs.Program.{label_at}
+use Rattle.mips_target.specs.Items.{CodeItem, Line, Mark, lines_in, StandsIn}
+use Rattle.mips_target.specs.UnitLines.{Coded}
+
+-- the place of the first label with this name
+abbrev pub place_of : List Label → List ℕ → Option ℕ
+place_of [] name = None
+place_of (l ∷ ls) name = if bytes_eq l.name name then Some l.place else place_of ls name
+
+-- the instructions of all functions
+abbrev pub codes_of : List Coded → List Instruction
+codes_of [] = []
+codes_of (f ∷ fs) = lines_in f.items ++ codes_of fs
+
+-- how many instructions stand before function k
+abbrev pub entry_of : List Coded → ℕ → ℕ
+entry_of [] k = 0
+entry_of (f ∷ fs) zero = 0
+entry_of (f ∷ fs) (suc k) = length (lines_in f.items) + entry_of fs k
+
+-- the labels among items before which so many instructions stand
+abbrev pub marks_from : (ℕ → List ℕ) → ℕ → List (CodeItem Instruction) → List Label
+marks_from labels place [] = []
+marks_from labels place (Line i ∷ xs) = marks_from labels (suc place) xs
+marks_from labels place (Mark l ∷ xs) = label_at place (labels l) ∷ marks_from labels place xs
+
+-- the labels of functions before which so many instructions stand
+abbrev pub labels_of : ℕ → List Coded → List Label
+labels_of place [] = []
+labels_of place (f ∷ fs) = label_at place f.name ∷ (marks_from f.labels place f.items ++ labels_of (place + length (lines_in f.items)) fs)
+
+-- the place of a function's label in a program
+abbrev pub label_in : Program → Coded → ℕ → Option ℕ
+label_in p c l = place_of p.labels (c.labels l)
+
+-- a function in a program: its name is a label at its first instruction, and its items stand there
+pub record HasEntry (p : Program) (c : Coded) : Type 0 where
+  pub entry : ℕ
+  pub named : place_of p.labels c.name ≡ Some entry
+  pub stands : StandsIn p.code (label_in p c) entry c.items

@@ -1,0 +1,35 @@
+-- What the assembly of a unit is, without a word on registers, slots or frames: its functions stand one behind the other,
+-- each by the best derivations of its forest, and each within its bounds.
+use Rattle.std.specs.Prelude.{◌≡◌, ◌≤◌, ℕ, List, [], map, get_or}
+use Rattle.std.specs.List.{AllZip}
+use Rattle.lburg_grammar.specs.Derivation.{MDerivation}
+use Rattle.lburg_grammar.specs.Description.{MDescription}
+use Rattle.tree_labeller.specs.AreBest.{AreBest}
+use Rattle.asm_text.specs.declared.program.Program.{Program}
+use Rattle.op_forest.specs.declared.lowered.LoweredFunction.{LoweredFunction}
+use Rattle.op_forest.specs.Lowered.{LoweredUnit}
+use Rattle.op_forest.specs.Nodes.{tree_of}
+use Rattle.mips_rules.specs.Shipped.{IsShipped}
+use Rattle.mips_target.specs.Bounds.{KeepsBounds}
+use Rattle.mips_target.specs.Emits.{Emits}
+use Rattle.mips_target.specs.Entries.{codes_of, HasEntry}
+use Rattle.mips_target.specs.UnitLines.{Coded}
+
+-- A function of a program: its name is a label at its first instruction, its code is the templates of the best
+-- derivations of its forest's roots by the shipped description, and it keeps its bounds of bytes and instructions.
+pub record IsFunctionAssembly (room most : ℕ) (names : List (List ℕ)) (p : Program) (f : LoweredFunction) (c : Coded) : Type 0 where
+  pub name : c.name ≡ get_or names f.name []
+  pub place : HasEntry p c
+  pub description : MDescription
+  pub shipped : IsShipped description
+  pub derivations : List MDerivation
+  pub best : AreBest description (map tree_of f.forest.roots) derivations
+  pub emits : Emits names c.labels derivations f.forest.roots c.items
+  pub framed : emits.frame ≤ room
+  pub bounds : KeepsBounds room most p place.entry c.items
+
+-- the program is the unit's functions in order
+pub record IsUnitAssembly (room most : LoweredFunction → ℕ) (u : LoweredUnit) (p : Program) : Type 0 where
+  pub functions : List Coded
+  pub code : p.code ≡ codes_of functions
+  pub each : AllZip (λ f c. IsFunctionAssembly (room f) (most f) u.names p f c) u.functions functions
