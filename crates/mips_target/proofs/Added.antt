@@ -1,6 +1,7 @@
 -- What the rules of MIPS add: instructions over virtual registers, each taken once, and at each node at most one
 -- instruction.
-use Rattle.std.proofs.Common.{◌≡◌, ℕ, ◌+◌, ◌≤◌, ◌<◌, List, [], ◌∷◌, ◌++◌, Bool, true, false, Some, length, length-append, refl, sym, ap, ◌∙◌, subst, arith}
+use Rattle.std.proofs.Common.{◌≡◌, ℕ, ◌+◌, ◌≤◌, ◌<◌, List, [], ◌∷◌, ◌++◌, Bool, true, false, Option, Some, None, length, length-append, refl, sym, ap, ◌∙◌, subst, arith}
+use Rattle.std.specs.Prelude.{ℤ, pos, negsuc, ◌^◌}
 use Rattle.std.proofs.lemmas.Option.{same_Some}
 use Rattle.lburg_grammar.specs.Derivation.{MDerivation}
 use Rattle.lburg_grammar.specs.Pattern.{MPattern}
@@ -8,6 +9,7 @@ use Rattle.op_forest.specs.declared.sym.Sym.{Sym}
 use Rattle.op_forest.specs.declared.sym.Sym.TheVariants as symbol
 use Rattle.op_forest.specs.Nodes.{Node, Leaf, One, Two, head_of, nodes, number_of}
 use Rattle.op_forest.specs.EachNode.{AtEachNode}
+use Rattle.op_forest.specs.Rows.{bits_of}
 use Rattle.vcode.specs.Patterns.{Meeting, leaves_at, is_chain}
 use Rattle.vcode.specs.RuleSets.{Row, Applies}
 use Rattle.vcode.specs.Emission.{Emitted, EmittedAll, with_chain, with_rule, and_one, Emits, EmitsAll, ByChain, ByRule, Nothing, OneMore}
@@ -20,16 +22,17 @@ use Rattle.mips_rules.specs.declared.instr.Source.TheVariants as source
 use Rattle.mips_rules.specs.declared.part.Part.{Part}
 use Rattle.mips_rules.specs.declared.part.Part.TheVariants as part
 use Rattle.mips_rules.specs.MipsRows.{addrgp}
-use Rattle.mips_rules.specs.MipsRules.{action_at, code_by, part_by, name_of, name_in, mips_rules}
+use Rattle.mips_rules.specs.MipsRules.{action_at, code_by, part_by, constant_of, name_of, name_in, mips_rules}
 use Rattle.mips_rules.specs.AppliedRules.{Applied, applied, Discards, TakesConstant, PassesConstant, PassesRegister, LoadsConstant, TakesName, CombinesRegisters, CombinesConstant, Negates, HandsOver, Calls, Returns}
 
 -- a virtual register below the limit
 abbrev pub IsBelow : ℕ → ℕ → Type 0
 IsBelow limit r = (64 ≤ r) × (r < limit)
 
--- an instruction as a rule adds it: its registers are virtual and below the limit, and what it calls is named
+-- an instruction as a rule adds it: its registers are virtual and below the limit, a number is a word, and what it calls
+-- is named
 pub data IsAdded (named : ℕ → Type 0) (limit : ℕ) : Instr → Type 0 where
-  AddsNumber : (to n : ℕ) → IsBelow limit to → IsAdded named limit (instr.LoadNumber to n)
+  AddsNumber : (to n : ℕ) → IsBelow limit to → n < 2 ^ 32 → IsAdded named limit (instr.LoadNumber to n)
   AddsRegisters : (op : BinaryOp) (to from r : ℕ) → IsBelow limit to → IsBelow limit from → IsBelow limit r → IsAdded named limit (instr.Binary op to from (source.Register r))
   AddsWithNumber : (op : BinaryOp) (to from n : ℕ) → IsBelow limit to → IsBelow limit from → IsAdded named limit (instr.Binary op to from (source.Number n))
   AddsNegate : (to from : ℕ) → IsBelow limit to → IsBelow limit from → IsAdded named limit (instr.Negate to from)
@@ -180,11 +183,20 @@ mutual
 abbrev pub NamesOne : (ℕ → Type 0) → Node → Type 0
 NamesOne named t = addrgp ≡ number_of (head_of t) → named (name_in (name_of (head_of t).sym))
 
+-- a constant is a word
+bits_small : (z : ℤ) → bits_of z < 2 ^ 32
+bits_small (pos n) = omega arith
+bits_small (negsuc n) = omega arith
+
+constant_small : (z : Option ℤ) → constant_of z < 2 ^ 32
+constant_small None = omega arith
+constant_small (Some z) = bits_small z
+
 module _ (named : ℕ → Type 0) (limit : ℕ) where
   -- what a part names is below the limit, or named
   abbrev pub IsWithin : Part → Type 0
   IsWithin (part.Register r) = IsBelow limit r
-  IsWithin (part.Constant n) = Unit {0}
+  IsWithin (part.Constant n) = n < 2 ^ 32
   IsWithin (part.Name name offset) = named name
   IsWithin part.Nothing = Unit {0}
 
@@ -204,10 +216,10 @@ module _ (named : ℕ → Type 0) (limit : ℕ) where
 
   added_by : {d : Action} {left : ℕ} {pattern : MPattern} {t : Node} {ps : List Part} {ms : List Meeting} (to : ℕ) → Applied d left pattern t ps ms → IsBelow limit to → AreWithin ps → NamesOne named t → AreAdded named limit (code_by d ps to) × IsWithin (part_by d t ps to)
   added_by to (Discards t r low) b w n = (tt, tt)
-  added_by to (TakesConstant h e) b w n = (tt, tt)
-  added_by to (PassesConstant t m) b w n = (tt, tt)
+  added_by to (TakesConstant h e) b w n = (tt, constant_small h.value)
+  added_by to (PassesConstant t m) b w n = (tt, w.0)
   added_by to (PassesRegister t r low) b w n = (tt, w.0)
-  added_by to (LoadsConstant t m e) b w n = ((AddsNumber to m b, tt), b)
+  added_by to (LoadsConstant t m e) b w n = ((AddsNumber to m b w.0, tt), b)
   added_by to (TakesName h e) b w n = (tt, name_within h.sym (n e))
   added_by to (CombinesRegisters op h x y q r low_q low_r e) b w n = ((AddsRegisters op to q r b w.0 w.1.0, tt), b)
   added_by to (CombinesConstant op h x y q m low e) b w n = ((AddsWithNumber op to q m b w.0, tt), b)

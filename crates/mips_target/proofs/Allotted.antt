@@ -4,7 +4,7 @@ use Rattle.std.proofs.Common.{◌≡◌, ℕ, suc, ◌+◌, ◌*◌, ◌-◌, �
 use Rattle.std.specs.Prelude.{IsTrue, Bool, ◌||◌}
 use Rattle.std.specs.Int.RustNames.{unsigned_abs}
 use Rattle.std.proofs.lemmas.Bool.{le-leb, or_left}
-use Rattle.vcode.specs.VirtualCode.{is_virtual}
+use Rattle.vcode.specs.VirtualCode.{MCode, is_virtual}
 use Rattle.slot_allocator.specs.Slots.{slot_of, spilled, allotted, AreTemporaries, AreKept, NamesKept}
 use Rattle.slot_allocator.specs.SlotCounts.{slots_for, slots_needed}
 use Rattle.mips_rules.specs.declared.instr.Instr.{Instr}
@@ -12,7 +12,7 @@ use Rattle.mips_rules.specs.declared.instr.Instr.TheVariants as instr
 use Rattle.mips_rules.specs.declared.instr.Source.TheVariants as source
 use Rattle.mips_rules.specs.Mips.{mips}
 use Rattle.mips_target.specs.declared.layout.Layout.{Layout}
-use Rattle.mips_target.specs.FunctionCode.{most_handed}
+use Rattle.mips_target.specs.FunctionCode.{most_handed, argument_words}
 use Rattle.mips_target.specs.Registers.{NamesAmong}
 use Rattle.mips_target.specs.Sizes.{Fits}
 use Rattle.mips_target.specs.Generated.{temporaries}
@@ -34,11 +34,18 @@ abbrev pub put_all : List Instr → List Instr
 put_all [] = []
 put_all (i ∷ is) = put i ++ put_all is
 
+-- a slot of its own for each register of virtual code, and the layout of the frame for that
+abbrev pub allotted_code : MCode Instr → List Instr
+allotted_code c = allotted mips temporaries c.code
+
+abbrev pub layout_of : MCode Instr → Layout
+layout_of c = record { arguments = argument_words (allotted_code c); slots = slots_needed mips c.code }
+
 virtual : (limit r : ℕ) → IsBelow limit r → is_virtual r ≡ true
 virtual limit r h = le-leb 64 r h.0
 
 spilled_is : {named : ℕ → Type 0} {limit : ℕ} {i : Instr} → IsAdded named limit i → spilled mips temporaries i ≡ put i
-spilled_is {limit = limit} (AddsNumber to n a) = let v = virtual limit to a in rw v refl
+spilled_is {limit = limit} (AddsNumber to n a w) = let v = virtual limit to a in rw v refl
 spilled_is {limit = limit} (AddsRegisters op to from r a b c) = let v = virtual limit to a in let w = virtual limit from b in let x = virtual limit r c in rw (v, w, x) refl
 spilled_is {limit = limit} (AddsWithNumber op to from n a b) = let v = virtual limit to a in let w = virtual limit from b in rw (v, w) refl
 spilled_is {limit = limit} (AddsNegate to from a b) = let v = virtual limit to a in let w = virtual limit from b in rw (v, w) refl
@@ -59,7 +66,7 @@ kept : (limit r : ℕ) (b : Bool) → IsBelow limit r → IsTrue (is_virtual r |
 kept limit r b h = or_left (is_virtual r) b (virtual limit r h)
 
 kept_one : {named : ℕ → Type 0} {limit : ℕ} {i : Instr} → IsAdded named limit i → AreKept mips temporaries (mips.operands i)
-kept_one {limit = limit} (AddsNumber to n a) = (kept limit to _ a, tt)
+kept_one {limit = limit} (AddsNumber to n a w) = (kept limit to _ a, tt)
 kept_one {limit = limit} (AddsRegisters op to from r a b c) = (kept limit to _ a, (kept limit from _ b, (kept limit r _ c, tt)))
 kept_one {limit = limit} (AddsWithNumber op to from n a b) = (kept limit to _ a, (kept limit from _ b, tt))
 kept_one {limit = limit} (AddsNegate to from a b) = (kept limit to _ a, (kept limit from _ b, tt))
@@ -72,7 +79,7 @@ names_kept named limit [] h = tt
 names_kept named limit (i ∷ is) h = (kept_one h.0, names_kept named limit is h.1)
 
 among_more : {named : ℕ → Type 0} {limit : ℕ} {i : Instr} (is : List Instr) → IsAdded named limit i → NamesAmong mips temporaries is → NamesAmong mips temporaries (put i ++ is)
-among_more is (AddsNumber to n a) k = ((refl, tt), ((refl, tt), k))
+among_more is (AddsNumber to n a w) k = ((refl, tt), ((refl, tt), k))
 among_more is (AddsRegisters op to from r a b c) k = ((refl, tt), ((refl, tt), ((refl, (refl, (refl, tt))), ((refl, tt), k))))
 among_more is (AddsWithNumber op to from n a b) k = ((refl, tt), ((refl, (refl, tt)), ((refl, tt), k)))
 among_more is (AddsNegate to from a b) k = ((refl, tt), ((refl, (refl, tt)), ((refl, tt), k)))
@@ -87,7 +94,7 @@ names_among named limit (i ∷ is) h = among_more (put_all is) h.0 (names_among 
 -- ---- slots
 
 slots_one : {named : ℕ → Type 0} {limit : ℕ} {i : Instr} (all : ℕ) → limit ≤ 64 + all → IsAdded named limit i → slots_for (mips.operands i) ≤ all
-slots_one all le (AddsNumber to n a) = omega (arith, le, a)
+slots_one all le (AddsNumber to n a w) = omega (arith, le, a)
 slots_one all le (AddsRegisters op to from r a b c) = omega (arith, le, a, b, c)
 slots_one all le (AddsWithNumber op to from n a b) = omega (arith, le, a, b)
 slots_one all le (AddsNegate to from a b) = omega (arith, le, a, b)
@@ -105,7 +112,7 @@ slots_few named limit all (i ∷ is) le h =
 -- ---- lengths and argument words
 
 long_one : {named : ℕ → Type 0} {limit : ℕ} {i : Instr} → IsAdded named limit i → length (put i) ≤ 4
-long_one (AddsNumber to n a) = omega arith
+long_one (AddsNumber to n a w) = omega arith
 long_one (AddsRegisters op to from r a b c) = omega arith
 long_one (AddsWithNumber op to from n a b) = omega arith
 long_one (AddsNegate to from a b) = omega arith
@@ -126,7 +133,7 @@ abbrev HandsFew : List Instr → ℕ → Type 0
 HandsFew is n = (k : ℕ) → most_handed k is ≤ k + n
 
 hands_more : {named : ℕ → Type 0} {limit : ℕ} {i : Instr} (is : List Instr) (n : ℕ) → IsAdded named limit i → HandsFew is n → HandsFew (put i ++ is) (suc n)
-hands_more is n (AddsNumber to x a) h k = let b = h k in omega (arith, b)
+hands_more is n (AddsNumber to x a w) h k = let b = h k in omega (arith, b)
 hands_more is n (AddsRegisters op to from r a b c) h k = let d = h k in omega (arith, d)
 hands_more is n (AddsWithNumber op to from x a b) h k = let d = h k in omega (arith, d)
 hands_more is n (AddsNegate to from a b) h k = let d = h k in omega (arith, d)
@@ -152,9 +159,9 @@ module _ (names : List (List ℕ)) (l : Layout) where
   FitFrom is = (k : ℕ) → most_handed k is ≤ l.arguments → Fits names l k is
 
   fits_more : {limit : ℕ} {i : Instr} (is : List Instr) → IsAdded NamedIn limit i → slots_for (mips.operands i) ≤ l.slots → FitFrom is → FitFrom (put i ++ is)
-  fits_more {limit} is (AddsNumber to n a) s f k m =
+  fits_more {limit} is (AddsNumber to n a w) s f k m =
       let u : to - 63 ≤ l.slots = omega (arith, s) in
-      (omega arith, ((omega arith, in_slots limit l.slots to a u), f k (omega (arith, m))))
+      ((omega arith, w), ((omega arith, in_slots limit l.slots to a u), f k (omega (arith, m))))
   fits_more {limit} is (AddsRegisters op to from r a b c) s f k m =
       let u : to - 63 ≤ l.slots = omega (arith, s) in
       let v : from - 63 ≤ l.slots = omega (arith, s) in

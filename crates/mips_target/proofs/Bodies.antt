@@ -1,24 +1,21 @@
 -- The instructions of code, from a place on.
 use Rattle.std.proofs.Common.{◌≡◌, ℕ, suc, ◌+◌, ◌*◌, ◌<◌, ◌≤◌, List, [], ◌∷◌, ◌++◌, length, get_or, drop, sym, ap, ◌∙◌, subst, arith, append_assoc}
-use Rattle.std.proofs.lemmas.List.{drop_more, drop_all, map-append}
+use Rattle.std.proofs.lemmas.List.{drop_more, drop_all}
 use Rattle.asm_text.specs.declared.instruction.Instruction.{Instruction}
 use Rattle.asm_text.specs.declared.instruction.Instruction.TheVariants.{Load}
 use Rattle.asm_text.specs.declared.instruction.LoadOp.TheVariants as load
 use Rattle.mips_rules.specs.declared.instr.Instr.{Instr}
 use Rattle.mips_target.specs.declared.layout.Layout.{Layout}
-use Rattle.mips_target.specs.Items.{CodeItem, Line}
+use Rattle.mips_target.specs.Items.{CodeItem}
 use Rattle.mips_target.specs.FunctionCode.{in_frame, epilogue, loads_of, instructions_of, handed_behind, unmarked, code_of_one, body_of}
 use Rattle.mips_target.specs.Sizes.{FitsOne, Fits}
+use Rattle.mips_target.proofs.Unmarked.{unmarked_append}
 
 -- one more argument word is loaded
 pub loaded : (into : List Instruction) (k : ℕ) → (into ++ loads_of k) ++ Load load.Word (4 + k) (in_frame (4 * k)) ∷ [] ≡ into ++ loads_of (k + 1)
 loaded into k =
     let e : suc k ≡ k + 1 = omega arith in
     append_assoc into (loads_of k) (Load load.Word (4 + k) (in_frame (4 * k)) ∷ []) ∙ ap (λ n. into ++ loads_of n) e
-
--- instructions one behind the other, as items
-pub unmarked_append : (xs ys : List Instruction) → unmarked (xs ++ ys) ≡ unmarked xs ++ unmarked ys
-unmarked_append xs ys = map-append (λ (i : Instruction). Line i) xs ys
 
 -- an instruction is passed
 pub body_at : (names : List (List ℕ)) (l : Layout) (k : ℕ) (code : List Instr) (n : ℕ) (d : Instr) (into new : List Instruction) (all : List (CodeItem Instruction)) → n < length code → new ≡ into ++ instructions_of names l k (get_or code n d) → unmarked into ++ body_of names l k (drop n code) ≡ all → unmarked new ++ body_of names l (handed_behind k (get_or code n d)) (drop (n + 1) code) ≡ all

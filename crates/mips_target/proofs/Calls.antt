@@ -34,8 +34,9 @@ use Rattle.mips_rules.specs.MipsRules.{code_by, part_by, name_of, mips_rules}
 use Rattle.mips_rules.specs.OperatorNumbers.{is_addrgp}
 use Rattle.mips_rules.specs.AppliedRules.{Applied, applied, Discards, TakesConstant, PassesConstant, PassesRegister, LoadsConstant, TakesName, CombinesRegisters, CombinesConstant, Negates, HandsOver, Calls, Returns}
 use Rattle.mips_target.specs.Callable.{IsCallable, HasCallable}
-use Rattle.mips_target.specs.Generated.{IsSelected, temporaries, allotted_code}
+use Rattle.mips_target.specs.Generated.{IsSelected, temporaries}
 use Rattle.mips_target.specs.CalledNames.{CallIs, CallsAre}
+use Rattle.mips_target.proofs.Allotted.{allotted_code}
 use Rattle.mips_target.proofs.AddedRoots.{roots_front, roots_last}
 
 calls_append : (Q : ℕ → Type 0) (xs ys : List Instr) → CallsAre Q xs → CallsAre Q ys → CallsAre Q (xs ++ ys)

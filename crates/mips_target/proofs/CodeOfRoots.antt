@@ -7,14 +7,24 @@ use Rattle.op_forest.specs.WellFormed.{IsWellFormed}
 use Rattle.op_forest.specs.Lowered.{LoweredUnit, IsKnown, IsUnitName}
 use Rattle.vcode.specs.VirtualCode.{MAllocated}
 use Rattle.mips_rules.specs.declared.instr.Instr.{Instr}
+use Rattle.mips_rules.specs.Mips.{mips}
 use Rattle.mips_target.specs.declared.layout.Layout.{Layout}
-use Rattle.mips_target.specs.FunctionCode.{argument_words, function_code}
+use Rattle.mips_target.specs.Callable.{IsCallable}
+use Rattle.mips_target.specs.CalledNames.{CallsAre}
+use Rattle.mips_target.specs.Frame.{frame_size}
+use Rattle.mips_target.specs.FunctionCode.{argument_words, unmarked, function_code}
+use Rattle.mips_target.specs.Items.{lines_in}
+use Rattle.mips_target.specs.Registers.{NamesAmong}
 use Rattle.mips_target.specs.Sizes.{Fits}
 use Rattle.mips_target.specs.Emits.{Emits}
-use Rattle.mips_target.specs.Generated.{allotted_code, layout_of, IsAllocated, IsCodeOf}
+use Rattle.mips_target.specs.Allocated.{IsAllocated}
+use Rattle.mips_target.specs.Generated.{temporaries, frame_bound, IsCodeOf}
+use Rattle.mips_target.proofs.Allotted.{allotted_code, layout_of}
+use Rattle.mips_target.proofs.Calls.{calls_callable}
 use Rattle.mips_target.proofs.Emission.{code_slots, allotted_length, argument_words_few, code_fits, code_names_among}
 use Rattle.mips_target.proofs.EmittedLines.{code_emits}
 use Rattle.mips_target.proofs.Lengths.{code_small, frame_small}
+use Rattle.mips_target.proofs.Unmarked.{function_lines}
 
 -- the layout of allocated code
 abbrev pub layout_for : MAllocated Instr → Layout
@@ -40,28 +50,33 @@ module _ (roots : List Node) (c : MAllocated Instr) (a : IsAllocated roots c) wh
       subst (Fits u.names (layout_for c) 0) (sym a.code) (subst (λ l. Fits u.names l 0 (allotted_code a.virtual)) same_layout (code_fits roots a.selected.derivations a.virtual a.selected.linearised u w k))
 
   -- the instructions are those of a function of the roots
-  pub is_code : (u : LoweredUnit) → IsWellFormed roots → All IsUnitName u.names → All (AtEachNode (λ t. IsKnown u roots (head_of t).sym)) roots → (code : List Instruction) → code ≡ function_code u.names (layout_for c) c.code → IsCodeOf u.names roots code
-  is_code u w n k code made =
+  pub is_code : (u : LoweredUnit) (labels : ℕ → List ℕ) → IsWellFormed roots → All IsUnitName u.names → All (AtEachNode (λ t. IsKnown u roots (head_of t).sym)) roots → (code : List Instruction) → unmarked code ≡ function_code u.names (layout_for c) c.code → IsCodeOf u labels roots (unmarked code)
+  is_code u labels w n k code made =
       let v = a.virtual in
       let s = a.selected in
-      let is : code ≡ function_code u.names (layout_of v) (allotted_code v) = made ∙ ap (λ l. function_code u.names l c.code) (sym same_layout) ∙ ap (λ is. function_code u.names (layout_of v) is) a.code in
+      let is : unmarked code ≡ function_code u.names (layout_of v) (allotted_code v) = made ∙ ap (λ l. function_code u.names l c.code) (sym same_layout) ∙ ap (λ is. function_code u.names (layout_of v) is) a.code in
       let long = allotted_length roots s.derivations v s.linearised in
       let short = code_small u.names (layout_of v) (allotted_code v) (sum_by nodes roots) long in
-      let e = ap length is in
+      let e = ap (λ x. length (lines_in x)) is ∙ ap length (function_lines u.names (layout_of v) (allotted_code v)) in
       record {
         virtual = v;
         selected = s;
-        made = is;
-        emits = subst (Emits u.names (layout_of v) s.derivations roots) (sym is) (code_emits u roots s.derivations v s.linearised s.description s.shipped s.best w k n);
-        fits = code_fits roots s.derivations v s.linearised u w k;
-        registers = code_names_among roots s.derivations v s.linearised;
-        frame = frame_small (layout_of v) (sum_by nodes roots) (argument_words_few roots s.derivations v s.linearised) (code_slots roots s.derivations v s.linearised);
+        allocated = c.code;
+        layout = layout_for c;
+        follows = a.follows;
+        slots = a.below;
+        registers = subst (NamesAmong mips temporaries) (sym a.code) (code_names_among roots s.derivations v s.linearised);
+        fits = fits u w k;
+        made = made;
+        calls = λ callable. subst (CallsAre (IsCallable u)) (sym a.code) (calls_callable u roots v s w callable);
+        emits = subst (Emits u.names labels s.derivations roots) (sym is) (code_emits u roots s.derivations v s.linearised labels s.description s.shipped s.best w k n);
+        frame = subst (λ l. frame_size l ≤ frame_bound (sum_by nodes roots)) same_layout (frame_small (layout_of v) (sum_by nodes roots) (argument_words_few roots s.derivations v s.linearised) (code_slots roots s.derivations v s.linearised));
         short = omega (arith, short, e);
       }
 
-  pub are_code : {E : Type 0} (u : LoweredUnit) (result : Result (List Instruction) E) → IsWellFormed roots → All IsUnitName u.names → All (AtEachNode (λ t. IsKnown u roots (head_of t).sym)) roots → IfOk result (λ code. code ≡ function_code u.names (layout_for c) c.code) → IfOk result (λ code. IsCodeOf u.names roots code)
-  are_code u (Ok code) w n k made = is_code u w n k code made
-  are_code u (Err e) w n k made = tt
+  pub are_code : {E : Type 0} (u : LoweredUnit) (labels : ℕ → List ℕ) (result : Result (List Instruction) E) → IsWellFormed roots → All IsUnitName u.names → All (AtEachNode (λ t. IsKnown u roots (head_of t).sym)) roots → IfOk result (λ code. unmarked code ≡ function_code u.names (layout_for c) c.code) → IfOk result (λ code. IsCodeOf u labels roots (unmarked code))
+  are_code u labels (Ok code) w n k made = is_code u labels w n k code made
+  are_code u labels (Err e) w n k made = tt
 
 -- a layout of these numbers
 pub layout_is : (c : MAllocated Instr) (arguments slots : ℕ) (code : List Instr) → code ≡ c.code → arguments ≡ argument_words code → slots ≡ c.slots → record { arguments = arguments; slots = slots } ≡ layout_for c
@@ -70,6 +85,6 @@ layout_is c arguments slots code e a s = λ i. record { arguments = (a ∙ ap ar
 pub fits_same : (names names' : List (List ℕ)) (l l' : Layout) (code code' : List Instr) → names' ≡ names → l' ≡ l → code' ≡ code → Fits names l 0 code → Fits names' l' 0 code'
 fits_same names names' l l' code code' n e c h = subst (λ x. Fits x l' 0 code') (sym n) (subst (λ x. Fits names x 0 code') (sym e) (subst (λ x. Fits names l 0 x) (sym c) h))
 
-pub made_same : {E : Type 0} (names names' : List (List ℕ)) (l l' : Layout) (code code' : List Instr) (result : Result (List Instruction) E) → names' ≡ names → l' ≡ l → code' ≡ code → IfOk result (λ is. is ≡ function_code names' l' code') → IfOk result (λ is. is ≡ function_code names l code)
+pub made_same : {E : Type 0} (names names' : List (List ℕ)) (l l' : Layout) (code code' : List Instr) (result : Result (List Instruction) E) → names' ≡ names → l' ≡ l → code' ≡ code → IfOk result (λ is. unmarked is ≡ function_code names' l' code') → IfOk result (λ is. unmarked is ≡ function_code names l code)
 made_same names names' l l' code code' (Ok is) n e c h = h ∙ ap (λ x. function_code x l' code') n ∙ ap (λ x. function_code names x code') e ∙ ap (λ x. function_code names l x) c
 made_same names names' l l' code code' (Err x) n e c h = tt

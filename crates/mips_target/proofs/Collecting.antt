@@ -11,9 +11,9 @@ use Rattle.mips_target.specs.UnitLines.{plain, numbered, function_items, Coded, 
 use Rattle.mips_target.specs.Generated.{IsFunction, IsGenerated}
 use Rattle.mips_target.proofs.Numbering.{added}
 
-items_push : (fs : List Coded) (f : Coded) → items_of (fs ++ f ∷ []) ≡ items_of fs ++ function_items f.name f.code
-items_push [] f = append-nil (function_items f.name f.code)
-items_push (g ∷ fs) f = ap (λ x. function_items g.name g.code ++ x) (items_push fs f) ∙ sym (append_assoc (function_items g.name g.code) (items_of fs) (function_items f.name f.code))
+items_push : (fs : List Coded) (f : Coded) → items_of (fs ++ f ∷ []) ≡ items_of fs ++ function_items f
+items_push [] f = append-nil (function_items f)
+items_push (g ∷ fs) f = ap (λ x. function_items g ++ x) (items_push fs f) ∙ sym (append_assoc (function_items g) (items_of fs) (function_items f))
 
 zip_push : {A B : Type 0} (R : A → B → Type 0) (xs : List A) (ys : List B) (x : A) (y : B) → AllZip R xs ys → R x y → AllZip R (xs ++ x ∷ []) (ys ++ y ∷ [])
 zip_push R [] [] x y h r = (r, tt)
@@ -24,23 +24,23 @@ zip_push R (a ∷ xs) (b ∷ ys) x y h r = (h.0, zip_push R xs ys x y h.1 r)
 -- the lines of the first n functions
 pub record IsBegun (u : LoweredUnit) (n : ℕ) (lines : List Line) : Type 0 where
   pub functions : List Coded
-  pub each : AllZip (IsFunction u.names) (take n u.functions) functions
+  pub each : AllZip (IsFunction u) (take n u.functions) functions
   pub lines_are : lines ≡ unit_lines functions
 
 pub none_yet : (u : LoweredUnit) (lines : List Line) → lines ≡ [] ++ numbered (0 + 1) (plain (statement.Directive directive.Text) ∷ []) → IsBegun u 0 lines
 none_yet u lines e = record { functions = []; each = tt; lines_are = e }
 
-pub one_more : (u : LoweredUnit) (n : ℕ) (lines new : List Line) (d : LoweredFunction) (c : Coded) → n < length u.functions → IsBegun u n lines → IsFunction u.names (get_or u.functions n d) c → new ≡ lines ++ numbered (length lines + 1) (function_items c.name c.code) → IsBegun u (n + 1) new
+pub one_more : (u : LoweredUnit) (n : ℕ) (lines new : List Line) (d : LoweredFunction) (c : Coded) → n < length u.functions → IsBegun u n lines → IsFunction u (get_or u.functions n d) c → new ≡ lines ++ numbered (length lines + 1) (function_items c) → IsBegun u (n + 1) new
 one_more u n lines new d c lt b is e = record {
   functions = b.functions ++ c ∷ [];
-  each = subst (λ fs. AllZip (IsFunction u.names) fs (b.functions ++ c ∷ [])) (sym (take_more u.functions n d lt)) (zip_push (IsFunction u.names) (take n u.functions) b.functions (get_or u.functions n d) c b.each is);
-  lines_are = e ∙ ap (λ l. l ++ numbered (length l + 1) (function_items c.name c.code)) b.lines_are ∙ added [] (unit_lines b.functions) (plain (statement.Directive directive.Text) ∷ items_of b.functions) (function_items c.name c.code) refl ∙ ap (λ items. numbered 1 (plain (statement.Directive directive.Text) ∷ items)) (sym (items_push b.functions c));
+  each = subst (λ fs. AllZip (IsFunction u) fs (b.functions ++ c ∷ [])) (sym (take_more u.functions n d lt)) (zip_push (IsFunction u) (take n u.functions) b.functions (get_or u.functions n d) c b.each is);
+  lines_are = e ∙ ap (λ l. l ++ numbered (length l + 1) (function_items c)) b.lines_are ∙ added [] (unit_lines b.functions) (plain (statement.Directive directive.Text) ∷ items_of b.functions) (function_items c) refl ∙ ap (λ items. numbered 1 (plain (statement.Directive directive.Text) ∷ items)) (sym (items_push b.functions c));
 }
 
 pub all_done : (u : LoweredUnit) (n : ℕ) (lines : List Line) → length u.functions ≤ n → IsBegun u n lines → IsGenerated u lines
 all_done u n lines long b = record {
   functions = b.functions;
-  each = subst (λ fs. AllZip (IsFunction u.names) fs b.functions) (take_all n u.functions long) b.each;
+  each = subst (λ fs. AllZip (IsFunction u) fs b.functions) (take_all n u.functions long) b.each;
   lines_are = b.lines_are;
 }
 

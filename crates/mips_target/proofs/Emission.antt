@@ -22,10 +22,10 @@ use Rattle.mips_rules.specs.OperatorNumbers.{is_addrgp}
 use Rattle.mips_target.specs.FunctionCode.{most_handed, argument_words}
 use Rattle.mips_target.specs.Registers.{NamesAmong}
 use Rattle.mips_target.specs.Sizes.{Fits}
-use Rattle.mips_target.specs.Generated.{temporaries, allotted_code, layout_of}
+use Rattle.mips_target.specs.Generated.{temporaries}
 use Rattle.mips_target.proofs.Added.{AreAdded, NamesOne}
 use Rattle.mips_target.proofs.AddedRoots.{roots_take, roots_added}
-use Rattle.mips_target.proofs.Allotted.{put_all, allotted_is, names_kept, names_among, slots_few, put_long, hands_few, fits}
+use Rattle.mips_target.proofs.Allotted.{put_all, allotted_code, layout_of, allotted_is, names_kept, names_among, slots_few, put_long, hands_few, fits}
 
 -- ---- what holds at each node
 

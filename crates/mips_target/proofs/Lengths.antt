@@ -7,7 +7,8 @@ use Rattle.mips_rules.specs.declared.instr.Instr.{Instr}
 use Rattle.mips_rules.specs.declared.instr.Instr.TheVariants as instr
 use Rattle.mips_target.specs.declared.layout.Layout.{Layout}
 use Rattle.mips_target.specs.Frame.{frame_size}
-use Rattle.mips_target.specs.FunctionCode.{in_frame, loads_of, call_of, instructions_of, handed_behind, body_of, function_code}
+use Rattle.mips_target.specs.FunctionCode.{in_frame, loads_of, call_of, instructions_of, handed_behind}
+use Rattle.mips_target.proofs.Unmarked.{body_instructions, function_instructions}
 use Rattle.mips_target.specs.Generated.{frame_bound, code_bound}
 
 load_count : (k : ℕ) → length (loads_of k) ≡ k
@@ -32,18 +33,18 @@ instruction_length names l k (instr.Copy to from) = omega arith
 instruction_length names l k (instr.LoadSlot to slot) = omega arith
 instruction_length names l k (instr.StoreSlot from slot) = omega arith
 
-body_length : (names : List (List ℕ)) (l : Layout) (k : ℕ) (code : List Instr) → length (body_of names l k code) ≤ 6 * length code + 3
+body_length : (names : List (List ℕ)) (l : Layout) (k : ℕ) (code : List Instr) → length (body_instructions names l k code) ≤ 6 * length code + 3
 body_length names l k [] = omega arith
 body_length names l k (i ∷ is) =
-    let a = length-append (instructions_of names l k i) (body_of names l (handed_behind k i) is) in
+    let a = length-append (instructions_of names l k i) (body_instructions names l (handed_behind k i) is) in
     let b = instruction_length names l k i in
     let c = body_length names l (handed_behind k i) is in
     omega (arith, a, b, c)
 
-pub code_length : (names : List (List ℕ)) (l : Layout) (code : List Instr) → length (function_code names l code) ≤ 6 * length code + 5
+pub code_length : (names : List (List ℕ)) (l : Layout) (code : List Instr) → length (function_instructions names l code) ≤ 6 * length code + 5
 code_length names l code = let b = body_length names l zero code in omega (arith, b)
 
-pub code_small : (names : List (List ℕ)) (l : Layout) (code : List Instr) (n : ℕ) → length code ≤ 4 * n → length (function_code names l code) ≤ code_bound n
+pub code_small : (names : List (List ℕ)) (l : Layout) (code : List Instr) (n : ℕ) → length code ≤ 4 * n → length (function_instructions names l code) ≤ code_bound n
 code_small names l code n h = let b = code_length names l code in omega (arith, b, h)
 
 pub frame_small : (l : Layout) (n : ℕ) → l.arguments ≤ 4 + n → l.slots ≤ n → frame_size l ≤ frame_bound n

@@ -1,3 +1,4 @@
+pub mod Unmarked
 pub mod Arguments
 pub mod Bodies
 pub mod Numbering
@@ -19,6 +20,4 @@ pub mod Deriving
 pub mod RuleTemplates
 pub mod Writing
 pub mod EmittedLines
-pub mod Bounded
-pub mod UnitCode
 pub mod UnitOfMain

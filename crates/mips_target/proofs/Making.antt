@@ -17,15 +17,15 @@ use Rattle.op_forest.specs.declared.lowered.LoweredFunction.{LoweredFunction}
 use Rattle.op_forest.specs.Nodes.{head_of}
 use Rattle.op_forest.specs.EachNode.{AtEachNode}
 use Rattle.op_forest.specs.Lowered.{LoweredUnit, IsFunctionOf, IsLowered}
-use Rattle.op_forest.specs.WellFormed.{IsWellFormed}
 use Rattle.mips_rules.specs.declared.instr.Instr.{Instr}
 use Rattle.mips_rules.specs.declared.instr.Instr.TheVariants as instr
-use Rattle.mips_target.specs.UnitLines.{Item, Coded, plain, numbered, instruction_items, items_of, unit_lines}
-use Rattle.mips_target.specs.Generated.{layout_of, allotted_code, IsFunction, IsGenerated}
+use Rattle.mips_target.specs.FunctionCode.{unmarked}
+use Rattle.mips_target.specs.UnitLines.{Item, Coded, plain, numbered, code_lines, items_of, unit_lines}
+use Rattle.mips_target.specs.Generated.{IsFunction, IsGenerated}
 use Rattle.mips_target.specs.CalledNames.{CallIs, CallsAre}
 use Rattle.mips_target.specs.Callable.{IsCallable, HasCallable, AreCallable}
-use Rattle.mips_target.proofs.Speaking.{EachName, CodeSpeaks, ItemsSpeak, FunctionSpeaks, function_speaks, items_speak, functions_speak}
-use Rattle.mips_target.proofs.Calls.{calls_callable}
+use Rattle.mips_target.proofs.Speaking.{EachName, CodeItemsSpeak, ItemsSpeak, FunctionSpeaks, code_speaks, items_speak, functions_speak}
+use Rattle.mips_target.proofs.Unmarked.{function_instructions, function_unmarked}
 
 -- ---- the labels are the functions' names
 
@@ -46,23 +46,31 @@ numbered_labels place n (x ∷ xs) =
     let next = place + length (code_of x.statement) in
     names_append place x.labels (labels_from next (numbered (n + 1) xs)) ∙ ap (λ l. x.labels ++ l) (numbered_labels next (n + 1) xs)
 
-code_labels : (code : List Instruction) (more : List Item) → item_labels (instruction_items code ++ more) ≡ item_labels more
-code_labels [] more = refl
-code_labels (i ∷ is) more = code_labels is more
+unmarked_labels : (labels : ℕ → List ℕ) (is : List Instruction) (more : List Item) → item_labels (code_lines labels (unmarked is) ++ more) ≡ item_labels more
+unmarked_labels labels [] more = refl
+unmarked_labels labels (i ∷ is) more = unmarked_labels labels is more
 
-function_labels : (fs : List Coded) → item_labels (items_of fs) ≡ map (λ f. f.name) fs
-function_labels [] = refl
-function_labels (f ∷ fs) = ap (λ l. f.name ∷ l) (code_labels f.code (items_of fs) ∙ function_labels fs)
+-- a function of the unit has no label of its own so far
+code_labels : (u : LoweredUnit) (f : LoweredFunction) (c : Coded) (more : List Item) → IsFunction u f c → item_labels (code_lines c.labels c.items ++ more) ≡ item_labels more
+code_labels u f c more is =
+    let i = is.code in
+    ap (λ xs. item_labels (code_lines c.labels xs ++ more)) (i.made ∙ function_unmarked u.names i.layout i.allocated) ∙ unmarked_labels c.labels (function_instructions u.names i.layout i.allocated) more
+
+function_labels : (u : LoweredUnit) (fs : List LoweredFunction) (cs : List Coded) → AllZip (IsFunction u) fs cs → item_labels (items_of cs) ≡ map (λ c. c.name) cs
+function_labels u [] [] z = refl
+function_labels u [] (c ∷ cs) z = absurd z
+function_labels u (f ∷ fs) [] z = absurd z
+function_labels u (f ∷ fs) (c ∷ cs) z = ap (λ l. c.name ∷ l) (code_labels u f c (items_of cs) z.0 ∙ function_labels u fs cs z.1)
 
 -- the function's name, as bytes
 abbrev name_in : List (List ℕ) → LoweredFunction → List ℕ
 name_in names f = get_or names f.name []
 
-own_names_are : (names : List (List ℕ)) (fs : List LoweredFunction) (cs : List Coded) → AllZip (IsFunction names) fs cs → map (λ c. c.name) cs ≡ map (name_in names) fs
-own_names_are names [] [] z = refl
-own_names_are names [] (c ∷ cs) z = absurd z
-own_names_are names (f ∷ fs) [] z = absurd z
-own_names_are names (f ∷ fs) (c ∷ cs) z = let e : c.name ≡ name_in names f = z.0.name in let r = own_names_are names fs cs z.1 in cc
+own_names_are : (u : LoweredUnit) (fs : List LoweredFunction) (cs : List Coded) → AllZip (IsFunction u) fs cs → map (λ c. c.name) cs ≡ map (name_in u.names) fs
+own_names_are u [] [] z = refl
+own_names_are u [] (c ∷ cs) z = absurd z
+own_names_are u (f ∷ fs) [] z = absurd z
+own_names_are u (f ∷ fs) (c ∷ cs) z = let e : c.name ≡ name_in u.names f = z.0.name in let r = own_names_are u fs cs z.1 in cc
 
 -- ---- no two are the same
 
@@ -138,12 +146,12 @@ calls_weaker : (Q R : ℕ → Type 0) (code : List Instr) → ((n : ℕ) → Q n
 calls_weaker Q R [] go h = tt
 calls_weaker Q R (i ∷ is) go h = (call_weaker Q R i go h.0, calls_weaker Q R is go h.1)
 
--- a function of the unit, with well-formed roots, that calls what can be called
+-- a function of the unit that calls what can be called
 abbrev IsFit : LoweredUnit → LoweredFunction → Type 0
-IsFit u f = IsCallable u f.name × IsWellFormed f.forest.roots × All (AtEachNode (λ t. HasCallable u (head_of t).sym)) f.forest.roots
+IsFit u f = IsCallable u f.name × All (AtEachNode (λ t. HasCallable u (head_of t).sym)) f.forest.roots
 
-all_fit : (u : LoweredUnit) → All (λ f. IsWellFormed f.forest.roots) u.functions → AreCallable u → All (IsFit u) u.functions
-all_fit u good callable = λ k d below. (inl (k, get_or u.functions k d, below, same_at u.functions k d below, refl), good k d below, callable k d below)
+all_fit : (u : LoweredUnit) → AreCallable u → All (IsFit u) u.functions
+all_fit u callable = λ k d below. (inl (k, get_or u.functions k d, below, same_at u.functions k d below, refl), callable k d below)
   where
     same_at : (fs : List LoweredFunction) (k : ℕ) (d : LoweredFunction) → k < length fs → get_or fs k (get_or fs k d) ≡ get_or fs k d
     same_at [] k d h = absurd (omega (arith, h))
@@ -153,15 +161,14 @@ all_fit u good callable = λ k d below. (inl (k, get_or u.functions k d, below, 
 abbrev AnyName : List ℕ → Type 0
 AnyName n = Unit {0}
 
-function_knows : (u : LoweredUnit) (labels : List Label) → map label_name labels ≡ map (name_in u.names) u.functions → (f : LoweredFunction) (c : Coded) → IsFunction u.names f c → IsFit u f → FunctionSpeaks AnyName (IsKnown labels) c
+function_knows : (u : LoweredUnit) (labels : List Label) → map label_name labels ≡ map (name_in u.names) u.functions → (f : LoweredFunction) (c : Coded) → IsFunction u f c → IsFit u f → FunctionSpeaks AnyName (IsKnown labels) c
 function_knows u labels are f c is fit =
     let P : List ℕ → Type 0 = λ n. IsKnown labels n in
-    let virtual = is.code.virtual in
+    let i = is.code in
     let own : P c.name = subst P (sym is.name) (callable_known u labels f.name are fit.0) in
-    let calls = calls_callable u f.forest.roots virtual is.code.selected fit.1 fit.2 in
-    let known = calls_weaker (IsCallable u) (λ n. P (get_or u.names n [])) (allotted_code virtual) (λ n h. callable_known u labels n are h) calls in
-    let code = function_speaks P u.names (layout_of virtual) (allotted_code virtual) known in
-    (tt, own, subst (CodeSpeaks P) (sym is.code.made) code)
+    let known = calls_weaker (IsCallable u) (λ n. P (get_or u.names n [])) i.allocated (λ n h. callable_known u labels n are h) (i.calls fit.1) in
+    let code = code_speaks AnyName P c.labels u.names i.layout i.allocated known in
+    (tt, own, subst (CodeItemsSpeak AnyName P c.labels) (sym i.made) code)
 
 each_append : (P : List ℕ → Type 0) (xs ys : List (List ℕ)) → EachName P xs → EachName P ys → EachName P (xs ++ ys)
 each_append P [] ys a b = b
@@ -181,14 +188,14 @@ each_at P (n ∷ names) (suc i) name h e = each_at P names i name h.1 e
 abbrev pub program_of : List Line → Program
 program_of lines = record { code = code_in lines; numbers = numbers_in lines; labels = labels_from 0 lines }
 
-unit_makes : (u : LoweredUnit) (cs : List Coded) → IsLowered u → All (λ f. IsWellFormed f.forest.roots) u.functions → AreCallable u → AllZip (IsFunction u.names) u.functions cs → Makes (unit_lines cs) (program_of (unit_lines cs))
-unit_makes u cs lowered good callable each =
+unit_makes : (u : LoweredUnit) (cs : List Coded) → IsLowered u → AreCallable u → AllZip (IsFunction u) u.functions cs → Makes (unit_lines cs) (program_of (unit_lines cs))
+unit_makes u cs lowered callable each =
     let lines = unit_lines cs in
     let items = plain (statement.Directive directive.Text) ∷ items_of cs in
     let labels = labels_from 0 lines in
     let P : List ℕ → Type 0 = λ n. IsKnown labels n in
-    let are : map label_name labels ≡ map (name_in u.names) u.functions = numbered_labels 0 1 items ∙ function_labels cs ∙ own_names_are u.names u.functions cs each in
-    let fs = functions_speak AnyName P (IsFit u) u.names u.functions cs each (all_fit u good callable) (function_knows u labels are) in
+    let are : map label_name labels ≡ map (name_in u.names) u.functions = numbered_labels 0 1 items ∙ function_labels u u.functions cs each ∙ own_names_are u u.functions cs each in
+    let fs = functions_speak AnyName P (IsFit u) u u.functions cs each (all_fit u callable) (function_knows u labels are) in
     let known = numbered_speak AnyName P 1 items (tt, tt, items_speak AnyName P cs fs) in
     record {
       code = refl;
@@ -198,7 +205,7 @@ unit_makes u cs lowered good callable each =
       known = λ i name e. each_at P (names_in lines) i name known e;
     }
 
-pub makes : (u : LoweredUnit) (lines : List Line) → IsLowered u → All (λ f. IsWellFormed f.forest.roots) u.functions → AreCallable u → IsGenerated u lines → (p : Program) × Makes lines p
-makes u lines lowered good callable g =
-    let made = unit_makes u g.functions lowered good callable g.each in
+pub makes : (u : LoweredUnit) (lines : List Line) → IsLowered u → AreCallable u → IsGenerated u lines → (p : Program) × Makes lines p
+makes u lines lowered callable g =
+    let made = unit_makes u g.functions lowered callable g.each in
     (program_of lines, subst (λ l. Makes l (program_of l)) (sym g.lines_are) made)

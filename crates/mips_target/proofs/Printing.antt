@@ -16,9 +16,9 @@ use Rattle.mips_target.specs.declared.layout.Layout.{Layout}
 use Rattle.mips_target.specs.FunctionCode.{handed_behind}
 use Rattle.mips_target.specs.Sizes.{FitsOne, Fits}
 use Rattle.mips_target.specs.UnitLines.{Item, Coded, plain, numbered, items_of}
-use Rattle.mips_target.specs.Generated.{layout_of, allotted_code, IsFunction, IsGenerated}
+use Rattle.mips_target.specs.Generated.{IsFunction, IsGenerated}
 use Rattle.mips_target.specs.CalledNames.{CallIs, CallsAre}
-use Rattle.mips_target.proofs.Speaking.{EachName, CodeSpeaks, ItemsSpeak, FunctionSpeaks, function_speaks, items_speak, functions_speak}
+use Rattle.mips_target.proofs.Speaking.{EachName, CodeItemsSpeak, ItemsSpeak, FunctionSpeaks, code_speaks, items_speak, functions_speak}
 use Rattle.mips_target.proofs.SaidLines.{unit_name}
 
 each_name : (names : List (List ℕ)) → EachName IsName names → AreNames names
@@ -51,14 +51,15 @@ calls_named : (names : List (List ℕ)) (l : Layout) (k : ℕ) (code : List Inst
 calls_named names l k [] all h = tt
 calls_named names l k (i ∷ is) all h = (call_named names l k i all h.0, calls_named names l (handed_behind k i) is all h.1)
 
-function_named : (u : LoweredUnit) → IsLowered u → (f : LoweredFunction) (c : Coded) → IsFunction u.names f c → IsFunctionOf u f → FunctionSpeaks IsName IsName c
+function_named : (u : LoweredUnit) → IsLowered u → (f : LoweredFunction) (c : Coded) → IsFunction u f c → IsFunctionOf u f → FunctionSpeaks IsName IsName c
 function_named u lowered f c is of =
     let own : IsName c.name = subst IsName (sym is.name) (named u.names f.name lowered.names of.name) in
-    let code = function_speaks IsName u.names (layout_of is.code.virtual) (allotted_code is.code.virtual) (calls_named u.names (layout_of is.code.virtual) 0 (allotted_code is.code.virtual) lowered.names is.code.fits) in
-    (own, own, subst (CodeSpeaks IsName) (sym is.code.made) code)
+    let i = is.code in
+    let code = code_speaks IsName IsName c.labels u.names i.layout i.allocated (calls_named u.names i.layout 0 i.allocated lowered.names i.fits) in
+    (own, own, subst (CodeItemsSpeak IsName IsName c.labels) (sym i.made) code)
 
 pub printable : (u : LoweredUnit) (lines : List Line) → IsLowered u → IsGenerated u lines → ArePrintable lines
 printable u lines lowered g =
-    let each = functions_speak IsName IsName (IsFunctionOf u) u.names u.functions g.functions g.each lowered.functions (function_named u lowered) in
+    let each = functions_speak IsName IsName (IsFunctionOf u) u u.functions g.functions g.each lowered.functions (function_named u lowered) in
     let items : ItemsSpeak IsName IsName (plain (statement.Directive directive.Text) ∷ items_of g.functions) = (tt, tt, items_speak IsName IsName g.functions each) in
     subst ArePrintable (sym g.lines_are) (numbered_printable 1 (plain (statement.Directive directive.Text) ∷ items_of g.functions) items)

@@ -14,15 +14,19 @@ use Rattle.asm_text.specs.declared.instruction.Operand.TheVariants as operand
 use Rattle.asm_text.specs.declared.instruction.Target.TheVariants as target
 use Rattle.asm_text.specs.Tokens.{Tok, Word, Number, Minus, Mark, Spaced, text_of, IsName, IsToken}
 use Rattle.asm_text.specs.Printed.{register_token, spaced}
-use Rattle.asm_text.specs.Instructions.{IsRegister, IsNumber, IsInstruction, binary_word}
+use Rattle.asm_text.specs.declared.line.Statement.TheVariants as statement
+use Rattle.asm_text.specs.Instructions.{IsRegister, IsNumber, IsInstruction, IsLine, binary_word}
 use Rattle.asm_text.proofs.Written.{Ends}
 use Rattle.asm_text.proofs.BlankLines.{blank_text, blank_written, AreApart, register_token_is, blank_line, numeral_token, minus_token, numeral_is, minus_is, AreSymbols, name_of_symbols}
 use Rattle.op_forest.specs.Lowered.{IsUnitName, is_symbol}
 use Rattle.op_forest.specs.Rows.{bits_of}
 use Rattle.vcode.specs.Templates.{signed_decimal}
-use Rattle.mips_target.specs.Emits.{Says}
 
 -- ---- lines
+
+-- the text is a line, with its line feed, that says the instruction
+abbrev pub SaysInstruction : List ℕ → Instruction → Type 0
+SaysInstruction text i = (bytes : List ℕ) × (text ≡ bytes ++ 10 ∷ []) × IsLine bytes 1 (record { labels = []; statement = statement.Instruction i; number = 1 })
 
 -- tokens, and what stands behind them
 abbrev ended : List Spaced → List ℕ → List ℕ
@@ -34,7 +38,7 @@ ended_is [] rest = refl
 ended_is (t ∷ ts) rest = ap (λ l. blank_text t ++ l) (ended_is ts rest) ∙ sym (append_assoc (blank_text t) (blank_written ts) rest)
 
 -- a line of a word and operands
-said : (word : List ℕ) (t : Tok) (ts : List Tok) (i : Instruction) (text : List ℕ) → IsName word → AreApart (spaced (t ∷ ts)) → IsInstruction word (t ∷ ts) i → text ≡ word ++ ended (spaced (t ∷ ts)) (10 ∷ []) → Says text i
+said : (word : List ℕ) (t : Tok) (ts : List Tok) (i : Instruction) (text : List ℕ) → IsName word → AreApart (spaced (t ∷ ts)) → IsInstruction word (t ∷ ts) i → text ≡ word ++ ended (spaced (t ∷ ts)) (10 ∷ []) → SaysInstruction text i
 said word t ts i text n f h e = (
   word ++ blank_written (spaced (t ∷ ts)),
   e ∙ ap (λ l. word ++ l) (ended_is (spaced (t ∷ ts)) (10 ∷ [])) ∙ sym (append_assoc word (blank_written (spaced (t ∷ ts))) (10 ∷ [])),
@@ -95,7 +99,7 @@ binary_name binary.Multiply = (refl, (refl, (refl, (refl, tt))))
 below : (r : ℕ) → r < 32 → IsRegister (register_token r) r
 below r h = inl (refl, h)
 
-pub number_said : (z : ℤ) → FitsSigned w32 z → Says (codes "li $" ++ (decimal 8 ++ (44 ∷ (signed_decimal z ++ 10 ∷ [])))) (machine.LoadNumber 8 (bits_of z))
+pub number_said : (z : ℤ) → FitsSigned w32 z → SaysInstruction (codes "li $" ++ (decimal 8 ++ (44 ∷ (signed_decimal z ++ 10 ∷ [])))) (machine.LoadNumber 8 (bits_of z))
 number_said z h =
     said (codes "li") (register_token 8) (Mark Comma ∷ number_token z ∷ []) (machine.LoadNumber 8 (bits_of z)) (codes "li $" ++ (decimal 8 ++ (44 ∷ (signed_decimal z ++ 10 ∷ []))))
     (refl, (refl, (refl, tt)))
@@ -103,7 +107,7 @@ number_said z h =
     (refl, (register_token 8, number_token z, refl, below 8 (omega arith), is_number z h))
     (ap (λ l. codes "li $" ++ (decimal 8 ++ (44 ∷ (l ++ 10 ∷ [])))) (sym (number_text z)))
 
-pub registers_said : (op : BinaryOp) → Says (binary_word op ++ (codes " $" ++ (decimal 8 ++ (codes ",$" ++ (decimal 9 ++ (codes ",$" ++ (decimal 10 ++ 10 ∷ []))))))) (machine.Binary op 8 9 (operand.Register 10))
+pub registers_said : (op : BinaryOp) → SaysInstruction (binary_word op ++ (codes " $" ++ (decimal 8 ++ (codes ",$" ++ (decimal 9 ++ (codes ",$" ++ (decimal 10 ++ 10 ∷ []))))))) (machine.Binary op 8 9 (operand.Register 10))
 registers_said op =
     said (binary_word op) (register_token 8) (Mark Comma ∷ register_token 9 ∷ Mark Comma ∷ register_token 10 ∷ []) (machine.Binary op 8 9 (operand.Register 10)) (binary_word op ++ (codes " $" ++ (decimal 8 ++ (codes ",$" ++ (decimal 9 ++ (codes ",$" ++ (decimal 10 ++ 10 ∷ [])))))))
     (binary_name op)
@@ -111,7 +115,7 @@ registers_said op =
     (refl, (register_token 8, register_token 9, register_token 10, refl, below 8 (omega arith), below 9 (omega arith), below 10 (omega arith)))
     refl
 
-pub with_number_said : (op : BinaryOp) (z : ℤ) → FitsSigned w32 z → Says (binary_word op ++ (codes " $" ++ (decimal 8 ++ (codes ",$" ++ (decimal 9 ++ (44 ∷ (signed_decimal z ++ 10 ∷ []))))))) (machine.Binary op 8 9 (operand.Number (bits_of z)))
+pub with_number_said : (op : BinaryOp) (z : ℤ) → FitsSigned w32 z → SaysInstruction (binary_word op ++ (codes " $" ++ (decimal 8 ++ (codes ",$" ++ (decimal 9 ++ (44 ∷ (signed_decimal z ++ 10 ∷ []))))))) (machine.Binary op 8 9 (operand.Number (bits_of z)))
 with_number_said op z h =
     said (binary_word op) (register_token 8) (Mark Comma ∷ register_token 9 ∷ Mark Comma ∷ number_token z ∷ []) (machine.Binary op 8 9 (operand.Number (bits_of z))) (binary_word op ++ (codes " $" ++ (decimal 8 ++ (codes ",$" ++ (decimal 9 ++ (44 ∷ (signed_decimal z ++ 10 ∷ [])))))))
     (binary_name op)
@@ -119,7 +123,7 @@ with_number_said op z h =
     (refl, (register_token 8, register_token 9, number_token z, refl, below 8 (omega arith), below 9 (omega arith), is_number z h))
     (ap (λ l. binary_word op ++ (codes " $" ++ (decimal 8 ++ (codes ",$" ++ (decimal 9 ++ (44 ∷ (l ++ 10 ∷ []))))))) (sym (number_text z)))
 
-pub negate_said : Says (codes "negu $" ++ (decimal 8 ++ (codes ",$" ++ (decimal 9 ++ 10 ∷ [])))) (machine.Unary unary.Negate 8 9)
+pub negate_said : SaysInstruction (codes "negu $" ++ (decimal 8 ++ (codes ",$" ++ (decimal 9 ++ 10 ∷ [])))) (machine.Unary unary.Negate 8 9)
 negate_said =
     said (codes "negu") (register_token 8) (Mark Comma ∷ register_token 9 ∷ []) (machine.Unary unary.Negate 8 9) (codes "negu $" ++ (decimal 8 ++ (codes ",$" ++ (decimal 9 ++ 10 ∷ []))))
     (refl, (refl, (refl, (refl, (refl, tt)))))
@@ -127,7 +131,7 @@ negate_said =
     (refl, (register_token 8, register_token 9, refl, below 8 (omega arith), below 9 (omega arith)))
     refl
 
-pub call_said : (name : List ℕ) → IsName name → Says (codes "jal " ++ (name ++ 10 ∷ [])) (machine.Call (target.Label name))
+pub call_said : (name : List ℕ) → IsName name → SaysInstruction (codes "jal " ++ (name ++ 10 ∷ [])) (machine.Call (target.Label name))
 call_said name h =
     said (codes "jal") (Word name) [] (machine.Call (target.Label name)) (codes "jal " ++ (name ++ 10 ∷ []))
     (refl, (refl, (refl, (refl, tt))))

@@ -11,13 +11,15 @@ use Rattle.op_forest.specs.WellFormed.{IsWellFormed}
 use Rattle.vcode.specs.Roots.{AreDerived}
 use Rattle.vcode.specs.VirtualCode.{MCode, MAllocated}
 use Rattle.vcode.specs.Emission.{IsLinearised}
-use Rattle.slot_allocator.specs.SlotCounts.{slots_needed}
+use Rattle.slot_allocator.specs.Slots.{allotted}
+use Rattle.slot_allocator.specs.SlotCounts.{slots_needed, UsesSlotsBelow}
 use Rattle.slot_allocator.specs.Following.{Follows}
 use Rattle.mips_rules.specs.declared.instr.Instr.{Instr}
 use Rattle.mips_rules.specs.Mips.{mips}
 use Rattle.mips_rules.specs.MipsRules.{mips_rules}
 use Rattle.mips_rules.specs.Shipped.{IsShipped, CoversRoots}
-use Rattle.mips_target.specs.Generated.{temporaries, allotted_code, IsAllocated}
+use Rattle.mips_target.specs.Generated.{temporaries}
+use Rattle.mips_target.specs.Allocated.{IsAllocated}
 
 same_nodes : (t : Node) → tree_nodes (tree_of t) ≡ nodes t
 same_nodes (Leaf h) = refl
@@ -47,11 +49,13 @@ best_of d d' roots rs xs e f best = subst (λ x. AreBest x (map tree_of roots) x
 pub derived_of : (d d' : MDescription) (roots rs : List Node) (xs : List MDerivation) → rs ≡ roots → d' ≡ d → AreBest d' (map tree_of rs) xs → AreDerived d roots xs
 derived_of d d' roots rs xs e f best = derived d roots xs (best_of d d' roots rs xs e f best)
 
-pub allocated : {E : Type 0} (d : MDescription) (roots : List Node) (xs : List MDerivation) (v : MCode Instr) (result : Result (MAllocated Instr) E) → IsShipped d → AreBest d (map tree_of roots) xs → IsLinearised mips mips_rules roots xs v → IfOk result (λ c. c.code ≡ allotted_code v) → IfOk result (λ c. c.slots ≡ slots_needed mips v.code) → IfOk result (λ c. Follows mips temporaries v.code c.code) → IfOk result (λ c. IsAllocated roots c)
-allocated d roots xs v (Ok c) shipped best linearised code slots follows = record {
+pub allocated : {E : Type 0} (d : MDescription) (roots : List Node) (xs : List MDerivation) (v : MCode Instr) (result : Result (MAllocated Instr) E) → IsShipped d → AreBest d (map tree_of roots) xs → IsLinearised mips mips_rules roots xs v → IfOk result (λ c. c.code ≡ allotted mips temporaries v.code) → IfOk result (λ c. c.slots ≡ slots_needed mips v.code) → IfOk result (λ c. UsesSlotsBelow mips c.slots c.code) → IfOk result (λ c. Follows mips temporaries v.code c.code) → IfOk result (λ c. IsAllocated roots c)
+allocated d roots xs v (Ok c) shipped best linearised code slots below follows = record {
   virtual = v;
-  selected = record { description = d; shipped = shipped; derivations = xs; best = best; linearised = linearised; follows = subst (Follows mips temporaries v.code) code follows };
+  selected = record { description = d; shipped = shipped; derivations = xs; best = best; linearised = linearised };
   code = code;
   slots = slots;
+  below = below;
+  follows = follows;
 }
-allocated d roots xs v (Err e) shipped best linearised code slots follows = tt
+allocated d roots xs v (Err e) shipped best linearised code slots below follows = tt

@@ -1,16 +1,19 @@
 -- The names that generated lines speak of: a function speaks only of its own name and of those that it calls.
-use Rattle.std.proofs.Common.{ℕ, zero, suc, List, [], ◌∷◌, ◌++◌, min, get_or}
+use Rattle.std.proofs.Common.{ℕ, zero, suc, List, [], ◌∷◌, ◌++◌, min, get_or, sym, subst}
 use Rattle.std.specs.Prelude.{All}
 use Rattle.std.specs.List.{AllZip}
 use Rattle.std.proofs.lemmas.List.Elements.{All-head, All-tail}
 use Rattle.asm_text.specs.declared.instruction.Instruction.{Instruction}
 use Rattle.asm_text.specs.Program.{names_of, names_of_instruction}
 use Rattle.op_forest.specs.declared.lowered.LoweredFunction.{LoweredFunction}
+use Rattle.op_forest.specs.Lowered.{LoweredUnit}
 use Rattle.mips_rules.specs.declared.instr.Instr.{Instr}
 use Rattle.mips_rules.specs.declared.instr.Instr.TheVariants as instr
 use Rattle.mips_target.specs.declared.layout.Layout.{Layout}
-use Rattle.mips_target.specs.FunctionCode.{loads_of, instructions_of, handed_behind, epilogue, body_of, function_code}
-use Rattle.mips_target.specs.UnitLines.{Item, Coded, instruction_items, items_of}
+use Rattle.mips_target.specs.FunctionCode.{loads_of, instructions_of, handed_behind, epilogue, unmarked, function_code}
+use Rattle.mips_target.specs.Items.{CodeItem, Line, Mark}
+use Rattle.mips_target.proofs.Unmarked.{body_instructions, function_instructions, function_unmarked}
+use Rattle.mips_target.specs.UnitLines.{Item, Coded, code_lines, items_of}
 use Rattle.mips_target.specs.Generated.{IsFunction}
 use Rattle.mips_target.specs.CalledNames.{CallIs, CallsAre}
 
@@ -51,35 +54,49 @@ instruction_speaks P names l k (instr.Copy to from) h = (tt, tt)
 instruction_speaks P names l k (instr.LoadSlot to slot) h = (tt, tt)
 instruction_speaks P names l k (instr.StoreSlot from slot) h = (tt, tt)
 
-body_speaks : (P : List ℕ → Type 0) (names : List (List ℕ)) (l : Layout) (k : ℕ) (code : List Instr) → CallsAre (λ name. P (get_or names name [])) code → CodeSpeaks P (body_of names l k code)
+body_speaks : (P : List ℕ → Type 0) (names : List (List ℕ)) (l : Layout) (k : ℕ) (code : List Instr) → CallsAre (λ name. P (get_or names name [])) code → CodeSpeaks P (body_instructions names l k code)
 body_speaks P names l k [] h = epilogue_speaks P l
 body_speaks P names l k (i ∷ is) h =
-    code_append P (instructions_of names l k i) (body_of names l (handed_behind k i) is) (instruction_speaks P names l k i h.0) (body_speaks P names l (handed_behind k i) is h.1)
+    code_append P (instructions_of names l k i) (body_instructions names l (handed_behind k i) is) (instruction_speaks P names l k i h.0) (body_speaks P names l (handed_behind k i) is h.1)
 
-pub function_speaks : (P : List ℕ → Type 0) (names : List (List ℕ)) (l : Layout) (code : List Instr) → CallsAre (λ name. P (get_or names name [])) code → CodeSpeaks P (function_code names l code)
+pub function_speaks : (P : List ℕ → Type 0) (names : List (List ℕ)) (l : Layout) (code : List Instr) → CallsAre (λ name. P (get_or names name [])) code → CodeSpeaks P (function_instructions names l code)
 function_speaks P names l code h = (tt, (tt, body_speaks P names l zero code h))
+
+-- the same of code with labels, and L holds of each label's text
+abbrev pub CodeItemsSpeak : (L P : List ℕ → Type 0) → (ℕ → List ℕ) → List (CodeItem Instruction) → Type 0
+CodeItemsSpeak L P labels [] = Unit {0}
+CodeItemsSpeak L P labels (Line i ∷ xs) = EachName P (names_of_instruction i) × CodeItemsSpeak L P labels xs
+CodeItemsSpeak L P labels (Mark l ∷ xs) = L (labels l) × CodeItemsSpeak L P labels xs
+
+unmarked_speak : (L P : List ℕ → Type 0) (labels : ℕ → List ℕ) (is : List Instruction) → CodeSpeaks P is → CodeItemsSpeak L P labels (unmarked is)
+unmarked_speak L P labels [] h = tt
+unmarked_speak L P labels (i ∷ is) h = (h.0, unmarked_speak L P labels is h.1)
+
+pub code_speaks : (L P : List ℕ → Type 0) (labels : ℕ → List ℕ) (names : List (List ℕ)) (l : Layout) (code : List Instr) → CallsAre (λ name. P (get_or names name [])) code → CodeItemsSpeak L P labels (function_code names l code)
+code_speaks L P labels names l code h = subst (CodeItemsSpeak L P labels) (sym (function_unmarked names l code)) (unmarked_speak L P labels (function_instructions names l code) (function_speaks P names l code h))
 
 -- ---- the items of functions
 
--- L and P hold of a function's name, and P of each name that its instructions speak of
+-- L and P hold of a function's name, L of its labels, and P of each name that its instructions speak of
 abbrev pub FunctionSpeaks : (L P : List ℕ → Type 0) → Coded → Type 0
-FunctionSpeaks L P f = L f.name × P f.name × CodeSpeaks P f.code
+FunctionSpeaks L P f = L f.name × P f.name × CodeItemsSpeak L P f.labels f.items
 
 abbrev pub FunctionsSpeak : (L P : List ℕ → Type 0) → List Coded → Type 0
 FunctionsSpeak L P [] = Unit {0}
 FunctionsSpeak L P (f ∷ fs) = FunctionSpeaks L P f × FunctionsSpeak L P fs
 
-instruction_items_speak : (L P : List ℕ → Type 0) (code : List Instruction) (more : List Item) → CodeSpeaks P code → ItemsSpeak L P more → ItemsSpeak L P (instruction_items code ++ more)
-instruction_items_speak L P [] more h k = k
-instruction_items_speak L P (i ∷ is) more h k = (tt, h.0, instruction_items_speak L P is more h.1 k)
+code_lines_speak : (L P : List ℕ → Type 0) (labels : ℕ → List ℕ) (code : List (CodeItem Instruction)) (more : List Item) → CodeItemsSpeak L P labels code → ItemsSpeak L P more → ItemsSpeak L P (code_lines labels code ++ more)
+code_lines_speak L P labels [] more h k = k
+code_lines_speak L P labels (Line i ∷ xs) more h k = (tt, h.0, code_lines_speak L P labels xs more h.1 k)
+code_lines_speak L P labels (Mark l ∷ xs) more h k = ((h.0, tt), tt, code_lines_speak L P labels xs more h.1 k)
 
 pub items_speak : (L P : List ℕ → Type 0) (fs : List Coded) → FunctionsSpeak L P fs → ItemsSpeak L P (items_of fs)
 items_speak L P [] h = tt
-items_speak L P (f ∷ fs) h = (tt, (h.0.1, tt), ((h.0.0, tt), tt, instruction_items_speak L P f.code (items_of fs) h.0.2 (items_speak L P fs h.1)))
+items_speak L P (f ∷ fs) h = (tt, (h.0.1, tt), ((h.0.0, tt), tt, code_lines_speak L P f.labels f.items (items_of fs) h.0.2 (items_speak L P fs h.1)))
 
 -- what is so of each function of a unit is so of those that are made of them
-pub functions_speak : (L P : List ℕ → Type 0) (R : LoweredFunction → Type 0) (names : List (List ℕ)) (fs : List LoweredFunction) (cs : List Coded) → AllZip (IsFunction names) fs cs → All R fs → ((f : LoweredFunction) (c : Coded) → IsFunction names f c → R f → FunctionSpeaks L P c) → FunctionsSpeak L P cs
-functions_speak L P R names [] [] z all go = tt
-functions_speak L P R names [] (c ∷ cs) z all go = absurd z
-functions_speak L P R names (f ∷ fs) [] z all go = absurd z
-functions_speak L P R names (f ∷ fs) (c ∷ cs) z all go = (go f c z.0 (All-head R f fs all), functions_speak L P R names fs cs z.1 (All-tail R f fs all) go)
+pub functions_speak : (L P : List ℕ → Type 0) (R : LoweredFunction → Type 0) (u : LoweredUnit) (fs : List LoweredFunction) (cs : List Coded) → AllZip (IsFunction u) fs cs → All R fs → ((f : LoweredFunction) (c : Coded) → IsFunction u f c → R f → FunctionSpeaks L P c) → FunctionsSpeak L P cs
+functions_speak L P R u [] [] z all go = tt
+functions_speak L P R u [] (c ∷ cs) z all go = absurd z
+functions_speak L P R u (f ∷ fs) [] z all go = absurd z
+functions_speak L P R u (f ∷ fs) (c ∷ cs) z all go = (go f c z.0 (All-head R f fs all), functions_speak L P R u fs cs z.1 (All-tail R f fs all) go)

@@ -37,11 +37,10 @@ use Rattle.mips_rules.specs.MipsRows.{rows, stmt, con, rc, reg, addr, cnsti, add
 use Rattle.mips_rules.specs.MipsRules.{action_at, code_by, part_by, name_of, constant_of, mips_rules}
 use Rattle.mips_rules.specs.AppliedRules.{Applied, applied, Discards, TakesConstant, PassesConstant, PassesRegister, LoadsConstant, TakesName, CombinesRegisters, CombinesConstant, Negates, HandsOver, Calls, Returns}
 use Rattle.vcode.proofs.Leaves.{turned}
-use Rattle.mips_target.specs.Emits.{Says}
 use Rattle.mips_target.proofs.Added.{EachMet, each_front, each_last, at_root, at_met, applied_at}
 use Rattle.mips_target.proofs.AddedRoots.{joined_more, roots_front, roots_last}
 use Rattle.mips_target.proofs.PlainCode.{plain, plain_all}
-use Rattle.mips_target.proofs.SaidLines.{unit_name, number_said, registers_said, with_number_said, negate_said, call_said}
+use Rattle.mips_target.proofs.SaidLines.{SaysInstruction, unit_name, number_said, registers_said, with_number_said, negate_said, call_said}
 use Rattle.mips_target.proofs.Deriving.{derived, each_derived, RootsDerive, roots_parted}
 use Rattle.mips_target.proofs.RuleTemplates.{template_by, binary_template, template_is, binary_ends, binary_expanded}
 
@@ -113,14 +112,14 @@ module _ (names : List (List ℕ)) where
 
   -- lines that say the instructions of code
   abbrev Say : List (List ℕ) → List Instr → Type 0
-  Say lines code = AllZip Says lines (plain_all names code)
+  Say lines code = AllZip SaysInstruction lines (plain_all names code)
 
   say_both : (lines more : List (List ℕ)) (a b : List Instr) → Say lines a → Say more b → Say (lines ++ more) (a ++ b)
-  say_both lines more a b h k = subst (AllZip Says (lines ++ more)) (sym (plain_append a b)) (zip_append Says lines more (plain_all names a) (plain_all names b) h k)
+  say_both lines more a b h k = subst (AllZip SaysInstruction (lines ++ more)) (sym (plain_append a b)) (zip_append SaysInstruction lines more (plain_all names a) (plain_all names b) h k)
 
   say_silent : (lines : List (List ℕ)) (a b : List Instr) → Say lines a → plain_all names b ≡ [] → Say lines (a ++ b)
   say_silent lines a b h e =
-      subst (AllZip Says lines) (sym (plain_append a b ∙ ap (λ l. plain_all names a ++ l) e ∙ append-nil (plain_all names a))) h
+      subst (AllZip SaysInstruction lines) (sym (plain_append a b ∙ ap (λ l. plain_all names a ++ l) e ∙ append-nil (plain_all names a))) h
 
   module _ (frame : List ℕ) where
     -- what a derivation of a nonterminal writes, where its register is this operand
@@ -160,14 +159,14 @@ module _ (names : List (List ℕ)) where
       }
 
       -- the rule's template is a line
-      as_line : (template : List ℕ) (k : ℕ) (p : Part) (o : ℕ) (texts : List (List ℕ)) (i : Instr) (j : Instruction) → row.template ≡ template → WritesAll rows names frame xs ms texts lines → is_instruction template ≡ true → o < 64 → IsText k p o (decimal o) → plain names i ≡ j ∷ [] → Says (expanded (fillings names frame t (decimal 8) texts) template) j → Written k t (Apply number (parts_of xs)) p (code ++ i ∷ []) o
+      as_line : (template : List ℕ) (k : ℕ) (p : Part) (o : ℕ) (texts : List (List ℕ)) (i : Instr) (j : Instruction) → row.template ≡ template → WritesAll rows names frame xs ms texts lines → is_instruction template ≡ true → o < 64 → IsText k p o (decimal o) → plain names i ≡ j ∷ [] → SaysInstruction (expanded (fillings names frame t (decimal 8) texts) template) j → Written k t (Apply number (parts_of xs)) p (code ++ i ∷ []) o
       as_line template k p o texts i j e w end lt is one s = record {
         text = decimal o;
         lines = lines ++ expanded (fillings names frame t (decimal 8) texts) row.template ∷ [];
         writes = ALine 8 o row_is fits w (ap is_instruction e ∙ end) (omega arith) lt;
         is = is;
         say = say_both lines (expanded (fillings names frame t (decimal 8) texts) row.template ∷ []) code (i ∷ []) say
-            (subst (AllZip Says (expanded (fillings names frame t (decimal 8) texts) row.template ∷ [])) (sym (ap (λ l. l ++ []) one)) (subst (λ y. Says (expanded (fillings names frame t (decimal 8) texts) y) j) (sym e) s, tt));
+            (subst (AllZip SaysInstruction (expanded (fillings names frame t (decimal 8) texts) row.template ∷ [])) (sym (ap (λ l. l ++ []) one)) (subst (λ y. SaysInstruction (expanded (fillings names frame t (decimal 8) texts) y) j) (sym e) s, tt));
       }
 
     constant_written : (x : Sym) (v : Option ℤ) (o : ℕ) → IsConstant x v → IsText con (part.Constant (constant_of v)) o (symbol_text names x v ++ [])
@@ -189,30 +188,30 @@ module _ (names : List (List ℕ)) where
     Chosen true first o = first ≡ o
     Chosen false first o = first ≡ 9
 
-    load_said : (n : ℕ) (x : List ℕ) → (z : ℤ) × FitsSigned w32 z × (n ≡ bits_of z) × (x ≡ signed_decimal z) → Says (codes "li $" ++ (decimal 8 ++ (44 ∷ (x ++ 10 ∷ [])))) (machine.LoadNumber 8 n)
+    load_said : (n : ℕ) (x : List ℕ) → (z : ℤ) × FitsSigned w32 z × (n ≡ bits_of z) × (x ≡ signed_decimal z) → SaysInstruction (codes "li $" ++ (decimal 8 ++ (44 ∷ (x ++ 10 ∷ [])))) (machine.LoadNumber 8 n)
     load_said n x h =
-        subst (λ y. Says (codes "li $" ++ (decimal 8 ++ (44 ∷ (y ++ 10 ∷ [])))) (machine.LoadNumber 8 n)) (sym h.3)
-        (subst (λ m. Says (codes "li $" ++ (decimal 8 ++ (44 ∷ (signed_decimal h.0 ++ 10 ∷ [])))) (machine.LoadNumber 8 m)) (sym h.2) (number_said h.0 h.1))
+        subst (λ y. SaysInstruction (codes "li $" ++ (decimal 8 ++ (44 ∷ (y ++ 10 ∷ [])))) (machine.LoadNumber 8 n)) (sym h.3)
+        (subst (λ m. SaysInstruction (codes "li $" ++ (decimal 8 ++ (44 ∷ (signed_decimal h.0 ++ 10 ∷ [])))) (machine.LoadNumber 8 m)) (sym h.2) (number_said h.0 h.1))
 
     abbrev operation_line : BinaryOp → List ℕ → List ℕ → List ℕ
     operation_line op x y = binary_word op ++ (codes " $" ++ (decimal 8 ++ (codes ",$" ++ (x ++ (44 ∷ (y ++ 10 ∷ []))))))
 
-    combine_said : (op : BinaryOp) (x y : List ℕ) → x ≡ decimal 9 → y ≡ 36 ∷ decimal 10 → Says (operation_line op x y) (machine.Binary op 8 9 (operand.Register 10))
+    combine_said : (op : BinaryOp) (x y : List ℕ) → x ≡ decimal 9 → y ≡ 36 ∷ decimal 10 → SaysInstruction (operation_line op x y) (machine.Binary op 8 9 (operand.Register 10))
     combine_said op x y e f =
-        subst (λ a. Says (operation_line op a y) (machine.Binary op 8 9 (operand.Register 10))) (sym e) (subst (λ b. Says (operation_line op (decimal 9) b) (machine.Binary op 8 9 (operand.Register 10))) (sym f) (registers_said op))
+        subst (λ a. SaysInstruction (operation_line op a y) (machine.Binary op 8 9 (operand.Register 10))) (sym e) (subst (λ b. SaysInstruction (operation_line op (decimal 9) b) (machine.Binary op 8 9 (operand.Register 10))) (sym f) (registers_said op))
 
-    combine_number_said : (op : BinaryOp) (n : ℕ) (x y : List ℕ) → x ≡ decimal 9 → (z : ℤ) × FitsSigned w32 z × (n ≡ bits_of z) × (y ≡ signed_decimal z) → Says (operation_line op x y) (machine.Binary op 8 9 (operand.Number n))
+    combine_number_said : (op : BinaryOp) (n : ℕ) (x y : List ℕ) → x ≡ decimal 9 → (z : ℤ) × FitsSigned w32 z × (n ≡ bits_of z) × (y ≡ signed_decimal z) → SaysInstruction (operation_line op x y) (machine.Binary op 8 9 (operand.Number n))
     combine_number_said op n x y e h =
-        subst (λ a. Says (operation_line op a y) (machine.Binary op 8 9 (operand.Number n))) (sym e)
-        (subst (λ b. Says (operation_line op (decimal 9) b) (machine.Binary op 8 9 (operand.Number n))) (sym h.3)
-        (subst (λ m. Says (operation_line op (decimal 9) (signed_decimal h.0)) (machine.Binary op 8 9 (operand.Number m))) (sym h.2) (with_number_said op h.0 h.1)))
+        subst (λ a. SaysInstruction (operation_line op a y) (machine.Binary op 8 9 (operand.Number n))) (sym e)
+        (subst (λ b. SaysInstruction (operation_line op (decimal 9) b) (machine.Binary op 8 9 (operand.Number n))) (sym h.3)
+        (subst (λ m. SaysInstruction (operation_line op (decimal 9) (signed_decimal h.0)) (machine.Binary op 8 9 (operand.Number m))) (sym h.2) (with_number_said op h.0 h.1)))
 
-    negative_said : (x : List ℕ) → x ≡ decimal 9 → Says (codes "negu $" ++ (decimal 8 ++ (codes ",$" ++ (x ++ 10 ∷ [])))) (machine.Unary unary.Negate 8 9)
-    negative_said x e = subst (λ a. Says (codes "negu $" ++ (decimal 8 ++ (codes ",$" ++ (a ++ 10 ∷ [])))) (machine.Unary unary.Negate 8 9)) (sym e) negate_said
+    negative_said : (x : List ℕ) → x ≡ decimal 9 → SaysInstruction (codes "negu $" ++ (decimal 8 ++ (codes ",$" ++ (x ++ 10 ∷ [])))) (machine.Unary unary.Negate 8 9)
+    negative_said x e = subst (λ a. SaysInstruction (codes "negu $" ++ (decimal 8 ++ (codes ",$" ++ (a ++ 10 ∷ [])))) (machine.Unary unary.Negate 8 9)) (sym e) negate_said
 
-    called_said : (name : ℕ) (x : List ℕ) → All IsUnitName names → name < length names → x ≡ get_or names name [] → Says (codes "jal " ++ (x ++ 10 ∷ [])) (machine.Call (target.Label (get_or names name [])))
+    called_said : (name : ℕ) (x : List ℕ) → All IsUnitName names → name < length names → x ≡ get_or names name [] → SaysInstruction (codes "jal " ++ (x ++ 10 ∷ [])) (machine.Call (target.Label (get_or names name [])))
     called_said name x all lt e =
-        subst (λ a. Says (codes "jal " ++ (a ++ 10 ∷ [])) (machine.Call (target.Label (get_or names name [])))) (sym e) (call_said (get_or names name []) (unit_name (get_or names name []) (All-get_or IsUnitName names name [] lt all)))
+        subst (λ a. SaysInstruction (codes "jal " ++ (a ++ 10 ∷ [])) (machine.Call (target.Label (get_or names name [])))) (sym e) (call_said (get_or names name []) (unit_name (get_or names name []) (All-get_or IsUnitName names name [] lt all)))
 
     module _ (units : All IsUnitName names) where
       step : {d : Action} {left : ℕ} {pattern : MPattern} {t : Node} {ps : List Part} {ms : List Meeting} (to number : ℕ) (row : Row) (xs : List MDerivation) (code : List Instr) (first o : ℕ) → Applied d left pattern t ps ms → RowIs rows number row → leaves_at row.pattern t ≡ Some ms → row.template ≡ template_by d pattern → HasText t → Chosen (is_chain pattern) first o → o < 64 → WrittenAll ms xs ps code first → Written left t (Apply number (parts_of xs)) (part_by d t ps to) (code ++ code_by d ps to) o
@@ -237,12 +236,12 @@ module _ (names : List (List ℕ)) where
       step to number row xs code first o (CombinesRegisters op h' a b q r low_q low_r e') row_is fits e h c lt w =
           two_texts (λ ys. WritesAll rows names frame xs ((reg, a) ∷ (rc, b) ∷ []) ys w.lines → Written reg _ (Apply number (parts_of xs)) (part.Register to) (code ++ instr.Binary op to q (source.Register r) ∷ []) o) first (reg, a) (rc, b) (part.Register q) (part.Register r) w.texts w.are
           (λ x y k l wr. as_line number row _ xs _ w.lines code row_is fits w.say (binary_template op) reg (part.Register to) o (x ∷ y ∷ []) (instr.Binary op to q (source.Register r)) (machine.Binary op 8 9 (operand.Register 10)) e wr (binary_ends op) lt refl refl
-          (subst (λ m. Says m (machine.Binary op 8 9 (operand.Register 10))) (sym (binary_expanded op (decimal 8) _ frame x y)) (combine_said op x y (k ∙ ap decimal c) l)))
+          (subst (λ m. SaysInstruction m (machine.Binary op 8 9 (operand.Register 10))) (sym (binary_expanded op (decimal 8) _ frame x y)) (combine_said op x y (k ∙ ap decimal c) l)))
           w.writes
       step to number row xs code first o (CombinesConstant op h' a b q n low e') row_is fits e h c lt w =
           two_texts (λ ys. WritesAll rows names frame xs ((reg, a) ∷ (rc, b) ∷ []) ys w.lines → Written reg _ (Apply number (parts_of xs)) (part.Register to) (code ++ instr.Binary op to q (source.Number n) ∷ []) o) first (reg, a) (rc, b) (part.Register q) (part.Constant n) w.texts w.are
           (λ x y k l wr. as_line number row _ xs _ w.lines code row_is fits w.say (binary_template op) reg (part.Register to) o (x ∷ y ∷ []) (instr.Binary op to q (source.Number n)) (machine.Binary op 8 9 (operand.Number n)) e wr (binary_ends op) lt refl refl
-          (subst (λ m. Says m (machine.Binary op 8 9 (operand.Number n))) (sym (binary_expanded op (decimal 8) _ frame x y)) (combine_number_said op n x y (k ∙ ap decimal c) l)))
+          (subst (λ m. SaysInstruction m (machine.Binary op 8 9 (operand.Number n))) (sym (binary_expanded op (decimal 8) _ frame x y)) (combine_number_said op n x y (k ∙ ap decimal c) l)))
           w.writes
       step to number row xs code first o (Negates h' a r low e') row_is fits e h c lt w =
           one_text (λ ys. WritesAll rows names frame xs ((reg, a) ∷ []) ys w.lines → Written reg _ (Apply number (parts_of xs)) (part.Register to) (code ++ instr.Negate to r ∷ []) o) first (reg, a) (part.Register r) w.texts w.are

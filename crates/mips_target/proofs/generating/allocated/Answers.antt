@@ -32,4 +32,4 @@ returns c =
     let xs = ap (λ ds. map derivation_of ds) c.as_slice.ensures in
     let roots = c.args.forest.now.roots in
     let best = best_of c.args.rules.now c.description.result.now roots c.as_slice-roots.result.now (map derivation_of c.in_ok-cover.cover) same c.description.ensures.value c.in_ok-cover.ensures.best in
-    allocated c.args.rules.now roots (map derivation_of c.as_slice.result.now) c.in_ok-code.code c.give_slots.result c.requires.shipped (subst (AreBest c.args.rules.now (map tree_of roots)) (sym xs) best) c.in_ok-code.ensures c.give_slots.ensures.code c.give_slots.ensures.slots c.give_slots.ensures.agrees
+    allocated c.args.rules.now roots (map derivation_of c.as_slice.result.now) c.in_ok-code.code c.give_slots.result c.requires.shipped (subst (AreBest c.args.rules.now (map tree_of roots)) (sym xs) best) c.in_ok-code.ensures c.give_slots.ensures.code c.give_slots.ensures.slots c.give_slots.ensures.fits c.give_slots.ensures.agrees

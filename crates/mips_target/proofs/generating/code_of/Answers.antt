@@ -1,5 +1,6 @@
 use Rattle.std.proofs.Common.{length, ap, subst, arith}
-use Rattle.mips_target.specs.Generated.{IsAllocated}
+use Rattle.mips_target.specs.Allocated.{IsAllocated}
+use Rattle.mips_target.specs.UnitLines.{label_text}
 use Rattle.mips_target.proofs.CodeOfRoots.{layout_for, length_few, words_few, fits, are_code, layout_is, fits_same, made_same}
 use Rattle.mips_target.proofs.generating.code_of.Goals as goal
 
@@ -54,4 +55,4 @@ returns c =
     let code = c.in_ok-code.code in
     let a : IsAllocated roots code = subst (λ rs. IsAllocated rs code) e c.in_ok-code.ensures in
     let l = layout_is code c.argument_words.result c.slots.result c.code-2.result.now c.code-2.ensures.value c.argument_words.ensures c.slots.ensures in
-    are_code roots code a c.args.lowered.now c.function_code.result c.requires.well_formed c.requires.names c.requires.function.symbols (made_same c.args.lowered.now.names c.names.result.now (layout_for code) (record { arguments = c.argument_words.result; slots = c.slots.result }) code.code c.code-3.result.now c.function_code.result c.names.ensures.value l c.code-3.ensures.value c.function_code.ensures)
+    are_code roots code a c.args.lowered.now label_text c.function_code.result c.requires.well_formed c.requires.names c.requires.function.symbols (made_same c.args.lowered.now.names c.names.result.now (layout_for code) (record { arguments = c.argument_words.result; slots = c.slots.result }) code.code c.code-3.result.now c.function_code.result c.names.ensures.value l c.code-3.ensures.value c.function_code.ensures)

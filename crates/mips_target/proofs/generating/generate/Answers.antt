@@ -1,5 +1,6 @@
 use Rattle.std.proofs.Common.{◌≡◌, ◌≤◌, ◌<◌, length, [], get_or, ap, ◌∙◌, subst, rules}
-use Rattle.mips_target.specs.UnitLines.{Coded}
+use Rattle.mips_target.specs.FunctionCode.{unmarked}
+use Rattle.mips_target.specs.UnitLines.{label_text, Coded}
 use Rattle.mips_target.specs.Generated.{IsFunction}
 use Rattle.mips_target.proofs.Collecting.{one_more, name_is, all_done}
 use Rattle.mips_target.proofs.Printing.{printable}
@@ -9,15 +10,15 @@ use Rattle.mips_target.proofs.generating.generate.Goals as goal
 pub loop-function-preserved : goal.loop-function-preserved
 loop-function-preserved c =
     let u = c.args.lowered.now in
-    let coded : Coded = record { name = c.as_slice.result.now; code = c.in_ok-code.code } in
+    let coded : Coded = record { name = c.as_slice.result.now; labels = label_text; items = unmarked c.in_ok-code.code } in
     let f = c.function-item.result in
     let here : f ≡ get_or u.functions c.loop-function.function-index f = search rules in
     let lt : c.loop-function.function-index < length u.functions = search rules in
     let item = c.index-names-function.result in
     let there : item ≡ get_or u.names f.name item = c.index-names-function.is ∙ ap (λ names. get_or names f.name item) c.names.ensures.value in
     let name : coded.name ≡ get_or u.names f.name [] = c.as_slice.ensures ∙ name_is u c.loop-function.function-index f item c.names.ensures.is lt here there in
-    let is : IsFunction u.names f coded = record { name = name; code = c.in_ok-code.ensures } in
-    one_more u c.loop-function.function-index c.loop-function.lines c.push_function.new.lines f coded lt c.loop-function.invariant (subst (λ x. IsFunction u.names x coded) here is) c.in_ok-push_function.ensures
+    let is : IsFunction u f coded = record { name = name; code = c.in_ok-code.ensures } in
+    one_more u c.loop-function.function-index c.loop-function.lines c.push_function.new.lines f coded lt c.loop-function.invariant (subst (λ x. IsFunction u x coded) here is) c.in_ok-push_function.ensures
 
 pub returns-clause-printable : goal.returns-clause-printable
 returns-clause-printable c =
@@ -31,4 +32,4 @@ returns-clause-program c =
     let u = c.args.lowered.now in
     let lines = c.loop-function.lines in
     let long : length u.functions ≤ c.loop-function.function-index = search rules in
-    λ callable. makes u lines c.functions-function-items.ensures.is c.requires.well_formed callable (all_done u c.loop-function.function-index lines long c.loop-function.invariant)
+    λ callable. makes u lines c.functions-function-items.ensures.is callable (all_done u c.loop-function.function-index lines long c.loop-function.invariant)
