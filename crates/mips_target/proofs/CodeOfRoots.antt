@@ -69,7 +69,7 @@ module _ (roots : List Node) (c : MAllocated Instr) (a : IsAllocated roots c) wh
         fits = fits u w k;
         made = made;
         calls = λ callable. subst (CallsAre (IsCallable u)) (sym a.code) (calls_callable u roots v s w callable);
-        emits = subst (Emits u.names labels s.derivations roots) (sym is) (code_emits u roots s.derivations v s.linearised labels s.description s.shipped s.best w k n);
+        emits = subst (λ l. Emits u.names labels (frame_size l) s.derivations roots (unmarked code)) same_layout (subst (Emits u.names labels (frame_size (layout_of v)) s.derivations roots) (sym is) (code_emits u roots s.derivations v s.linearised labels s.description s.shipped s.best w k n));
         frame = subst (λ l. frame_size l ≤ frame_bound (sum_by nodes roots)) same_layout (frame_small (layout_of v) (sum_by nodes roots) (argument_words_few roots s.derivations v s.linearised) (code_slots roots s.derivations v s.linearised));
         short = omega (arith, short, e);
       }

@@ -88,13 +88,12 @@ module _ (u : LoweredUnit) (roots : List Node) where
         ∙ templates_unmarked (layout_of c) (function_instructions u.names (layout_of c) (allotted_code c))
         ∙ ap unmarked (templates_plain w k)
 
-    pub code_emits : (labels : ℕ → List ℕ) (d : MDescription) → IsShipped d → AreBest d (map tree_of roots) derivations → IsWellFormed roots → All (AtEachNode (λ t. IsKnown u roots (head_of t).sym)) roots → All IsUnitName u.names → Emits u.names labels derivations roots (function_code u.names (layout_of c) (allotted_code c))
+    pub code_emits : (labels : ℕ → List ℕ) (d : MDescription) → IsShipped d → AreBest d (map tree_of roots) derivations → IsWellFormed roots → All (AtEachNode (λ t. IsKnown u roots (head_of t).sym)) roots → All IsUnitName u.names → Emits u.names labels (frame_size (layout_of c)) derivations roots (function_code u.names (layout_of c) (allotted_code c))
     code_emits labels d shipped best w k names =
         let written = roots_written u.names (decimal (frame_size (layout_of c))) names d.rules shipped.rows d.start h.emits (roots_derived d roots derivations best) (roots_text w k) in
         let said : AllZip SaysInstruction written.texts (plain_all u.names c.code) = subst (AllZip SaysInstruction written.texts) (ap (plain_all u.names) (sym h.code)) written.say in
         record {
           words = words_size (layout_of c);
-          frame = frame_size (layout_of c);
           within = omega arith;
           texts = written.texts;
           writes = written.writes;

@@ -20,4 +20,7 @@ pub mod Deriving
 pub mod RuleTemplates
 pub mod Writing
 pub mod EmittedLines
+pub mod Placing
+pub mod Bounded
+pub mod UnitBounds
 pub mod UnitOfMain

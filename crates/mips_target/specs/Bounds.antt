@@ -1,7 +1,7 @@
 -- How much of the stack and how many instructions a function's code takes: the bytes by which its own code lowers the
 -- stack pointer, $29, between its entry and any of its instructions, and its instructions.
 -- Source: G. Kane and J. Heinrich, MIPS RISC Architecture, 1992.
-use Rattle.std.specs.Prelude.{◌≡◌, ◌≤◌, ℕ, suc, ◌+◌, ◌-◌, ◌%◌, ◌^◌, ◌==◌, ◌&&◌, Bool, true, false, if◌then◌else◌, List, length, Option, Some, None, slice_get}
+use Rattle.std.specs.Prelude.{◌≡◌, ◌≤◌, ℕ, suc, ◌+◌, ◌-◌, ◌%◌, ◌^◌, ◌==◌, Bool, true, false, if◌then◌else◌, List, length, Option, Some, None, slice_get}
 use Rattle.asm_text.specs.declared.instruction.Instruction.{Instruction}
 use Rattle.asm_text.specs.declared.instruction.Instruction.TheVariants.{LoadNumber, Move, Binary, Unary, Load, Store, Branch, Jump, Call}
 use Rattle.asm_text.specs.declared.instruction.BinaryOp.{BinaryOp}

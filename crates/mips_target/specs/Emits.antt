@@ -52,11 +52,10 @@ abbrev pub SaysLine : (ℕ → List ℕ) → List ℕ → CodeItem Instruction �
 SaysLine labels text x = (line : List ℕ) × (text ≡ line ++ 10 ∷ []) × Says labels line x
 
 -- The items of templates are the expanded templates of the roots' derivations, in order, where the function's labels have
--- these texts.
-pub record Emits (names : List (List ℕ)) (labels : ℕ → List ℕ) (derivations : List MDerivation) (roots : List Node) (code : List (CodeItem Instruction)) : Type 0 where
-  -- the bytes of the frame's argument words, spill slots and return address, and those of the whole frame
+-- these texts and its frame has so many bytes.
+pub record Emits (names : List (List ℕ)) (labels : ℕ → List ℕ) (frame : ℕ) (derivations : List MDerivation) (roots : List Node) (code : List (CodeItem Instruction)) : Type 0 where
+  -- the bytes of the frame's argument words, spill slots and return address
   pub words : ℕ
-  pub frame : ℕ
   pub within : words ≤ frame
   pub texts : List (List ℕ)
   pub writes : WritesRoots rows names (decimal frame) derivations roots texts

@@ -64,7 +64,7 @@ pub record IsCodeOf (u : LoweredUnit) (labels : ℕ → List ℕ) (roots : List 
   pub made : items ≡ function_code u.names layout allocated
   -- it calls only what the forest names
   pub calls : All (AtEachNode (λ t. HasCallable u (head_of t).sym)) roots → CallsAre (IsCallable u) allocated
-  pub emits : Emits u.names labels selected.derivations roots items
+  pub emits : Emits u.names labels (frame_size layout) selected.derivations roots items
   pub frame : frame_size layout ≤ frame_bound (sum_by nodes roots)
   pub short : length (lines_in items) ≤ code_bound (sum_by nodes roots)
 

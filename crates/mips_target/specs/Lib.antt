@@ -12,4 +12,5 @@ pub mod Generated
 pub mod Allocated
 pub mod Bounds
 pub mod UnitAssembly
+pub mod UnitProgram
 pub mod NamedBelow

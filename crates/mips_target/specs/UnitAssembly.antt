@@ -1,6 +1,6 @@
 -- What the assembly of a unit is, without a word on registers, slots or frames: its functions stand one behind the other,
 -- each by the best derivations of its forest, and each within its bounds.
-use Rattle.std.specs.Prelude.{◌≡◌, ◌≤◌, ℕ, List, [], map, get_or}
+use Rattle.std.specs.Prelude.{◌≡◌, ◌≤◌, ℕ, List, [], map, get_or, sum_by}
 use Rattle.std.specs.List.{AllZip}
 use Rattle.lburg_grammar.specs.Derivation.{MDerivation}
 use Rattle.lburg_grammar.specs.Description.{MDescription}
@@ -8,12 +8,18 @@ use Rattle.tree_labeller.specs.AreBest.{AreBest}
 use Rattle.asm_text.specs.declared.program.Program.{Program}
 use Rattle.op_forest.specs.declared.lowered.LoweredFunction.{LoweredFunction}
 use Rattle.op_forest.specs.Lowered.{LoweredUnit}
-use Rattle.op_forest.specs.Nodes.{tree_of}
+use Rattle.op_forest.specs.Nodes.{nodes, tree_of}
 use Rattle.mips_rules.specs.Shipped.{IsShipped}
 use Rattle.mips_target.specs.Bounds.{KeepsBounds}
 use Rattle.mips_target.specs.Emits.{Emits}
 use Rattle.mips_target.specs.Entries.{codes_of, HasEntry}
+use Rattle.mips_target.specs.Generated.{frame_bound, code_bound}
 use Rattle.mips_target.specs.UnitLines.{Coded}
+
+-- room for a function's frame and code, by the nodes of its forest
+pub record HasBounds (room most : LoweredFunction → ℕ) (f : LoweredFunction) : Type 0 where
+  pub frame : frame_bound (sum_by nodes f.forest.roots) ≤ room f
+  pub code : code_bound (sum_by nodes f.forest.roots) ≤ most f
 
 -- A function of a program: its name is a label at its first instruction, its code is the templates of the best
 -- derivations of its forest's roots by the shipped description, and it keeps its bounds of bytes and instructions.
@@ -24,8 +30,9 @@ pub record IsFunctionAssembly (room most : ℕ) (names : List (List ℕ)) (p : P
   pub shipped : IsShipped description
   pub derivations : List MDerivation
   pub best : AreBest description (map tree_of f.forest.roots) derivations
-  pub emits : Emits names c.labels derivations f.forest.roots c.items
-  pub framed : emits.frame ≤ room
+  pub frame : ℕ
+  pub framed : frame ≤ room
+  pub emits : Emits names c.labels frame derivations f.forest.roots c.items
   pub bounds : KeepsBounds room most p place.entry c.items
 
 -- the program is the unit's functions in order

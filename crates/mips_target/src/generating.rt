@@ -1,5 +1,5 @@
 //! A lowered unit as lines of assembly.
-ghost use Rattle.std.specs.Prelude.{◌≡◌, ◌≤◌, ◌<◌, ◌^◌, ◌+◌, ◌++◌, length, sum_by, All, get_or, IfOk, OnOk};
+ghost use Rattle.std.specs.Prelude.{◌≡◌, ℕ, ◌≤◌, ◌<◌, ◌^◌, ◌+◌, ◌++◌, length, sum_by, All, get_or, IfOk, OnOk};
 ghost use Rattle.op_forest.specs.Nodes.{nodes};
 ghost use Rattle.op_forest.specs.WellFormed.{IsWellFormed};
 ghost use Rattle.mips_rules.specs.Shipped.{IsShipped, CoversRoots};
@@ -11,7 +11,9 @@ ghost use Rattle.mips_target.specs.Callable.{AreCallable};
 ghost use Rattle.mips_target.specs.Allocated.{IsAllocated};
 ghost use Rattle.mips_target.specs.FunctionCode.{unmarked};
 ghost use Rattle.mips_target.specs.Generated.{IsCodeOf, IsGenerated};
+ghost use Rattle.mips_target.specs.UnitAssembly.{HasBounds, IsUnitAssembly};
 ghost use Rattle.mips_target.specs.UnitLines.{label_text};
+ghost use Rattle.mips_target.specs.UnitProgram.{IsUnitProgram};
 
 use crate::function_code::{argument_words, function_code};
 use crate::layout::Layout;
@@ -85,6 +87,8 @@ pub fn generate(alloc: Global, lowered: &Lowered) -> Result<Lines, Memory>
     requires size { All (λ f. sum_by nodes f.forest.roots ≤ 2 ^ 24) lowered.now.functions }
     ensures value { IfOk result (λ lines. IsGenerated lowered.now lines) }
     ensures printable { IfOk result (λ lines. ArePrintable lines) }
+    ensures unit { IfOk result (λ lines. (p : Program) → Makes lines p → IsUnitProgram lowered.now p) }
+    ensures assembly { IfOk result (λ lines. (p : Program) → Makes lines p → (room most : LoweredFunction → ℕ) → All (HasBounds room most) lowered.now.functions → IsUnitAssembly room most lowered.now p) }
     ensures program { IfOk result (λ lines. AreCallable lowered.now → (p : Program) × Makes lines p) }
 {
     let rules = rules(alloc)?;

@@ -5,6 +5,8 @@ use Rattle.mips_target.specs.Generated.{IsFunction}
 use Rattle.mips_target.proofs.Collecting.{one_more, name_is, all_done}
 use Rattle.mips_target.proofs.Printing.{printable}
 use Rattle.mips_target.proofs.Making.{makes}
+use Rattle.mips_target.proofs.Placing.{unit_program}
+use Rattle.mips_target.proofs.UnitBounds.{assembly}
 use Rattle.mips_target.proofs.generating.generate.Goals as goal
 
 pub loop-function-preserved : goal.loop-function-preserved
@@ -26,6 +28,20 @@ returns-clause-printable c =
     let lines = c.loop-function.lines in
     let long : length u.functions ≤ c.loop-function.function-index = search rules in
     printable u lines c.functions-function-items.ensures.is (all_done u c.loop-function.function-index lines long c.loop-function.invariant)
+
+pub returns-clause-unit : goal.returns-clause-unit
+returns-clause-unit c =
+    let u = c.args.lowered.now in
+    let lines = c.loop-function.lines in
+    let long : length u.functions ≤ c.loop-function.function-index = search rules in
+    λ p makes. unit_program u lines p (all_done u c.loop-function.function-index lines long c.loop-function.invariant) makes
+
+pub returns-clause-assembly : goal.returns-clause-assembly
+returns-clause-assembly c =
+    let u = c.args.lowered.now in
+    let lines = c.loop-function.lines in
+    let long : length u.functions ≤ c.loop-function.function-index = search rules in
+    λ p makes room most wide. assembly room most u p (unit_program u lines p (all_done u c.loop-function.function-index lines long c.loop-function.invariant) makes) wide
 
 pub returns-clause-program : goal.returns-clause-program
 returns-clause-program c =
