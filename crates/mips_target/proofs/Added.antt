@@ -1,19 +1,22 @@
--- What the rules of MIPS add: instructions over virtual registers, each taken once, and at each node at most one
--- instruction.
+-- What the rules of MIPS add: instructions over virtual registers, at each node at most one, and an argument word only
+-- where a node gives no value.
 use Rattle.std.proofs.Common.{◌≡◌, ℕ, ◌+◌, ◌≤◌, ◌<◌, List, [], ◌∷◌, ◌++◌, Bool, true, false, Option, Some, None, length, length-append, refl, sym, ap, ◌∙◌, subst, arith}
-use Rattle.std.specs.Prelude.{ℤ, pos, negsuc, ◌^◌}
+use Rattle.std.specs.Prelude.{ℤ, pos, negsuc, ◌^◌, not, if◌then◌else◌, sum_by}
+use Rattle.std.proofs.lemmas.List.Sums.{sum_by-cons}
 use Rattle.std.proofs.lemmas.Option.{same_Some}
 use Rattle.lburg_grammar.specs.Derivation.{MDerivation}
 use Rattle.lburg_grammar.specs.Pattern.{MPattern}
+use Rattle.op_forest.specs.declared.op.Op.TheVariants as op
 use Rattle.op_forest.specs.declared.sym.Sym.{Sym}
 use Rattle.op_forest.specs.declared.sym.Sym.TheVariants as symbol
-use Rattle.op_forest.specs.Nodes.{Node, Leaf, One, Two, head_of, nodes, number_of}
+use Rattle.op_forest.specs.Signature.{gives_value}
+use Rattle.op_forest.specs.Nodes.{Head, Node, Leaf, One, Two, head_of, nodes, gives, one_where, value_nodes, number_of}
 use Rattle.op_forest.specs.EachNode.{AtEachNode}
 use Rattle.op_forest.specs.Rows.{bits_of}
 use Rattle.vcode.specs.Patterns.{Meeting, leaves_at, is_chain}
 use Rattle.vcode.specs.RuleSets.{Row, Applies}
 use Rattle.vcode.specs.Emission.{Emitted, EmittedAll, with_chain, with_rule, and_one, Emits, EmitsAll, ByChain, ByRule, Nothing, OneMore}
-use Rattle.vcode.proofs.Leaves.{met, met_append, fewer_met}
+use Rattle.vcode.specs.Leaves.{met_by, met, met_by_append, met_append, IsSum, fewer_met_by, fewer_met}
 use Rattle.asm_text.specs.declared.instruction.BinaryOp.{BinaryOp}
 use Rattle.mips_rules.specs.declared.action.Action.{Action}
 use Rattle.mips_rules.specs.declared.instr.Instr.{Instr}
@@ -21,32 +24,73 @@ use Rattle.mips_rules.specs.declared.instr.Instr.TheVariants as instr
 use Rattle.mips_rules.specs.declared.instr.Source.TheVariants as source
 use Rattle.mips_rules.specs.declared.part.Part.{Part}
 use Rattle.mips_rules.specs.declared.part.Part.TheVariants as part
-use Rattle.mips_rules.specs.MipsRows.{addrgp}
+use Rattle.mips_rules.specs.MipsRows.{addrgp, argi}
+use Rattle.mips_rules.specs.OperatorNumbers.{is_argi}
 use Rattle.mips_rules.specs.MipsRules.{action_at, code_by, part_by, constant_of, name_of, name_in, mips_rules}
 use Rattle.mips_rules.specs.AppliedRules.{Applied, applied, Discards, TakesConstant, PassesConstant, PassesRegister, LoadsConstant, TakesName, CombinesRegisters, CombinesConstant, Negates, HandsOver, Calls, Returns}
 
--- a virtual register below the limit
-abbrev pub IsBelow : ℕ → ℕ → Type 0
-IsBelow limit r = (64 ≤ r) × (r < limit)
+-- an instruction as a rule adds it: its registers are virtual, a number is a word, and what it calls is named
+pub data IsAdded (named : ℕ → Type 0) : Instr → Type 0 where
+  AddsNumber : (to n : ℕ) → 64 ≤ to → n < 2 ^ 32 → IsAdded named (instr.LoadNumber to n)
+  AddsRegisters : (op : BinaryOp) (to from r : ℕ) → 64 ≤ to → 64 ≤ from → 64 ≤ r → IsAdded named (instr.Binary op to from (source.Register r))
+  AddsWithNumber : (op : BinaryOp) (to from n : ℕ) → 64 ≤ to → 64 ≤ from → IsAdded named (instr.Binary op to from (source.Number n))
+  AddsNegate : (to from : ℕ) → 64 ≤ to → 64 ≤ from → IsAdded named (instr.Negate to from)
+  AddsArgument : (from : ℕ) → 64 ≤ from → IsAdded named (instr.Argument from)
+  AddsCall : (to name : ℕ) → 64 ≤ to → named name → IsAdded named (instr.Call to name)
+  AddsReturn : (from : ℕ) → 64 ≤ from → IsAdded named (instr.Return from)
 
--- an instruction as a rule adds it: its registers are virtual and below the limit, a number is a word, and what it calls
--- is named
-pub data IsAdded (named : ℕ → Type 0) (limit : ℕ) : Instr → Type 0 where
-  AddsNumber : (to n : ℕ) → IsBelow limit to → n < 2 ^ 32 → IsAdded named limit (instr.LoadNumber to n)
-  AddsRegisters : (op : BinaryOp) (to from r : ℕ) → IsBelow limit to → IsBelow limit from → IsBelow limit r → IsAdded named limit (instr.Binary op to from (source.Register r))
-  AddsWithNumber : (op : BinaryOp) (to from n : ℕ) → IsBelow limit to → IsBelow limit from → IsAdded named limit (instr.Binary op to from (source.Number n))
-  AddsNegate : (to from : ℕ) → IsBelow limit to → IsBelow limit from → IsAdded named limit (instr.Negate to from)
-  AddsArgument : (from : ℕ) → IsBelow limit from → IsAdded named limit (instr.Argument from)
-  AddsCall : (to name : ℕ) → IsBelow limit to → named name → IsAdded named limit (instr.Call to name)
-  AddsReturn : (from : ℕ) → IsBelow limit from → IsAdded named limit (instr.Return from)
+abbrev pub AreAdded : (ℕ → Type 0) → List Instr → Type 0
+AreAdded named [] = Unit {0}
+AreAdded named (i ∷ is) = IsAdded named i × AreAdded named is
 
-abbrev pub AreAdded : (ℕ → Type 0) → ℕ → List Instr → Type 0
-AreAdded named limit [] = Unit {0}
-AreAdded named limit (i ∷ is) = IsAdded named limit i × AreAdded named limit is
+pub added_append : (named : ℕ → Type 0) (a b : List Instr) → AreAdded named a → AreAdded named b → AreAdded named (a ++ b)
+added_append named [] b h k = k
+added_append named (i ∷ a) b h k = (h.0, added_append named a b h.1 k)
 
-pub added_append : (named : ℕ → Type 0) (limit : ℕ) (a b : List Instr) → AreAdded named limit a → AreAdded named limit b → AreAdded named limit (a ++ b)
-added_append named limit [] b h k = k
-added_append named limit (i ∷ a) b h k = (h.0, added_append named limit a b h.1 k)
+-- how many argument words an instruction hands over
+abbrev pub hands_over : Instr → ℕ
+hands_over (instr.Argument from) = 1
+hands_over i = 0
+
+abbrev pub handed_over : List Instr → ℕ
+handed_over [] = 0
+handed_over (i ∷ is) = hands_over i + handed_over is
+
+pub handed_append : (xs ys : List Instr) → handed_over (xs ++ ys) ≡ handed_over xs + handed_over ys
+handed_append [] ys = omega arith
+handed_append (x ∷ xs) ys = let e : handed_over (xs ++ ys) ≡ handed_over xs + handed_over ys = handed_append xs ys in omega (arith, e)
+
+-- ---- nodes that give no value
+
+abbrev other_own : Head → ℕ
+other_own h = one_where (not (gives h))
+
+abbrev pub other_nodes : Node → ℕ
+other_nodes (Leaf h) = other_own h
+other_nodes (One h a) = other_nodes a + other_own h
+other_nodes (Two h a b) = other_nodes a + other_nodes b + other_own h
+
+others_sum : IsSum other_nodes other_own
+others_sum = record { leaf = λ h. refl; one = λ h a. refl; two = λ h a b. refl }
+
+either_own : (b : Bool) → one_where b + one_where (not b) ≡ 1
+either_own true = refl
+either_own false = refl
+
+either : (t : Node) → value_nodes t + other_nodes t ≡ nodes t
+either (Leaf h) = either_own (gives h)
+either (One h a) = let e = either_own (gives h) in let f = either a in omega (arith, e, f)
+either (Two h a b) = let e = either_own (gives h) in let f = either a in let g = either b in omega (arith, e, f, g)
+
+pub either_in : (ts : List Node) → sum_by value_nodes ts + sum_by other_nodes ts ≡ sum_by nodes ts
+either_in [] = omega arith
+either_in (t ∷ ts) =
+    let i : sum_by value_nodes ts + sum_by other_nodes ts ≡ sum_by nodes ts = either_in ts in
+    let a : sum_by value_nodes (t ∷ ts) ≡ value_nodes t + sum_by value_nodes ts = sum_by-cons value_nodes t ts in
+    let b : sum_by other_nodes (t ∷ ts) ≡ other_nodes t + sum_by other_nodes ts = sum_by-cons other_nodes t ts in
+    let c : sum_by nodes (t ∷ ts) ≡ nodes t + sum_by nodes ts = sum_by-cons nodes t ts in
+    let own = either t in
+    omega (arith, i, a, b, c, own)
 
 -- how many instructions the nodes of a part leave for a rule to add
 abbrev pub room : Part → ℕ
@@ -120,64 +164,89 @@ counted_by to (HandsOver h a r low e) = omega arith
 counted_by to (Calls h a name offset e) = omega arith
 counted_by to (Returns h a r low e) = omega arith
 
+argument_other : (h : Head) → argi ≡ number_of h → other_own h ≡ 1
+argument_other h e =
+    let o = is_argi h e in
+    ap (λ b. one_where (not b)) (ap (λ q. gives_value q h.operator.suffix) o.0 ∙ ap (λ x. gives_value op.Arg x) o.1)
+
+-- an argument word is handed over only where a node gives no value
+handed_by : {d : Action} {left : ℕ} {pattern : MPattern} {t : Node} {ps : List Part} {ms : List Meeting} (to : ℕ) → Applied d left pattern t ps ms → handed_over (code_by d ps to) ≤ (if is_chain pattern then 0 else other_own (head_of t))
+handed_by to (Discards t r low) = omega arith
+handed_by to (TakesConstant h e) = omega arith
+handed_by to (PassesConstant t n) = omega arith
+handed_by to (PassesRegister t r low) = omega arith
+handed_by to (LoadsConstant t n e) = omega arith
+handed_by to (TakesName h e) = omega arith
+handed_by to (CombinesRegisters op h a b q r low_q low_r e) = omega arith
+handed_by to (CombinesConstant op h a b q n low e) = omega arith
+handed_by to (Negates h a r low e) = omega arith
+handed_by to (HandsOver h a r low e) = let o = argument_other h e in omega (arith, o)
+handed_by to (Calls h a name offset e) = omega arith
+handed_by to (Returns h a r low e) = omega arith
+
 -- how a rule is applied where its pattern meets these
 pub applied_at : (number : ℕ) (row : Row) (t : Node) (ps : List Part) (to : ℕ) (ms : List Meeting) (a : Applies mips_rules number row t ps to) → leaves_at row.pattern t ≡ Some ms → Applied (action_at number) row.left row.pattern t ps ms
 applied_at number row t ps to ms a fits =
     subst (λ l. Applied (action_at number) row.left row.pattern t ps l) (same_Some a.meetings ms (sym a.fits ∙ fits)) (applied number row t ps to a)
 
--- where registers are free from n on, these are taken, and so many instructions added
-pub record Takes (n : ℕ) (t : Node) (e : Emitted Instr Part) : Type 0 where
-  pub low : n ≤ e.to
-  pub next : e.next ≡ e.to + 1
-  pub few : e.next ≤ n + nodes t
+-- so many instructions are added, and argument words handed over
+pub record Takes (t : Node) (e : Emitted Instr Part) : Type 0 where
   pub count : length e.code + room e.part ≤ nodes t
+  pub hands : handed_over e.code ≤ other_nodes t
 
-pub record TakesAll (n : ℕ) (ms : List Meeting) (es : EmittedAll Instr Part) : Type 0 where
-  pub low : n ≤ es.next
-  pub few : es.next ≤ n + met ms
+pub record TakesAll (ms : List Meeting) (es : EmittedAll Instr Part) : Type 0 where
   pub count : length es.code + rooms es.parts ≤ met ms
+  pub hands : handed_over es.code ≤ met_by other_nodes ms
 
-chain_takes : (n : ℕ) (t : Node) (e : Emitted Instr Part) (number : ℕ) (row : Row) → Takes n t e → is_chain row.pattern ≡ true → Applies mips_rules number row t (e.part ∷ []) e.to → Takes n t (with_chain mips_rules number t e)
-chain_takes n t e number row k chain a =
-    let c : length (code_by (action_at number) (e.part ∷ []) e.to) + room (part_by (action_at number) t (e.part ∷ []) e.to) ≤ rooms (e.part ∷ []) + one_unless (is_chain row.pattern) = counted_by e.to (applied number row t (e.part ∷ []) e.to a) in
+chain_takes : (t : Node) (e : Emitted Instr Part) (number : ℕ) (row : Row) → Takes t e → is_chain row.pattern ≡ true → Applies mips_rules number row t (e.part ∷ []) e.to → Takes t (with_chain mips_rules number t e)
+chain_takes t e number row k chain a =
+    let by = applied number row t (e.part ∷ []) e.to a in
+    let code : List Instr = code_by (action_at number) (e.part ∷ []) e.to in
+    let c : length code + room (part_by (action_at number) t (e.part ∷ []) e.to) ≤ rooms (e.part ∷ []) + one_unless (is_chain row.pattern) = counted_by e.to by in
     let o : one_unless (is_chain row.pattern) ≡ 0 = ap one_unless chain in
-    let l = length-append e.code (code_by (action_at number) (e.part ∷ []) e.to) in
+    let l = length-append e.code code in
     let f = k.count in
-    record { low = k.low; next = k.next; few = k.few; count = omega (arith, c, o, l, f) }
+    let w : handed_over code ≤ 0 = subst (λ b. handed_over code ≤ (if b then 0 else other_own (head_of t))) chain (handed_by e.to by) in
+    let x = handed_append e.code code in
+    let g = k.hands in
+    record { count = omega (arith, c, o, l, f); hands = omega (arith, w, x, g) }
 
-rule_takes : (n : ℕ) (t : Node) (ms : List Meeting) (es : EmittedAll Instr Part) (number : ℕ) (row : Row) → TakesAll n ms es → leaves_at row.pattern t ≡ Some ms → is_chain row.pattern ≡ false → Applies mips_rules number row t es.parts es.next → Takes n t (with_rule mips_rules number t es)
-rule_takes n t ms es number row k fits chain a =
+rule_takes : (t : Node) (ms : List Meeting) (es : EmittedAll Instr Part) (number : ℕ) (row : Row) → TakesAll ms es → leaves_at row.pattern t ≡ Some ms → is_chain row.pattern ≡ false → Applies mips_rules number row t es.parts es.next → Takes t (with_rule mips_rules number t es)
+rule_takes t ms es number row k fits chain a =
     let by = applied_at number row t es.parts es.next ms a fits in
-    let c : length (code_by (action_at number) es.parts es.next) + room (part_by (action_at number) t es.parts es.next) ≤ rooms es.parts + one_unless (is_chain row.pattern) = counted_by es.next by in
+    let code : List Instr = code_by (action_at number) es.parts es.next in
+    let c : length code + room (part_by (action_at number) t es.parts es.next) ≤ rooms es.parts + one_unless (is_chain row.pattern) = counted_by es.next by in
     let o : one_unless (is_chain row.pattern) ≡ 1 = ap one_unless chain in
     let m : met ms + 1 ≤ nodes t = fewer_met row.pattern t ms chain fits in
-    let l = length-append es.code (code_by (action_at number) es.parts es.next) in
+    let n : met_by other_nodes ms + other_own (head_of t) ≤ other_nodes t = fewer_met_by other_nodes other_own others_sum row.pattern t ms chain fits in
+    let l = length-append es.code code in
     let f = k.count in
-    let g = k.few in
-    record { low = k.low; next = refl; few = omega (arith, g, m); count = omega (arith, c, o, l, f, m) }
+    let w : handed_over code ≤ other_own (head_of t) = subst (λ b. handed_over code ≤ (if b then 0 else other_own (head_of t))) chain (handed_by es.next by) in
+    let x = handed_append es.code code in
+    let g = k.hands in
+    record { count = omega (arith, c, o, l, f, m); hands = omega (arith, w, x, g, n) }
 
-more_takes : (n : ℕ) (ms : List Meeting) (meeting : Meeting) (es : EmittedAll Instr Part) (e : Emitted Instr Part) → TakesAll n ms es → Takes es.next meeting.1 e → TakesAll n (ms ++ meeting ∷ []) (and_one es e)
-more_takes n ms meeting es e k l =
-    let a = k.low in
-    let b = k.few in
-    let c = l.low in
-    let d = l.few in
-    let f = l.next in
+more_takes : (ms : List Meeting) (meeting : Meeting) (es : EmittedAll Instr Part) (e : Emitted Instr Part) → TakesAll ms es → Takes meeting.1 e → TakesAll (ms ++ meeting ∷ []) (and_one es e)
+more_takes ms meeting es e k l =
     let s : met (ms ++ meeting ∷ []) ≡ met ms + (nodes meeting.1 + 0) = met_append ms (meeting ∷ []) in
+    let o : met_by other_nodes (ms ++ meeting ∷ []) ≡ met_by other_nodes ms + (other_nodes meeting.1 + 0) = met_by_append other_nodes ms (meeting ∷ []) in
     let r : rooms (es.parts ++ e.part ∷ []) ≡ rooms es.parts + (room e.part + 0) = rooms_append es.parts (e.part ∷ []) in
     let x = k.count in
     let y = l.count in
     let z = length-append es.code e.code in
-    record { low = omega (arith, a, c, f); few = omega (arith, b, d, s); count = omega (arith, s, r, x, y, z) }
+    let u = handed_append es.code e.code in
+    let v = k.hands in
+    let w = l.hands in
+    record { count = omega (arith, s, r, x, y, z); hands = omega (arith, o, u, v, w) }
 
 mutual
-  pub takes : {x : MDerivation} {t : Node} {n : ℕ} {e : Emitted Instr Part} → Emits mips_rules x t n e → Takes n t e
-  takes (ByChain {number} {row} {x} {t} {n} {e} one chain a) = chain_takes n t e number row (takes one) chain a
-  takes (ByRule {number} {row} {xs} {meetings} {t} {n} {es} all fits chain a) = rule_takes n t meetings es number row (take_all all) fits chain a
+  pub takes : {x : MDerivation} {t : Node} {n : ℕ} {e : Emitted Instr Part} → Emits mips_rules x t n e → Takes t e
+  takes (ByChain {number} {row} {x} {t} {n} {e} one chain a) = chain_takes t e number row (takes one) chain a
+  takes (ByRule {number} {row} {xs} {meetings} {t} {n} {es} all fits chain a) = rule_takes t meetings es number row (take_all all) fits chain a
 
-  pub take_all : {xs : List MDerivation} {ms : List Meeting} {n : ℕ} {es : EmittedAll Instr Part} → EmitsAll mips_rules xs ms n es → TakesAll n ms es
-  take_all (Nothing {n}) = record { low = omega arith; few = omega arith; count = omega arith }
-  take_all (OneMore {xs} {meetings} {x} meeting {n} {es} {e} all one) = more_takes n meetings meeting es e (take_all all) (takes one)
+  pub take_all : {xs : List MDerivation} {ms : List Meeting} {n : ℕ} {es : EmittedAll Instr Part} → EmitsAll mips_rules xs ms n es → TakesAll ms es
+  take_all (Nothing {n}) = record { count = omega arith; hands = omega arith }
+  take_all (OneMore {xs} {meetings} {x} meeting {n} {es} {e} all one) = more_takes meetings meeting es e (take_all all) (takes one)
 
 -- the address at a node is that of a name
 abbrev pub NamesOne : (ℕ → Type 0) → Node → Type 0
@@ -192,10 +261,10 @@ constant_small : (z : Option ℤ) → constant_of z < 2 ^ 32
 constant_small None = omega arith
 constant_small (Some z) = bits_small z
 
-module _ (named : ℕ → Type 0) (limit : ℕ) where
-  -- what a part names is below the limit, or named
+module _ (named : ℕ → Type 0) where
+  -- what a part names is virtual, a word, or named
   abbrev pub IsWithin : Part → Type 0
-  IsWithin (part.Register r) = IsBelow limit r
+  IsWithin (part.Register r) = 64 ≤ r
   IsWithin (part.Constant n) = n < 2 ^ 32
   IsWithin (part.Name name offset) = named name
   IsWithin part.Nothing = Unit {0}
@@ -214,7 +283,7 @@ module _ (named : ℕ → Type 0) (limit : ℕ) where
   name_within (symbol.Label l) h = h
   name_within (symbol.Block size align) h = h
 
-  added_by : {d : Action} {left : ℕ} {pattern : MPattern} {t : Node} {ps : List Part} {ms : List Meeting} (to : ℕ) → Applied d left pattern t ps ms → IsBelow limit to → AreWithin ps → NamesOne named t → AreAdded named limit (code_by d ps to) × IsWithin (part_by d t ps to)
+  added_by : {d : Action} {left : ℕ} {pattern : MPattern} {t : Node} {ps : List Part} {ms : List Meeting} (to : ℕ) → Applied d left pattern t ps ms → 64 ≤ to → AreWithin ps → NamesOne named t → AreAdded named (code_by d ps to) × IsWithin (part_by d t ps to)
   added_by to (Discards t r low) b w n = (tt, tt)
   added_by to (TakesConstant h e) b w n = (tt, constant_small h.value)
   added_by to (PassesConstant t m) b w n = (tt, w.0)
@@ -229,28 +298,20 @@ module _ (named : ℕ → Type 0) (limit : ℕ) where
   added_by to (Returns h x r low e) b w n = ((AddsReturn r w.0, tt), tt)
 
   mutual
-    pub added : {x : MDerivation} {t : Node} {n : ℕ} {e : Emitted Instr Part} → Emits mips_rules x t n e → e.next ≤ limit → AtEachNode (NamesOne named) t → AreAdded named limit e.code × IsWithin e.part
-    added (ByChain {number} {row} {x} {t} {n} {e} one chain a) le k =
-        let f = (takes one).next in
-        let h = added one le k in
-        let lt : e.to < limit = omega (arith, f, le) in
-        let s = added_by e.to (applied number row t (e.part ∷ []) e.to a) (a.to_virtual, lt) (h.1, tt) (at_root (NamesOne named) t k) in
-        (added_append named limit e.code (code_by (action_at number) (e.part ∷ []) e.to) h.0 s.0, s.1)
-    added (ByRule {number} {row} {xs} {meetings} {t} {n} {es} all fits chain a) le k =
+    pub added : {x : MDerivation} {t : Node} {n : ℕ} {e : Emitted Instr Part} → Emits mips_rules x t n e → AtEachNode (NamesOne named) t → AreAdded named e.code × IsWithin e.part
+    added (ByChain {number} {row} {x} {t} {n} {e} one chain a) k =
+        let h = added one k in
+        let s = added_by e.to (applied number row t (e.part ∷ []) e.to a) a.to_virtual (h.1, tt) (at_root (NamesOne named) t k) in
+        (added_append named e.code (code_by (action_at number) (e.part ∷ []) e.to) h.0 s.0, s.1)
+    added (ByRule {number} {row} {xs} {meetings} {t} {n} {es} all fits chain a) k =
         let by = applied_at number row t es.parts es.next meetings a fits in
-        let les : es.next ≤ limit = omega (arith, le) in
-        let lt : es.next < limit = omega (arith, le) in
-        let h = added_all all les (at_met (NamesOne named) by k) in
-        let s = added_by es.next by (a.to_virtual, lt) h.1 (at_root (NamesOne named) t k) in
-        (added_append named limit es.code (code_by (action_at number) es.parts es.next) h.0 s.0, s.1)
+        let h = added_all all (at_met (NamesOne named) by k) in
+        let s = added_by es.next by a.to_virtual h.1 (at_root (NamesOne named) t k) in
+        (added_append named es.code (code_by (action_at number) es.parts es.next) h.0 s.0, s.1)
 
-    pub added_all : {xs : List MDerivation} {ms : List Meeting} {n : ℕ} {es : EmittedAll Instr Part} → EmitsAll mips_rules xs ms n es → es.next ≤ limit → EachMet (NamesOne named) ms → AreAdded named limit es.code × AreWithin es.parts
-    added_all (Nothing {n}) le k = (tt, tt)
-    added_all (OneMore {xs} {meetings} {x} meeting {n} {es} {e} all one) le k =
-        let t = takes one in
-        let f = t.next in
-        let g = t.low in
-        let les : es.next ≤ limit = omega (arith, le, f, g) in
-        let h = added_all all les (each_front (NamesOne named) meetings meeting k) in
-        let s = added one le (each_last (NamesOne named) meetings meeting k) in
-        (added_append named limit es.code e.code h.0 s.0, within_more es.parts e.part h.1 s.1)
+    pub added_all : {xs : List MDerivation} {ms : List Meeting} {n : ℕ} {es : EmittedAll Instr Part} → EmitsAll mips_rules xs ms n es → EachMet (NamesOne named) ms → AreAdded named es.code × AreWithin es.parts
+    added_all (Nothing {n}) k = (tt, tt)
+    added_all (OneMore {xs} {meetings} {x} meeting {n} {es} {e} all one) k =
+        let h = added_all all (each_front (NamesOne named) meetings meeting k) in
+        let s = added one (each_last (NamesOne named) meetings meeting k) in
+        (added_append named es.code e.code h.0 s.0, within_more es.parts e.part h.1 s.1)

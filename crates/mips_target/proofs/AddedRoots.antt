@@ -9,7 +9,7 @@ use Rattle.vcode.specs.VirtualCode.{joined}
 use Rattle.vcode.specs.Emission.{EmitsRoots, NoRoot, OneRoot}
 use Rattle.mips_rules.specs.declared.instr.Instr.{Instr}
 use Rattle.mips_rules.specs.MipsRules.{mips_rules}
-use Rattle.mips_target.proofs.Added.{AreAdded, added_append, takes, NamesOne, added}
+use Rattle.mips_target.proofs.Added.{AreAdded, added_append, handed_over, handed_append, other_nodes, takes, NamesOne, added}
 
 pub joined_more : {I : Type 0} (stretches : List (List I)) (code : List I) → joined (stretches ++ code ∷ []) ≡ joined stretches ++ code
 joined_more [] code = append-nil code
@@ -24,37 +24,32 @@ pub roots_last : (P : Node → Type 0) (ts : List Node) (t : Node) → AllByRecu
 roots_last P [] t h = h.0
 roots_last P (u ∷ ts) t h = roots_last P ts t h.1
 
--- where registers are free from n on, those up to next are taken, and so many instructions added
-pub record RootsTake (n : ℕ) (ts : List Node) (stretches : List (List Instr)) (next : ℕ) : Type 0 where
-  pub low : n ≤ next
-  pub few : next ≤ n + sum_by nodes ts
+-- so many instructions are added, and argument words handed over
+pub record RootsTake (ts : List Node) (stretches : List (List Instr)) : Type 0 where
   pub count : length (joined stretches) ≤ sum_by nodes ts
+  pub hands : handed_over (joined stretches) ≤ sum_by other_nodes ts
 
-pub roots_take : {xs : List MDerivation} {ts : List Node} {n : ℕ} {stretches : List (List Instr)} {next : ℕ} → EmitsRoots mips_rules xs ts n stretches next → RootsTake n ts stretches next
-roots_take (NoRoot {n}) = record { low = omega arith; few = omega arith; count = omega arith }
+pub roots_take : {xs : List MDerivation} {ts : List Node} {n : ℕ} {stretches : List (List Instr)} {next : ℕ} → EmitsRoots mips_rules xs ts n stretches next → RootsTake ts stretches
+roots_take (NoRoot {n}) = record { count = omega arith; hands = omega arith }
 roots_take (OneRoot {xs} {ts} {x} {t} {n} {n'} {stretches} {e} before one) =
     let k = roots_take before in
     let l = takes one in
-    let a = k.low in
-    let b = k.few in
     let c = k.count in
-    let d = l.low in
-    let f = l.next in
-    let g = l.few in
     let h = l.count in
+    let d = k.hands in
+    let g = l.hands in
     let s : sum_by nodes (ts ++ t ∷ []) ≡ sum_by nodes ts + (0 + nodes t) = sum_by-append nodes ts (t ∷ []) in
+    let o : sum_by other_nodes (ts ++ t ∷ []) ≡ sum_by other_nodes ts + (0 + other_nodes t) = sum_by-append other_nodes ts (t ∷ []) in
     let j : length (joined (stretches ++ e.code ∷ [])) ≡ length (joined stretches ++ e.code) = ap length (joined_more stretches e.code) in
+    let m : handed_over (joined (stretches ++ e.code ∷ [])) ≡ handed_over (joined stretches ++ e.code) = ap handed_over (joined_more stretches e.code) in
     let i = length-append (joined stretches) e.code in
-    record { low = omega (arith, a, d, f); few = omega (arith, b, g, s); count = omega (arith, c, h, s, j, i) }
+    let q = handed_append (joined stretches) e.code in
+    record { count = omega (arith, c, h, s, j, i); hands = omega (arith, d, g, o, m, q) }
 
 -- and this is what they are
-pub roots_added : (named : ℕ → Type 0) (limit : ℕ) {xs : List MDerivation} {ts : List Node} {n : ℕ} {stretches : List (List Instr)} {next : ℕ} → EmitsRoots mips_rules xs ts n stretches next → next ≤ limit → AllByRecursion (AtEachNode (NamesOne named)) ts → AreAdded named limit (joined stretches)
-roots_added named limit (NoRoot {n}) le h = tt
-roots_added named limit (OneRoot {xs} {ts} {x} {t} {n} {n'} {stretches} {e} before one) le h =
-    let l = takes one in
-    let d = l.low in
-    let f = l.next in
-    let le' : n' ≤ limit = omega (arith, le, d, f) in
-    let a = roots_added named limit before le' (roots_front (AtEachNode (NamesOne named)) ts t h) in
-    let b = added named limit one le (roots_last (AtEachNode (NamesOne named)) ts t h) in
-    subst (AreAdded named limit) (sym (joined_more stretches e.code)) (added_append named limit (joined stretches) e.code a b.0)
+pub roots_added : (named : ℕ → Type 0) {xs : List MDerivation} {ts : List Node} {n : ℕ} {stretches : List (List Instr)} {next : ℕ} → EmitsRoots mips_rules xs ts n stretches next → AllByRecursion (AtEachNode (NamesOne named)) ts → AreAdded named (joined stretches)
+roots_added named (NoRoot {n}) h = tt
+roots_added named (OneRoot {xs} {ts} {x} {t} {n} {n'} {stretches} {e} before one) h =
+    let a = roots_added named before (roots_front (AtEachNode (NamesOne named)) ts t h) in
+    let b = added named one (roots_last (AtEachNode (NamesOne named)) ts t h) in
+    subst (AreAdded named) (sym (joined_more stretches e.code)) (added_append named (joined stretches) e.code a b.0)

@@ -6,6 +6,7 @@ use Rattle.std.proofs.lemmas.List.Elements.{recursion_from_All}
 use Rattle.std.proofs.lemmas.Option.{same_Some}
 use Rattle.lburg_grammar.specs.Derivation.{MDerivation}
 use Rattle.lburg_grammar.specs.Pattern.{MPattern}
+use Rattle.op_forest.specs.declared.forest.Forest.{Forest}
 use Rattle.op_forest.specs.declared.op.Op.{Op}
 use Rattle.op_forest.specs.declared.op.Op.TheVariants.{Addrg}
 use Rattle.op_forest.specs.declared.suffix.Suffix.{Suffix}
@@ -15,7 +16,7 @@ use Rattle.op_forest.specs.declared.sym.Sym.TheVariants as symbol
 use Rattle.op_forest.specs.Nodes.{Head, Node, Leaf, One, Two, head_of, number_of}
 use Rattle.op_forest.specs.EachNode.{AtEachNode}
 use Rattle.op_forest.specs.Lowered.{LoweredUnit}
-use Rattle.op_forest.specs.WellFormed.{HasKind, HasPart, IsGlobal, IsWellFormed}
+use Rattle.op_forest.specs.WellFormed.{HasKind, HasPart, IsGlobal, AreGood}
 use Rattle.vcode.specs.declared.operand.Operand.{Operand}
 use Rattle.vcode.specs.Patterns.{Meeting, leaves_at}
 use Rattle.vcode.specs.RuleSets.{Row, Applies}
@@ -230,15 +231,15 @@ both_at F G (Leaf h) a b = (a, b)
 both_at F G (One h x) a b = ((a.0, b.0), both_at F G x a.1 b.1)
 both_at F G (Two h x y) a b = ((a.0, b.0), both_at F G x a.1 b.1, both_at F G y a.2 b.2)
 
-well_formed_name : (Q : ℕ → Type 0) (ts : List Node) → IsWellFormed ts → AllByRecursion (AtEachNode (λ t. SymbolHas Q (head_of t).sym)) ts → AllByRecursion (AtEachNode (Names Q)) ts
-well_formed_name Q [] w h = tt
-well_formed_name Q (t ∷ ts) w h = (both_at HasKind (λ x. SymbolHas Q (head_of x).sym) t w.0.fit.kinds h.0, well_formed_name Q ts w.1 h.1)
+well_formed_name : (Q : ℕ → Type 0) (f : Forest) (ts : List Node) → AreGood f ts → AllByRecursion (AtEachNode (λ t. SymbolHas Q (head_of t).sym)) ts → AllByRecursion (AtEachNode (Names Q)) ts
+well_formed_name Q f [] w h = tt
+well_formed_name Q f (t ∷ ts) w h = (both_at HasKind (λ x. SymbolHas Q (head_of x).sym) t w.0.fit.kinds h.0, well_formed_name Q f ts w.1 h.1)
 
 -- each name that the code of these roots calls is that of a global at a node of them
-pub calls_have : (Q : ℕ → Type 0) (roots : List Node) (virtual : MCode Instr) → IsSelected roots virtual → IsWellFormed roots → All (AtEachNode (λ t. SymbolHas Q (head_of t).sym)) roots → CallsAre Q (allotted_code virtual)
-calls_have Q roots virtual selected w h =
+pub calls_have : (Q : ℕ → Type 0) (f : Forest) (roots : List Node) (virtual : MCode Instr) → IsSelected roots virtual → AreGood f roots → All (AtEachNode (λ t. SymbolHas Q (head_of t).sym)) roots → CallsAre Q (allotted_code virtual)
+calls_have Q f roots virtual selected w h =
     let l = selected.linearised in
-    let each = well_formed_name Q roots w (recursion_from_All (AtEachNode (λ t. SymbolHas Q (head_of t).sym)) roots h) in
+    let each = well_formed_name Q f roots w (recursion_from_All (AtEachNode (λ t. SymbolHas Q (head_of t).sym)) roots h) in
     allotted_calls Q temporaries virtual.code (subst (CallsAre Q) (sym l.code) (roots_name Q l.emits each))
 
 callable_symbol : (u : LoweredUnit) (x : Sym) → HasCallable u x → SymbolHas (IsCallable u) x
@@ -253,5 +254,5 @@ callable_at u (One h a) k = (callable_symbol u h.sym k.0, callable_at u a k.1)
 callable_at u (Two h a b) k = (callable_symbol u h.sym k.0, callable_at u a k.1, callable_at u b k.2)
 
 -- where each global at a node can be called, so can each name that the code calls
-pub calls_callable : (u : LoweredUnit) (roots : List Node) (virtual : MCode Instr) → IsSelected roots virtual → IsWellFormed roots → All (AtEachNode (λ t. HasCallable u (head_of t).sym)) roots → CallsAre (IsCallable u) (allotted_code virtual)
-calls_callable u roots virtual selected w h = calls_have (IsCallable u) roots virtual selected w (λ k d below. callable_at u _ (h k d below))
+pub calls_callable : (u : LoweredUnit) (f : Forest) (roots : List Node) (virtual : MCode Instr) → IsSelected roots virtual → AreGood f roots → All (AtEachNode (λ t. HasCallable u (head_of t).sym)) roots → CallsAre (IsCallable u) (allotted_code virtual)
+calls_callable u f roots virtual selected w h = calls_have (IsCallable u) f roots virtual selected w (λ k d below. callable_at u _ (h k d below))

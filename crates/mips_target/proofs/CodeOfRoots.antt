@@ -1,9 +1,10 @@
 -- The instructions of a function's roots, from their allocated code.
 use Rattle.std.proofs.Common.{◌≡◌, IfOk, Result, Ok, Err, ℕ, ◌+◌, ◌*◌, ◌≤◌, List, length, sum_by, All, sym, ap, ◌∙◌, subst, arith}
 use Rattle.asm_text.specs.declared.instruction.Instruction.{Instruction}
+use Rattle.op_forest.specs.declared.forest.Forest.{Forest}
 use Rattle.op_forest.specs.Nodes.{Node, nodes, head_of}
 use Rattle.op_forest.specs.EachNode.{AtEachNode}
-use Rattle.op_forest.specs.WellFormed.{IsWellFormed}
+use Rattle.op_forest.specs.WellFormed.{AreGood}
 use Rattle.op_forest.specs.Lowered.{LoweredUnit, IsKnown, IsUnitName}
 use Rattle.vcode.specs.VirtualCode.{MAllocated}
 use Rattle.mips_rules.specs.declared.instr.Instr.{Instr}
@@ -21,7 +22,7 @@ use Rattle.mips_target.specs.Allocated.{IsAllocated}
 use Rattle.mips_target.specs.Generated.{temporaries, frame_bound, IsCodeOf}
 use Rattle.mips_target.proofs.Allotted.{allotted_code, layout_of}
 use Rattle.mips_target.proofs.Calls.{calls_callable}
-use Rattle.mips_target.proofs.Emission.{code_slots, allotted_length, argument_words_few, code_fits, code_names_among}
+use Rattle.mips_target.proofs.Emission.{allotted_length, words_few as frame_words, code_fits, code_names_among}
 use Rattle.mips_target.proofs.EmittedLines.{code_emits}
 use Rattle.mips_target.proofs.Lengths.{code_small, frame_small}
 use Rattle.mips_target.proofs.Unmarked.{function_lines}
@@ -30,27 +31,26 @@ use Rattle.mips_target.proofs.Unmarked.{function_lines}
 abbrev pub layout_for : MAllocated Instr → Layout
 layout_for c = record { arguments = argument_words c.code; slots = c.slots }
 
-module _ (roots : List Node) (c : MAllocated Instr) (a : IsAllocated roots c) where
+module _ (f : Forest) (roots : List Node) (c : MAllocated Instr) (a : IsAllocated roots c) where
   same_layout : layout_of a.virtual ≡ layout_for c
   same_layout = (λ i. record { arguments = argument_words (sym a.code i); slots = sym a.slots i })
 
   pub length_few : length c.code ≤ 4 * sum_by nodes roots
-  length_few = let e = ap length a.code in let f = allotted_length roots a.selected.derivations a.virtual a.selected.linearised in omega (arith, e, f)
+  length_few = let e = ap length a.code in let g = allotted_length roots a.selected.derivations a.virtual a.selected.linearised in omega (arith, e, g)
 
-  pub words_few : argument_words c.code + c.slots ≤ 4 + 2 * sum_by nodes roots
+  pub words_few : argument_words c.code + c.slots ≤ 4 + sum_by nodes roots
   words_few =
       let e = ap argument_words a.code in
-      let f = argument_words_few roots a.selected.derivations a.virtual a.selected.linearised in
-      let g = code_slots roots a.selected.derivations a.virtual a.selected.linearised in
+      let g = frame_words roots a.selected.derivations a.virtual a.selected.linearised in
       let h = a.slots in
-      omega (arith, e, f, g, h)
+      omega (arith, e, g, h)
 
-  pub fits : (u : LoweredUnit) → IsWellFormed roots → All (AtEachNode (λ t. IsKnown u roots (head_of t).sym)) roots → Fits u.names (layout_for c) 0 c.code
+  pub fits : (u : LoweredUnit) → AreGood f roots → All (AtEachNode (λ t. IsKnown u roots (head_of t).sym)) roots → Fits u.names (layout_for c) 0 c.code
   fits u w k =
-      subst (Fits u.names (layout_for c) 0) (sym a.code) (subst (λ l. Fits u.names l 0 (allotted_code a.virtual)) same_layout (code_fits roots a.selected.derivations a.virtual a.selected.linearised u w k))
+      subst (Fits u.names (layout_for c) 0) (sym a.code) (subst (λ l. Fits u.names l 0 (allotted_code a.virtual)) same_layout (code_fits roots a.selected.derivations a.virtual a.selected.linearised u f w k))
 
   -- the instructions are those of a function of the roots
-  pub is_code : (u : LoweredUnit) (labels : ℕ → List ℕ) → IsWellFormed roots → All IsUnitName u.names → All (AtEachNode (λ t. IsKnown u roots (head_of t).sym)) roots → (code : List Instruction) → unmarked code ≡ function_code u.names (layout_for c) c.code → IsCodeOf u labels roots (unmarked code)
+  pub is_code : (u : LoweredUnit) (labels : ℕ → List ℕ) → AreGood f roots → All IsUnitName u.names → All (AtEachNode (λ t. IsKnown u roots (head_of t).sym)) roots → (code : List Instruction) → unmarked code ≡ function_code u.names (layout_for c) c.code → IsCodeOf u labels roots (unmarked code)
   is_code u labels w n k code made =
       let v = a.virtual in
       let s = a.selected in
@@ -68,13 +68,13 @@ module _ (roots : List Node) (c : MAllocated Instr) (a : IsAllocated roots c) wh
         registers = subst (NamesAmong mips temporaries) (sym a.code) (code_names_among roots s.derivations v s.linearised);
         fits = fits u w k;
         made = made;
-        calls = λ callable. subst (CallsAre (IsCallable u)) (sym a.code) (calls_callable u roots v s w callable);
-        emits = subst (λ l. Emits u.names labels (frame_size l) s.derivations roots (unmarked code)) same_layout (subst (Emits u.names labels (frame_size (layout_of v)) s.derivations roots) (sym is) (code_emits u roots s.derivations v s.linearised labels s.description s.shipped s.best w k n));
-        frame = subst (λ l. frame_size l ≤ frame_bound (sum_by nodes roots)) same_layout (frame_small (layout_of v) (sum_by nodes roots) (argument_words_few roots s.derivations v s.linearised) (code_slots roots s.derivations v s.linearised));
+        calls = λ callable. subst (CallsAre (IsCallable u)) (sym a.code) (calls_callable u f roots v s w callable);
+        emits = subst (λ l. Emits u.names labels (frame_size l) s.derivations roots (unmarked code)) same_layout (subst (Emits u.names labels (frame_size (layout_of v)) s.derivations roots) (sym is) (code_emits u f roots s.derivations v s.linearised labels s.description s.shipped s.best w k n));
+        frame = subst (λ l. frame_size l ≤ frame_bound (sum_by nodes roots)) same_layout (frame_small (layout_of v) (sum_by nodes roots) (frame_words roots s.derivations v s.linearised));
         short = omega (arith, short, e);
       }
 
-  pub are_code : {E : Type 0} (u : LoweredUnit) (labels : ℕ → List ℕ) (result : Result (List Instruction) E) → IsWellFormed roots → All IsUnitName u.names → All (AtEachNode (λ t. IsKnown u roots (head_of t).sym)) roots → IfOk result (λ code. unmarked code ≡ function_code u.names (layout_for c) c.code) → IfOk result (λ code. IsCodeOf u labels roots (unmarked code))
+  pub are_code : {E : Type 0} (u : LoweredUnit) (labels : ℕ → List ℕ) (result : Result (List Instruction) E) → AreGood f roots → All IsUnitName u.names → All (AtEachNode (λ t. IsKnown u roots (head_of t).sym)) roots → IfOk result (λ code. unmarked code ≡ function_code u.names (layout_for c) c.code) → IfOk result (λ code. IsCodeOf u labels roots (unmarked code))
   are_code u labels (Ok code) w n k made = is_code u labels w n k code made
   are_code u labels (Err e) w n k made = tt
 

@@ -3,13 +3,14 @@ use Rattle.std.proofs.Common.{◌≡◌, ℕ, ◌+◌, ◌*◌, ◌≤◌, ◌<�
 use Rattle.std.specs.List.{AllByRecursion, sum_by}
 use Rattle.std.proofs.lemmas.List.Elements.{recursion_from_All}
 use Rattle.lburg_grammar.specs.Derivation.{MDerivation}
+use Rattle.op_forest.specs.declared.forest.Forest.{Forest}
 use Rattle.op_forest.specs.declared.op.Op.TheVariants as op
 use Rattle.op_forest.specs.declared.suffix.Suffix.TheVariants as suffix
 use Rattle.op_forest.specs.declared.sym.Sym.{Sym}
 use Rattle.op_forest.specs.declared.sym.Sym.TheVariants as symbol
-use Rattle.op_forest.specs.Nodes.{Node, Leaf, One, Two, head_of, nodes}
+use Rattle.op_forest.specs.Nodes.{Node, Leaf, One, Two, head_of, nodes, value_nodes}
 use Rattle.op_forest.specs.EachNode.{AtEachNode}
-use Rattle.op_forest.specs.WellFormed.{op_of, suffix_of, IsGlobal, HasPart, HasKind, HasKinds, IsWellFormed}
+use Rattle.op_forest.specs.WellFormed.{op_of, suffix_of, IsGlobal, HasPart, HasKind, HasKinds, AreGood}
 use Rattle.op_forest.specs.Lowered.{LoweredUnit, IsKnown}
 use Rattle.vcode.specs.VirtualCode.{MCode, joined}
 use Rattle.vcode.specs.Emission.{IsLinearised}
@@ -23,7 +24,7 @@ use Rattle.mips_target.specs.FunctionCode.{most_handed, argument_words}
 use Rattle.mips_target.specs.Registers.{NamesAmong}
 use Rattle.mips_target.specs.Sizes.{Fits}
 use Rattle.mips_target.specs.Generated.{temporaries}
-use Rattle.mips_target.proofs.Added.{AreAdded, NamesOne}
+use Rattle.mips_target.proofs.Added.{AreAdded, handed_over, other_nodes, either_in, NamesOne}
 use Rattle.mips_target.proofs.AddedRoots.{roots_take, roots_added}
 use Rattle.mips_target.proofs.Allotted.{put_all, allotted_code, layout_of, allotted_is, names_kept, names_among, slots_few, put_long, hands_few, fits}
 
@@ -38,9 +39,9 @@ pub each_root : (P Q R : Node → Type 0) → ((t : Node) → P t → Q t → R 
 each_root P Q R go [] p q = tt
 each_root P Q R go (t ∷ ts) p q = (go t p.0 q.0, each_root P Q R go ts p.1 q.1)
 
-pub kinds_of : (ts : List Node) → IsWellFormed ts → AllByRecursion HasKinds ts
-kinds_of [] h = tt
-kinds_of (t ∷ ts) h = (h.0.fit.kinds, kinds_of ts h.1)
+pub kinds_of : (f : Forest) (ts : List Node) → AreGood f ts → AllByRecursion HasKinds ts
+kinds_of f [] h = tt
+kinds_of f (t ∷ ts) h = (h.0.fit.kinds, kinds_of f ts h.1)
 
 -- each number is a name's
 abbrev pub AnyName : ℕ → Type 0
@@ -72,33 +73,30 @@ IsIn u name = name < length u.names
 names_known : (u : LoweredUnit) (roots : List Node) (t : Node) → HasKind t → IsKnown u roots (head_of t).sym → NamesOne (IsIn u) t
 names_known u roots t h k e = known_name u roots (head_of t).sym (is_global t h (is_addrgp (head_of t) e)) k
 
-pub roots_known : (u : LoweredUnit) (roots ts : List Node) → IsWellFormed ts → All (AtEachNode (λ t. IsKnown u roots (head_of t).sym)) ts → AllByRecursion (AtEachNode (NamesOne (IsIn u))) ts
-roots_known u roots ts w k =
+pub roots_known : (u : LoweredUnit) (f : Forest) (roots ts : List Node) → AreGood f ts → All (AtEachNode (λ t. IsKnown u roots (head_of t).sym)) ts → AllByRecursion (AtEachNode (NamesOne (IsIn u))) ts
+roots_known u f roots ts w k =
     let Known : Node → Type 0 = λ t. IsKnown u roots (head_of t).sym in
-    each_root HasKinds (AtEachNode Known) (AtEachNode (NamesOne (IsIn u))) (each_both HasKind Known (NamesOne (IsIn u)) (names_known u roots)) ts (kinds_of ts w) (recursion_from_All (AtEachNode Known) ts k)
+    each_root HasKinds (AtEachNode Known) (AtEachNode (NamesOne (IsIn u))) (each_both HasKind Known (NamesOne (IsIn u)) (names_known u roots)) ts (kinds_of f ts w) (recursion_from_All (AtEachNode Known) ts k)
 
 -- ---- of linearised code
 
 module _ (roots : List Node) (derivations : List MDerivation) (c : MCode Instr) (h : IsLinearised mips mips_rules roots derivations c) where
-  -- as many registers are taken as there are nodes, or fewer
-  pub few_registers : h.next ≤ 64 + sum_by nodes roots
-  few_registers = (roots_take h.emits).few
-
-  -- each register is virtual and below the next one that is free
-  pub code_added : AreAdded AnyName h.next c.code
-  code_added = subst (AreAdded AnyName h.next) (sym h.code) (roots_added AnyName h.next h.emits (omega arith) (any_names roots))
+  -- each register is virtual
+  pub code_added : AreAdded AnyName c.code
+  code_added = subst (AreAdded AnyName) (sym h.code) (roots_added AnyName h.emits (any_names roots))
 
   pub code_names_kept : NamesKept mips temporaries c.code
-  code_names_kept = names_kept AnyName h.next c.code code_added
+  code_names_kept = names_kept AnyName c.code code_added
 
   pub allotted_put : allotted_code c ≡ put_all c.code
-  allotted_put = allotted_is AnyName h.next c.code code_added
+  allotted_put = allotted_is AnyName c.code code_added
 
   pub code_names_among : NamesAmong mips temporaries (allotted_code c)
-  code_names_among = subst (NamesAmong mips temporaries) (sym allotted_put) (names_among AnyName h.next c.code code_added)
+  code_names_among = subst (NamesAmong mips temporaries) (sym allotted_put) (names_among AnyName c.code code_added)
 
-  pub code_slots : slots_needed mips c.code ≤ sum_by nodes roots
-  code_slots = slots_few AnyName h.next (sum_by nodes roots) c.code few_registers code_added
+  -- a slot for each node that gives a value
+  pub code_slots : slots_needed mips c.code ≤ sum_by value_nodes roots
+  code_slots = slots_few h.next (sum_by value_nodes roots) c.code h.few h.names
 
   pub code_length : length c.code ≤ sum_by nodes roots
   code_length = let a = (roots_take h.emits).count in let b : length c.code ≡ length (joined h.stretches) = ap length h.code in omega (arith, a, b)
@@ -106,27 +104,36 @@ module _ (roots : List Node) (derivations : List MDerivation) (c : MCode Instr) 
   pub allotted_length : length (allotted_code c) ≤ 4 * sum_by nodes roots
   allotted_length =
       let a = code_length in
-      let b = put_long AnyName h.next c.code code_added in
+      let b = put_long AnyName c.code code_added in
       let d : length (allotted_code c) ≡ length (put_all c.code) = ap length allotted_put in
       omega (arith, a, b, d)
 
-  -- at most one argument word is handed for each node
-  pub most_handed_few : most_handed 0 (allotted_code c) ≤ sum_by nodes roots
+  -- at most one argument word is handed for each node that gives no value
+  pub most_handed_few : most_handed 0 (allotted_code c) ≤ sum_by other_nodes roots
   most_handed_few =
-      let a = code_length in
-      let b : most_handed 0 (put_all c.code) ≤ 0 + length c.code = hands_few AnyName h.next c.code code_added 0 in
+      let a = (roots_take h.emits).hands in
+      let e : handed_over c.code ≡ handed_over (joined h.stretches) = ap handed_over h.code in
+      let b : most_handed 0 (put_all c.code) ≤ 0 + handed_over c.code = hands_few AnyName c.code code_added 0 in
       let d : most_handed 0 (allotted_code c) ≡ most_handed 0 (put_all c.code) = ap (most_handed 0) allotted_put in
-      omega (arith, a, b, d)
+      omega (arith, a, b, d, e)
 
-  pub argument_words_few : argument_words (allotted_code c) ≤ 4 + sum_by nodes roots
+  pub argument_words_few : argument_words (allotted_code c) ≤ 4 + sum_by other_nodes roots
   argument_words_few = let a = most_handed_few in omega (arith, a)
 
-  -- where its names are those of a unit, its code fits the frame that is laid out for it
-  pub code_named : (u : LoweredUnit) → IsWellFormed roots → All (AtEachNode (λ t. IsKnown u roots (head_of t).sym)) roots → AreAdded (IsIn u) h.next c.code
-  code_named u w k = subst (AreAdded (IsIn u) h.next) (sym h.code) (roots_added (IsIn u) h.next h.emits (omega arith) (roots_known u roots roots w k))
+  -- a word of the frame for each node, and four
+  pub words_few : argument_words (allotted_code c) + slots_needed mips c.code ≤ 4 + sum_by nodes roots
+  words_few =
+      let a = argument_words_few in
+      let b = code_slots in
+      let e = either_in roots in
+      omega (arith, a, b, e)
 
-  pub code_fits : (u : LoweredUnit) → IsWellFormed roots → All (AtEachNode (λ t. IsKnown u roots (head_of t).sym)) roots → Fits u.names (layout_of c) 0 (allotted_code c)
-  code_fits u w k =
+  -- where its names are those of a unit, its code fits the frame that is laid out for it
+  pub code_named : (u : LoweredUnit) (f : Forest) → AreGood f roots → All (AtEachNode (λ t. IsKnown u roots (head_of t).sym)) roots → AreAdded (IsIn u) c.code
+  code_named u f w k = subst (AreAdded (IsIn u)) (sym h.code) (roots_added (IsIn u) h.emits (roots_known u f roots roots w k))
+
+  pub code_fits : (u : LoweredUnit) (f : Forest) → AreGood f roots → All (AtEachNode (λ t. IsKnown u roots (head_of t).sym)) roots → Fits u.names (layout_of c) 0 (allotted_code c)
+  code_fits u f w k =
       let d : most_handed 0 (allotted_code c) ≡ most_handed 0 (put_all c.code) = ap (most_handed 0) allotted_put in
       let m : most_handed 0 (put_all c.code) ≤ (layout_of c).arguments = omega (arith, d) in
-      subst (Fits u.names (layout_of c) 0) (sym allotted_put) (fits u.names (layout_of c) h.next c.code (code_named u w k) (omega arith) 0 m)
+      subst (Fits u.names (layout_of c) 0) (sym allotted_put) (fits u.names (layout_of c) c.code (code_named u f w k) (omega arith) 0 m)

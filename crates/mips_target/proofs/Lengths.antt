@@ -47,5 +47,5 @@ code_length names l code = let b = body_length names l zero code in omega (arith
 pub code_small : (names : List (List ℕ)) (l : Layout) (code : List Instr) (n : ℕ) → length code ≤ 4 * n → length (function_instructions names l code) ≤ code_bound n
 code_small names l code n h = let b = code_length names l code in omega (arith, b, h)
 
-pub frame_small : (l : Layout) (n : ℕ) → l.arguments ≤ 4 + n → l.slots ≤ n → frame_size l ≤ frame_bound n
-frame_small l n a b = omega (arith, a, b)
+pub frame_small : (l : Layout) (n : ℕ) → l.arguments + l.slots ≤ 4 + n → frame_size l ≤ frame_bound n
+frame_small l n a = omega (arith, a)

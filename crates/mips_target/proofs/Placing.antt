@@ -12,13 +12,13 @@ use Rattle.asm_text.specs.declared.line.Statement.TheVariants as statement
 use Rattle.asm_text.specs.declared.line.Directive.TheVariants as directive
 use Rattle.asm_text.specs.declared.program.Program.{Program}
 use Rattle.asm_text.specs.declared.program.Label.{Label}
-use Rattle.asm_text.specs.Program.{code_of, code_in, label_at, labels_from, names_of_instruction, names_of, names_in, AreDistinct, Makes}
+use Rattle.asm_text.specs.Program.{code_of, code_in, label_at, labels_from, place_of, names_of_instruction, names_of, names_in, AreDistinct, Makes}
 use Rattle.mips_target.specs.Items.{CodeItem, Line, Mark, lines_in, StandsIn}
 use Rattle.mips_target.specs.UnitLines.{Item, Coded, plain, numbered, code_lines, items_of, unit_lines}
 use Rattle.op_forest.specs.Lowered.{LoweredUnit}
 use Rattle.mips_target.specs.Generated.{IsFunction, IsGenerated}
 use Rattle.mips_target.specs.UnitProgram.{IsUnitProgram}
-use Rattle.mips_target.specs.Entries.{place_of, codes_of, marks_from, labels_of, HasEntry}
+use Rattle.mips_target.specs.Entries.{codes_of, marks_from, labels_of, HasEntry}
 
 -- ---- the code of functions
 

@@ -97,7 +97,7 @@ module _ (names : List (List ℕ)) (l : Layout) where
   abbrev Behind : List Instr → Type 0
   Behind is = (k : ℕ) → Fits names l k (put_all is) → templates_in l (body_instructions names l k (put_all is)) ≡ plain_all names is
 
-  one_plain : {named : ℕ → Type 0} {limit : ℕ} {i : Instr} (is : List Instr) → 4 ≤ l.arguments → IsAdded named limit i → Behind is → (k : ℕ) → Fits names l k (put i ++ put_all is) → templates_in l (body_instructions names l k (put i ++ put_all is)) ≡ plain names i ++ plain_all names is
+  one_plain : {named : ℕ → Type 0} {i : Instr} (is : List Instr) → 4 ≤ l.arguments → IsAdded named i → Behind is → (k : ℕ) → Fits names l k (put i ++ put_all is) → templates_in l (body_instructions names l k (put i ++ put_all is)) ≡ plain names i ++ plain_all names is
   one_plain is four (AddsNumber to n a w) h k f =
       ap (λ x. machine.LoadNumber 8 n ∷ x) (kept_skipped k 8 to (put_all is) f.1.0.1 ∙ h k f.1.1)
   one_plain is four (AddsRegisters op to from r a b c) h k f =
@@ -125,10 +125,10 @@ module _ (names : List (List ℕ)) (l : Layout) where
   one_plain is four (AddsReturn from a) h k f =
       slot_skipped k 8 from (instr.Return 8 ∷ put_all is) f.0.1 ∙ epilogue_skipped (body_instructions names l k (put_all is)) ∙ h k f.1.1
 
-  body_plain : (named : ℕ → Type 0) (limit : ℕ) (code : List Instr) → 4 ≤ l.arguments → AreAdded named limit code → Behind code
-  body_plain named limit [] four h = λ k f. epilogue_skipped []
-  body_plain named limit (i ∷ is) four h = λ k f. one_plain is four h.0 (body_plain named limit is four h.1) k f
+  body_plain : (named : ℕ → Type 0) (code : List Instr) → 4 ≤ l.arguments → AreAdded named code → Behind code
+  body_plain named [] four h = λ k f. epilogue_skipped []
+  body_plain named (i ∷ is) four h = λ k f. one_plain is four h.0 (body_plain named is four h.1) k f
 
-  pub code_plain : (named : ℕ → Type 0) (limit : ℕ) (code : List Instr) → 4 ≤ l.arguments → AreAdded named limit code → Fits names l 0 (put_all code) → templates_in l (function_instructions names l (put_all code)) ≡ plain_all names code
-  code_plain named limit code four h f =
-      store_skipped 31 (return_place l) (body_instructions names l 0 (put_all code)) (omega arith) ∙ body_plain named limit code four h 0 f
+  pub code_plain : (named : ℕ → Type 0) (code : List Instr) → 4 ≤ l.arguments → AreAdded named code → Fits names l 0 (put_all code) → templates_in l (function_instructions names l (put_all code)) ≡ plain_all names code
+  code_plain named code four h f =
+      store_skipped 31 (return_place l) (body_instructions names l 0 (put_all code)) (omega arith) ∙ body_plain named code four h 0 f

@@ -11,7 +11,8 @@ use Rattle.asm_text.specs.declared.instruction.BinaryOp.{BinaryOp}
 use Rattle.asm_text.specs.declared.instruction.UnaryOp.TheVariants as unary
 use Rattle.asm_text.specs.declared.instruction.Operand.TheVariants as operand
 use Rattle.asm_text.specs.declared.instruction.Target.TheVariants as target
-use Rattle.asm_text.specs.Instructions.{binary_word}
+use Rattle.asm_text.specs.Words.{binary_word}
+use Rattle.lcc_text.specs.Lines.{lines_of}
 use Rattle.lburg_grammar.specs.declared.rule.Rule.{Rule}
 use Rattle.lburg_grammar.specs.Pattern.{MPattern, PHole, PLeaf, POne, PTwo}
 use Rattle.lburg_grammar.specs.Derivation.{MDerivation, Apply, Derives, DeriveEach}
@@ -36,11 +37,11 @@ use Rattle.mips_rules.specs.declared.part.Part.TheVariants as part
 use Rattle.mips_rules.specs.MipsRows.{rows, stmt, con, rc, reg, addr, cnsti, addrgp}
 use Rattle.mips_rules.specs.MipsRules.{action_at, code_by, part_by, name_of, constant_of, mips_rules}
 use Rattle.mips_rules.specs.AppliedRules.{Applied, applied, Discards, TakesConstant, PassesConstant, PassesRegister, LoadsConstant, TakesName, CombinesRegisters, CombinesConstant, Negates, HandsOver, Calls, Returns}
-use Rattle.vcode.proofs.Leaves.{turned}
+use Rattle.vcode.specs.Leaves.{turned}
 use Rattle.mips_target.proofs.Added.{EachMet, each_front, each_last, at_root, at_met, applied_at}
 use Rattle.mips_target.proofs.AddedRoots.{joined_more, roots_front, roots_last}
 use Rattle.mips_target.proofs.PlainCode.{plain, plain_all}
-use Rattle.mips_target.proofs.SaidLines.{SaysInstruction, unit_name, number_said, registers_said, with_number_said, negate_said, call_said}
+use Rattle.mips_target.proofs.SaidLines.{SaysInstruction, SaysAlone, unit_name, number_said, registers_said, with_number_said, negate_said, call_said}
 use Rattle.mips_target.proofs.Deriving.{derived, each_derived, RootsDerive, roots_parted}
 use Rattle.mips_target.proofs.RuleTemplates.{template_by, binary_template, template_is, binary_ends, binary_expanded}
 
@@ -121,19 +122,19 @@ module _ (names : List (List ℕ)) where
   say_silent lines a b h e =
       subst (AllZip SaysInstruction lines) (sym (plain_append a b ∙ ap (λ l. plain_all names a ++ l) e ∙ append-nil (plain_all names a))) h
 
-  module _ (frame : List ℕ) where
+  module _ (labels : ℕ → List ℕ) (frame : List ℕ) where
     -- what a derivation of a nonterminal writes, where its register is this operand
     pub record Written (k : ℕ) (t : Node) (x : MDerivation) (p : Part) (code : List Instr) (o : ℕ) : Type 0 where
       pub text : List ℕ
       pub lines : List (List ℕ)
-      pub writes : Writes rows names frame x t text lines
+      pub writes : Writes rows names labels frame x t text lines
       pub is : IsText k p o text
       pub say : Say lines code
 
     pub record WrittenAll (ms : List Meeting) (xs : List MDerivation) (ps : List Part) (code : List Instr) (o : ℕ) : Type 0 where
       pub texts : List (List ℕ)
       pub lines : List (List ℕ)
-      pub writes : WritesAll rows names frame xs ms texts lines
+      pub writes : WritesAll rows names labels frame xs ms texts lines
       pub are : AreTexts o ms ps texts
       pub say : Say lines code
 
@@ -149,37 +150,37 @@ module _ (names : List (List ℕ)) where
     -- a rule of which the lines of its nonterminals are known
     module _ (number : ℕ) (row : Row) (t : Node) (xs : List MDerivation) (ms : List Meeting) (lines : List (List ℕ)) (code : List Instr) (row_is : RowIs rows number row) (fits : leaves_at row.pattern t ≡ Some ms) (say : Say lines code) where
       -- the rule's template is a part of a line
-      as_part : (template : List ℕ) (k : ℕ) (p : Part) (o : ℕ) (texts : List (List ℕ)) (more : List Instr) → row.template ≡ template → WritesAll rows names frame xs ms texts lines → is_instruction template ≡ false → IsText k p o (expanded (fillings names frame t [] texts) template) → plain_all names more ≡ [] → Written k t (Apply number (parts_of xs)) p (code ++ more) o
+      as_part : (template : List ℕ) (k : ℕ) (p : Part) (o : ℕ) (texts : List (List ℕ)) (more : List Instr) → row.template ≡ template → WritesAll rows names labels frame xs ms texts lines → is_instruction template ≡ false → IsText k p o (expanded (fillings names labels frame t [] texts) template) → plain_all names more ≡ [] → Written k t (Apply number (parts_of xs)) p (code ++ more) o
       as_part template k p o texts more e w end is none = record {
-        text = expanded (fillings names frame t [] texts) row.template;
+        text = expanded (fillings names labels frame t [] texts) row.template;
         lines = lines;
         writes = APart row_is fits w (ap is_instruction e ∙ end);
-        is = subst (λ y. IsText k p o (expanded (fillings names frame t [] texts) y)) (sym e) is;
+        is = subst (λ y. IsText k p o (expanded (fillings names labels frame t [] texts) y)) (sym e) is;
         say = say_silent lines code more say none;
       }
 
       -- the rule's template is a line
-      as_line : (template : List ℕ) (k : ℕ) (p : Part) (o : ℕ) (texts : List (List ℕ)) (i : Instr) (j : Instruction) → row.template ≡ template → WritesAll rows names frame xs ms texts lines → is_instruction template ≡ true → o < 64 → IsText k p o (decimal o) → plain names i ≡ j ∷ [] → SaysInstruction (expanded (fillings names frame t (decimal 8) texts) template) j → Written k t (Apply number (parts_of xs)) p (code ++ i ∷ []) o
+      as_line : (template : List ℕ) (k : ℕ) (p : Part) (o : ℕ) (texts : List (List ℕ)) (i : Instr) (j : Instruction) → row.template ≡ template → WritesAll rows names labels frame xs ms texts lines → is_instruction template ≡ true → o < 64 → IsText k p o (decimal o) → plain names i ≡ j ∷ [] → SaysAlone (expanded (fillings names labels frame t (decimal 8) texts) template) j → Written k t (Apply number (parts_of xs)) p (code ++ i ∷ []) o
       as_line template k p o texts i j e w end lt is one s = record {
         text = decimal o;
-        lines = lines ++ expanded (fillings names frame t (decimal 8) texts) row.template ∷ [];
+        lines = lines ++ lines_of (expanded (fillings names labels frame t (decimal 8) texts) row.template);
         writes = ALine 8 o row_is fits w (ap is_instruction e ∙ end) (omega arith) lt;
         is = is;
-        say = say_both lines (expanded (fillings names frame t (decimal 8) texts) row.template ∷ []) code (i ∷ []) say
-            (subst (AllZip SaysInstruction (expanded (fillings names frame t (decimal 8) texts) row.template ∷ [])) (sym (ap (λ l. l ++ []) one)) (subst (λ y. SaysInstruction (expanded (fillings names frame t (decimal 8) texts) y) j) (sym e) s, tt));
+        say = say_both lines (lines_of (expanded (fillings names labels frame t (decimal 8) texts) row.template)) code (i ∷ []) say
+            (subst (AllZip SaysInstruction (lines_of (expanded (fillings names labels frame t (decimal 8) texts) row.template))) (sym (ap (λ l. l ++ []) one)) (subst (λ y. AllZip SaysInstruction (lines_of (expanded (fillings names labels frame t (decimal 8) texts) y)) (j ∷ [])) (sym e) s));
       }
 
-    constant_written : (x : Sym) (v : Option ℤ) (o : ℕ) → IsConstant x v → IsText con (part.Constant (constant_of v)) o (symbol_text names x v ++ [])
+    constant_written : (x : Sym) (v : Option ℤ) (o : ℕ) → IsConstant x v → IsText con (part.Constant (constant_of v)) o (symbol_text names labels x v ++ [])
     constant_written symbol.Nothing None o h = absurd h
     constant_written symbol.Nothing (Some z) o h = (z, h, refl, append-nil (signed_decimal z))
     constant_written (symbol.Global name offset) v o h = absurd h
     constant_written (symbol.Label l) v o h = absurd h
     constant_written (symbol.Block size align) v o h = absurd h
 
-    name_written : (x : Sym) (v : Option ℤ) (o : ℕ) → IsPlainName x → IsText addr (name_of x) o (symbol_text names x v ++ [])
+    name_written : (x : Sym) (v : Option ℤ) (o : ℕ) → IsPlainName x → IsText addr (name_of x) o (symbol_text names labels x v ++ [])
     name_written symbol.Nothing v o h = absurd h
     name_written (symbol.Global name offset) v o h =
-        (h.1, ap (λ z. symbol_text names (symbol.Global name z) v ++ []) h.0 ∙ append-nil (get_or names name []))
+        (h.1, ap (λ z. symbol_text names labels (symbol.Global name z) v ++ []) h.0 ∙ append-nil (get_or names name []))
     name_written (symbol.Label l) v o h = absurd h
     name_written (symbol.Block size align) v o h = absurd h
 
@@ -188,30 +189,30 @@ module _ (names : List (List ℕ)) where
     Chosen true first o = first ≡ o
     Chosen false first o = first ≡ 9
 
-    load_said : (n : ℕ) (x : List ℕ) → (z : ℤ) × FitsSigned w32 z × (n ≡ bits_of z) × (x ≡ signed_decimal z) → SaysInstruction (codes "li $" ++ (decimal 8 ++ (44 ∷ (x ++ 10 ∷ [])))) (machine.LoadNumber 8 n)
+    load_said : (n : ℕ) (x : List ℕ) → (z : ℤ) × FitsSigned w32 z × (n ≡ bits_of z) × (x ≡ signed_decimal z) → SaysAlone (codes "li $" ++ (decimal 8 ++ (44 ∷ (x ++ 10 ∷ [])))) (machine.LoadNumber 8 n)
     load_said n x h =
-        subst (λ y. SaysInstruction (codes "li $" ++ (decimal 8 ++ (44 ∷ (y ++ 10 ∷ [])))) (machine.LoadNumber 8 n)) (sym h.3)
-        (subst (λ m. SaysInstruction (codes "li $" ++ (decimal 8 ++ (44 ∷ (signed_decimal h.0 ++ 10 ∷ [])))) (machine.LoadNumber 8 m)) (sym h.2) (number_said h.0 h.1))
+        subst (λ y. SaysAlone (codes "li $" ++ (decimal 8 ++ (44 ∷ (y ++ 10 ∷ [])))) (machine.LoadNumber 8 n)) (sym h.3)
+        (subst (λ m. SaysAlone (codes "li $" ++ (decimal 8 ++ (44 ∷ (signed_decimal h.0 ++ 10 ∷ [])))) (machine.LoadNumber 8 m)) (sym h.2) (number_said h.0 h.1))
 
     abbrev operation_line : BinaryOp → List ℕ → List ℕ → List ℕ
     operation_line op x y = binary_word op ++ (codes " $" ++ (decimal 8 ++ (codes ",$" ++ (x ++ (44 ∷ (y ++ 10 ∷ []))))))
 
-    combine_said : (op : BinaryOp) (x y : List ℕ) → x ≡ decimal 9 → y ≡ 36 ∷ decimal 10 → SaysInstruction (operation_line op x y) (machine.Binary op 8 9 (operand.Register 10))
+    combine_said : (op : BinaryOp) (x y : List ℕ) → x ≡ decimal 9 → y ≡ 36 ∷ decimal 10 → SaysAlone (operation_line op x y) (machine.Binary op 8 9 (operand.Register 10))
     combine_said op x y e f =
-        subst (λ a. SaysInstruction (operation_line op a y) (machine.Binary op 8 9 (operand.Register 10))) (sym e) (subst (λ b. SaysInstruction (operation_line op (decimal 9) b) (machine.Binary op 8 9 (operand.Register 10))) (sym f) (registers_said op))
+        subst (λ a. SaysAlone (operation_line op a y) (machine.Binary op 8 9 (operand.Register 10))) (sym e) (subst (λ b. SaysAlone (operation_line op (decimal 9) b) (machine.Binary op 8 9 (operand.Register 10))) (sym f) (registers_said op))
 
-    combine_number_said : (op : BinaryOp) (n : ℕ) (x y : List ℕ) → x ≡ decimal 9 → (z : ℤ) × FitsSigned w32 z × (n ≡ bits_of z) × (y ≡ signed_decimal z) → SaysInstruction (operation_line op x y) (machine.Binary op 8 9 (operand.Number n))
+    combine_number_said : (op : BinaryOp) (n : ℕ) (x y : List ℕ) → x ≡ decimal 9 → (z : ℤ) × FitsSigned w32 z × (n ≡ bits_of z) × (y ≡ signed_decimal z) → SaysAlone (operation_line op x y) (machine.Binary op 8 9 (operand.Number n))
     combine_number_said op n x y e h =
-        subst (λ a. SaysInstruction (operation_line op a y) (machine.Binary op 8 9 (operand.Number n))) (sym e)
-        (subst (λ b. SaysInstruction (operation_line op (decimal 9) b) (machine.Binary op 8 9 (operand.Number n))) (sym h.3)
-        (subst (λ m. SaysInstruction (operation_line op (decimal 9) (signed_decimal h.0)) (machine.Binary op 8 9 (operand.Number m))) (sym h.2) (with_number_said op h.0 h.1)))
+        subst (λ a. SaysAlone (operation_line op a y) (machine.Binary op 8 9 (operand.Number n))) (sym e)
+        (subst (λ b. SaysAlone (operation_line op (decimal 9) b) (machine.Binary op 8 9 (operand.Number n))) (sym h.3)
+        (subst (λ m. SaysAlone (operation_line op (decimal 9) (signed_decimal h.0)) (machine.Binary op 8 9 (operand.Number m))) (sym h.2) (with_number_said op h.0 h.1)))
 
-    negative_said : (x : List ℕ) → x ≡ decimal 9 → SaysInstruction (codes "negu $" ++ (decimal 8 ++ (codes ",$" ++ (x ++ 10 ∷ [])))) (machine.Unary unary.Negate 8 9)
-    negative_said x e = subst (λ a. SaysInstruction (codes "negu $" ++ (decimal 8 ++ (codes ",$" ++ (a ++ 10 ∷ [])))) (machine.Unary unary.Negate 8 9)) (sym e) negate_said
+    negative_said : (x : List ℕ) → x ≡ decimal 9 → SaysAlone (codes "negu $" ++ (decimal 8 ++ (codes ",$" ++ (x ++ 10 ∷ [])))) (machine.Unary unary.Negate 8 9)
+    negative_said x e = subst (λ a. SaysAlone (codes "negu $" ++ (decimal 8 ++ (codes ",$" ++ (a ++ 10 ∷ [])))) (machine.Unary unary.Negate 8 9)) (sym e) negate_said
 
-    called_said : (name : ℕ) (x : List ℕ) → All IsUnitName names → name < length names → x ≡ get_or names name [] → SaysInstruction (codes "jal " ++ (x ++ 10 ∷ [])) (machine.Call (target.Label (get_or names name [])))
+    called_said : (name : ℕ) (x : List ℕ) → All IsUnitName names → name < length names → x ≡ get_or names name [] → SaysAlone (codes "jal " ++ (x ++ 10 ∷ [])) (machine.Call (target.Label (get_or names name [])))
     called_said name x all lt e =
-        subst (λ a. SaysInstruction (codes "jal " ++ (a ++ 10 ∷ [])) (machine.Call (target.Label (get_or names name [])))) (sym e) (call_said (get_or names name []) (unit_name (get_or names name []) (All-get_or IsUnitName names name [] lt all)))
+        subst (λ a. SaysAlone (codes "jal " ++ (a ++ 10 ∷ [])) (machine.Call (target.Label (get_or names name [])))) (sym e) (call_said (get_or names name []) (unit_name (get_or names name []) (All-get_or IsUnitName names name [] lt all)))
 
     module _ (units : All IsUnitName names) where
       step : {d : Action} {left : ℕ} {pattern : MPattern} {t : Node} {ps : List Part} {ms : List Meeting} (to number : ℕ) (row : Row) (xs : List MDerivation) (code : List Instr) (first o : ℕ) → Applied d left pattern t ps ms → RowIs rows number row → leaves_at row.pattern t ≡ Some ms → row.template ≡ template_by d pattern → HasText t → Chosen (is_chain pattern) first o → o < 64 → WrittenAll ms xs ps code first → Written left t (Apply number (parts_of xs)) (part_by d t ps to) (code ++ code_by d ps to) o
@@ -220,37 +221,37 @@ module _ (names : List (List ℕ)) where
       step to number row xs code first o (TakesConstant h' e') row_is fits e h c lt w =
           as_part number row _ xs _ w.lines code row_is fits w.say (codes "%a") con _ o w.texts [] e w.writes refl (constant_written h'.sym h'.value o (h.0 e')) refl
       step to number row xs code first o (PassesConstant t n) row_is fits e h c lt w =
-          one_text (λ ys. WritesAll rows names frame xs ((con, t) ∷ []) ys w.lines → Written rc t (Apply number (parts_of xs)) (part.Constant n) (code ++ []) o) first (con, t) (part.Constant n) w.texts w.are
+          one_text (λ ys. WritesAll rows names labels frame xs ((con, t) ∷ []) ys w.lines → Written rc t (Apply number (parts_of xs)) (part.Constant n) (code ++ []) o) first (con, t) (part.Constant n) w.texts w.are
           (λ x k wr. as_part number row t xs _ w.lines code row_is fits w.say (codes "%0") rc (part.Constant n) o (x ∷ []) [] e wr refl (k.0, k.1, k.2, append-nil x ∙ k.3) refl)
           w.writes
       step to number row xs code first o (PassesRegister t r low) row_is fits e h c lt w =
-          one_text (λ ys. WritesAll rows names frame xs ((reg, t) ∷ []) ys w.lines → Written rc t (Apply number (parts_of xs)) (part.Register r) (code ++ []) o) first (reg, t) (part.Register r) w.texts w.are
+          one_text (λ ys. WritesAll rows names labels frame xs ((reg, t) ∷ []) ys w.lines → Written rc t (Apply number (parts_of xs)) (part.Register r) (code ++ []) o) first (reg, t) (part.Register r) w.texts w.are
           (λ x k wr. as_part number row t xs _ w.lines code row_is fits w.say (codes "$%0") rc (part.Register r) o (x ∷ []) [] e wr refl (ap (λ l. 36 ∷ l) (append-nil x ∙ k ∙ ap decimal c)) refl)
           w.writes
       step to number row xs code first o (LoadsConstant t n e') row_is fits e h c lt w =
-          one_text (λ ys. WritesAll rows names frame xs ((con, t) ∷ []) ys w.lines → Written reg t (Apply number (parts_of xs)) (part.Register to) (code ++ instr.LoadNumber to n ∷ []) o) first (con, t) (part.Constant n) w.texts w.are
+          one_text (λ ys. WritesAll rows names labels frame xs ((con, t) ∷ []) ys w.lines → Written reg t (Apply number (parts_of xs)) (part.Register to) (code ++ instr.LoadNumber to n ∷ []) o) first (con, t) (part.Constant n) w.texts w.are
           (λ x k wr. as_line number row t xs _ w.lines code row_is fits w.say (codes "li $%c,%0\\n") reg (part.Register to) o (x ∷ []) (instr.LoadNumber to n) (machine.LoadNumber 8 n) e wr refl lt refl refl (load_said n x k))
           w.writes
       step to number row xs code first o (TakesName h' e') row_is fits e h c lt w =
           as_part number row _ xs _ w.lines code row_is fits w.say (codes "%a") addr _ o w.texts [] e w.writes refl (name_written h'.sym h'.value o (h.1 e')) refl
       step to number row xs code first o (CombinesRegisters op h' a b q r low_q low_r e') row_is fits e h c lt w =
-          two_texts (λ ys. WritesAll rows names frame xs ((reg, a) ∷ (rc, b) ∷ []) ys w.lines → Written reg _ (Apply number (parts_of xs)) (part.Register to) (code ++ instr.Binary op to q (source.Register r) ∷ []) o) first (reg, a) (rc, b) (part.Register q) (part.Register r) w.texts w.are
+          two_texts (λ ys. WritesAll rows names labels frame xs ((reg, a) ∷ (rc, b) ∷ []) ys w.lines → Written reg _ (Apply number (parts_of xs)) (part.Register to) (code ++ instr.Binary op to q (source.Register r) ∷ []) o) first (reg, a) (rc, b) (part.Register q) (part.Register r) w.texts w.are
           (λ x y k l wr. as_line number row _ xs _ w.lines code row_is fits w.say (binary_template op) reg (part.Register to) o (x ∷ y ∷ []) (instr.Binary op to q (source.Register r)) (machine.Binary op 8 9 (operand.Register 10)) e wr (binary_ends op) lt refl refl
-          (subst (λ m. SaysInstruction m (machine.Binary op 8 9 (operand.Register 10))) (sym (binary_expanded op (decimal 8) _ frame x y)) (combine_said op x y (k ∙ ap decimal c) l)))
+          (subst (λ m. SaysAlone m (machine.Binary op 8 9 (operand.Register 10))) (sym (binary_expanded op (decimal 8) _ frame x y)) (combine_said op x y (k ∙ ap decimal c) l)))
           w.writes
       step to number row xs code first o (CombinesConstant op h' a b q n low e') row_is fits e h c lt w =
-          two_texts (λ ys. WritesAll rows names frame xs ((reg, a) ∷ (rc, b) ∷ []) ys w.lines → Written reg _ (Apply number (parts_of xs)) (part.Register to) (code ++ instr.Binary op to q (source.Number n) ∷ []) o) first (reg, a) (rc, b) (part.Register q) (part.Constant n) w.texts w.are
+          two_texts (λ ys. WritesAll rows names labels frame xs ((reg, a) ∷ (rc, b) ∷ []) ys w.lines → Written reg _ (Apply number (parts_of xs)) (part.Register to) (code ++ instr.Binary op to q (source.Number n) ∷ []) o) first (reg, a) (rc, b) (part.Register q) (part.Constant n) w.texts w.are
           (λ x y k l wr. as_line number row _ xs _ w.lines code row_is fits w.say (binary_template op) reg (part.Register to) o (x ∷ y ∷ []) (instr.Binary op to q (source.Number n)) (machine.Binary op 8 9 (operand.Number n)) e wr (binary_ends op) lt refl refl
-          (subst (λ m. SaysInstruction m (machine.Binary op 8 9 (operand.Number n))) (sym (binary_expanded op (decimal 8) _ frame x y)) (combine_number_said op n x y (k ∙ ap decimal c) l)))
+          (subst (λ m. SaysAlone m (machine.Binary op 8 9 (operand.Number n))) (sym (binary_expanded op (decimal 8) _ frame x y)) (combine_number_said op n x y (k ∙ ap decimal c) l)))
           w.writes
       step to number row xs code first o (Negates h' a r low e') row_is fits e h c lt w =
-          one_text (λ ys. WritesAll rows names frame xs ((reg, a) ∷ []) ys w.lines → Written reg _ (Apply number (parts_of xs)) (part.Register to) (code ++ instr.Negate to r ∷ []) o) first (reg, a) (part.Register r) w.texts w.are
+          one_text (λ ys. WritesAll rows names labels frame xs ((reg, a) ∷ []) ys w.lines → Written reg _ (Apply number (parts_of xs)) (part.Register to) (code ++ instr.Negate to r ∷ []) o) first (reg, a) (part.Register r) w.texts w.are
           (λ x k wr. as_line number row _ xs _ w.lines code row_is fits w.say (codes "negu $%c,$%0\\n") reg (part.Register to) o (x ∷ []) (instr.Negate to r) (machine.Unary unary.Negate 8 9) e wr refl lt refl refl (negative_said x (k ∙ ap decimal c)))
           w.writes
       step to number row xs code first o (HandsOver h' a r low e') row_is fits e h c lt w =
           as_part number row _ xs _ w.lines code row_is fits w.say (codes "") stmt part.Nothing o w.texts (instr.Argument r ∷ []) e w.writes refl tt refl
       step to number row xs code first o (Calls h' a name offset e') row_is fits e h c lt w =
-          one_text (λ ys. WritesAll rows names frame xs ((addr, a) ∷ []) ys w.lines → Written reg _ (Apply number (parts_of xs)) (part.Register to) (code ++ instr.Call to name ∷ []) o) first (addr, a) (part.Name name offset) w.texts w.are
+          one_text (λ ys. WritesAll rows names labels frame xs ((addr, a) ∷ []) ys w.lines → Written reg _ (Apply number (parts_of xs)) (part.Register to) (code ++ instr.Call to name ∷ []) o) first (addr, a) (part.Name name offset) w.texts w.are
           (λ x k wr. as_line number row _ xs _ w.lines code row_is fits w.say (codes "jal %0\\n") reg (part.Register to) o (x ∷ []) (instr.Call to name) (machine.Call (target.Label (get_or names name []))) e wr refl lt refl refl (called_said name x units k.0 k.1))
           w.writes
       step to number row xs code first o (Returns h' a r low e') row_is fits e h c lt w =
@@ -304,18 +305,18 @@ module _ (names : List (List ℕ)) where
 
         -- what the derivations of roots write
         pub record RootsWritten (xs : List MDerivation) (ts : List Node) (stretches : List (List Instr)) : Type 0 where
-          pub texts : List (List ℕ)
-          pub writes : WritesRoots rows names frame xs ts texts
-          pub say : Say texts (joined stretches)
+          pub lines : List (List ℕ)
+          pub writes : WritesRoots rows names labels frame xs ts lines
+          pub say : Say lines (joined stretches)
 
         pub roots_written : (k : ℕ) {xs : List MDerivation} {ts : List Node} {n : ℕ} {stretches : List (List Instr)} {next : ℕ} → EmitsRoots mips_rules xs ts n stretches next → RootsDerive rules k ts xs → AllByRecursion (AtEachNode HasText) ts → RootsWritten xs ts stretches
-        roots_written k (NoRoot {n}) d h = record { texts = []; writes = NoLine; say = tt }
+        roots_written k (NoRoot {n}) d h = record { lines = []; writes = NoLine; say = tt }
         roots_written k (OneRoot {xs} {ts} {x} {t} {n} {n'} {stretches} {e} before one) d h =
             let g = roots_parted rules k ts t xs x d in
             let w = roots_written k before g.0 (roots_front (AtEachNode HasText) ts t h) in
             let v = written one k g.1 (roots_last (AtEachNode HasText) ts t h) 8 (omega arith) in
             record {
-              texts = w.texts ++ v.lines;
+              lines = w.lines ++ v.lines;
               writes = OneLine w.writes v.writes;
-              say = subst (λ c. Say (w.texts ++ v.lines) c) (sym (joined_more stretches e.code)) (say_both w.texts v.lines (joined stretches) e.code w.say v.say);
+              say = subst (λ c. Say (w.lines ++ v.lines) c) (sym (joined_more stretches e.code)) (say_both w.lines v.lines (joined stretches) e.code w.say v.say);
             }

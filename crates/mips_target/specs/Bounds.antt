@@ -10,8 +10,8 @@ use Rattle.asm_text.specs.declared.instruction.Operand.TheVariants.{Number}
 use Rattle.asm_text.specs.declared.instruction.Target.{Target}
 use Rattle.asm_text.specs.declared.instruction.Target.TheVariants as target
 use Rattle.asm_text.specs.declared.program.Program.{Program}
+use Rattle.asm_text.specs.Program.{place_of}
 use Rattle.mips_target.specs.Items.{CodeItem, lines_in}
-use Rattle.mips_target.specs.Entries.{place_of}
 
 -- The register that an instruction writes, by its row of the step table. A call writes $31, and what it calls gives the
 -- stack pointer back.

@@ -47,16 +47,12 @@ from_templates words (Mark l ∷ xs) = Mark l ∷ from_templates words xs
 abbrev pub Says : (ℕ → List ℕ) → List ℕ → CodeItem Instruction → Type 0
 Says labels text x = IsLine text 1 (record { labels = (item_of labels x).labels; statement = (item_of labels x).statement; number = 1 })
 
--- the same of a text that ends with a line feed
-abbrev pub SaysLine : (ℕ → List ℕ) → List ℕ → CodeItem Instruction → Type 0
-SaysLine labels text x = (line : List ℕ) × (text ≡ line ++ 10 ∷ []) × Says labels line x
-
 -- The items of templates are the expanded templates of the roots' derivations, in order, where the function's labels have
 -- these texts and its frame has so many bytes.
 pub record Emits (names : List (List ℕ)) (labels : ℕ → List ℕ) (frame : ℕ) (derivations : List MDerivation) (roots : List Node) (code : List (CodeItem Instruction)) : Type 0 where
   -- the bytes of the frame's argument words, spill slots and return address
   pub words : ℕ
   pub within : words ≤ frame
-  pub texts : List (List ℕ)
-  pub writes : WritesRoots rows names (decimal frame) derivations roots texts
-  pub say : AllZip (SaysLine labels) texts (from_templates words code)
+  pub lines : List (List ℕ)
+  pub writes : WritesRoots rows names labels (decimal frame) derivations roots lines
+  pub say : AllZip (Says labels) lines (from_templates words code)

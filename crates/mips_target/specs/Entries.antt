@@ -1,18 +1,12 @@
 -- Where the functions of a unit stand in the program that its lines make: one behind the other, each with its name as a
 -- label at its first instruction, and with its own labels.
-use Rattle.std.specs.Prelude.{◌≡◌, ℕ, zero, suc, ◌+◌, List, [], ◌∷◌, ◌++◌, length, Option, Some, None, if◌then◌else◌}
-use Rattle.std.specs.Str.{bytes_eq}
+use Rattle.std.specs.Prelude.{◌≡◌, ℕ, zero, suc, ◌+◌, List, [], ◌∷◌, ◌++◌, length, Option, Some}
 use Rattle.asm_text.specs.declared.instruction.Instruction.{Instruction}
 use Rattle.asm_text.specs.declared.program.Program.{Program}
 use Rattle.asm_text.specs.declared.program.Label.{Label}
-use Rattle.asm_text.specs.Program.{label_at}
+use Rattle.asm_text.specs.Program.{label_at, place_of}
 use Rattle.mips_target.specs.Items.{CodeItem, Line, Mark, lines_in, StandsIn}
 use Rattle.mips_target.specs.UnitLines.{Coded}
-
--- the place of the first label with this name
-abbrev pub place_of : List Label → List ℕ → Option ℕ
-place_of [] name = None
-place_of (l ∷ ls) name = if bytes_eq l.name name then Some l.place else place_of ls name
 
 -- the instructions of all functions
 abbrev pub codes_of : List Coded → List Instruction

@@ -45,7 +45,7 @@ pub record IsSelected (roots : List Node) (virtual : MCode Instr) : Type 0 where
 
 -- how many bytes a frame and how many instructions a function may have, by the number of its nodes
 abbrev pub frame_bound : ℕ → ℕ
-frame_bound n = 256 + 8 * n
+frame_bound n = 256 + 4 * n
 
 abbrev pub code_bound : ℕ → ℕ
 code_bound n = 256 + 32 * n

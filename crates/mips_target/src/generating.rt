@@ -32,7 +32,7 @@ const TEMPORARIES: [Reg; 3] = [8, 9, 10];
 
 /// A forest that is known to be well formed. It has no fault, so that memory alone can be refused.
 fn well_formed(alloc: Global, forest: &Forest) -> Result<WellFormed, Memory>
-    requires { IsWellFormed forest.now.roots }
+    requires { IsWellFormed forest.now }
     ensures { IfOk result (λ w. w ≡ forest.now) }
 {
     match check_forest(alloc, forest) {
@@ -66,7 +66,7 @@ fn code_of(
     requires covers { CoversRoots rules.now }
     requires names { All IsUnitName lowered.now.names }
     requires function { IsFunctionOf lowered.now function.now }
-    requires well_formed { IsWellFormed function.now.forest.roots }
+    requires well_formed { IsWellFormed function.now.forest }
     requires size { sum_by nodes function.now.forest.roots ≤ 2 ^ 24 }
     ensures { IfOk result (λ code. IsCodeOf lowered.now label_text function.now.forest.roots (unmarked code)) }
 {
@@ -83,7 +83,7 @@ fn code_of(
 /// comes where an allocation is refused.
 /// Source: Fraser and Hanson, A Retargetable C Compiler, chapters 13 to 16.
 pub fn generate(alloc: Global, lowered: &Lowered) -> Result<Lines, Memory>
-    requires well_formed { All (λ f. IsWellFormed f.forest.roots) lowered.now.functions }
+    requires well_formed { All (λ f. IsWellFormed f.forest) lowered.now.functions }
     requires size { All (λ f. sum_by nodes f.forest.roots ≤ 2 ^ 24) lowered.now.functions }
     ensures value { IfOk result (λ lines. IsGenerated lowered.now lines) }
     ensures printable { IfOk result (λ lines. ArePrintable lines) }

@@ -120,7 +120,7 @@ fn forest(alloc: Global, parts: &[Part]) -> Result<WellFormed, Fail>
 
 /// The unit with main alone, which has these roots.
 fn unit(alloc: Global, parts: &[Part]) -> Result<Lowered, Fail>
-    ensures well_formed { IfOk result (λ u. All (λ f. IsWellFormed f.forest.roots) u.functions) }
+    ensures well_formed { IfOk result (λ u. All (λ f. IsWellFormed f.forest) u.functions) }
     ensures small { IfOk result (λ u. All (λ f. sum_by nodes f.forest.roots ≤ 2 ^ 24) u.functions) }
 {
     let forest = forest(alloc, parts)?.into_forest();

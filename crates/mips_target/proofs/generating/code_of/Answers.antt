@@ -10,7 +10,7 @@ argument_words-requires c =
     let roots = c.args.function.now.forest.roots in
     let code = c.in_ok-code.code in
     let a : IsAllocated roots code = subst (λ rs. IsAllocated rs code) e c.in_ok-code.ensures in
-    let few = length_few roots code a in
+    let few = length_few c.args.function.now.forest roots code a in
     let same = ap length c.code-2.ensures.value in
     let size = c.requires.size in
     omega (arith, few, same, size)
@@ -22,7 +22,7 @@ function_code-requires-clause-fits c =
     let code = c.in_ok-code.code in
     let a : IsAllocated roots code = subst (λ rs. IsAllocated rs code) e c.in_ok-code.ensures in
     let l = layout_is code c.argument_words.result c.slots.result c.code-2.result.now c.code-2.ensures.value c.argument_words.ensures c.slots.ensures in
-    fits_same c.args.lowered.now.names c.names.result.now (layout_for code) (record { arguments = c.argument_words.result; slots = c.slots.result }) code.code c.code-3.result.now c.names.ensures.value l c.code-3.ensures.value (fits roots code a c.args.lowered.now c.requires.well_formed c.requires.function.symbols)
+    fits_same c.args.lowered.now.names c.names.result.now (layout_for code) (record { arguments = c.argument_words.result; slots = c.slots.result }) code.code c.code-3.result.now c.names.ensures.value l c.code-3.ensures.value (fits c.args.function.now.forest roots code a c.args.lowered.now c.requires.well_formed c.requires.function.symbols)
 
 pub function_code-requires-clause-frame : goal.function_code-requires-clause-frame
 function_code-requires-clause-frame c =
@@ -33,7 +33,7 @@ function_code-requires-clause-frame c =
     let l = layout_is code c.argument_words.result c.slots.result c.code-2.result.now c.code-2.ensures.value c.argument_words.ensures c.slots.ensures in
     let words = ap (λ x. x.arguments) l in
     let slots = ap (λ x. x.slots) l in
-    let few = words_few roots code a in
+    let few = words_few c.args.function.now.forest roots code a in
     let size = c.requires.size in
     omega (arith, words, slots, few, size)
 
@@ -43,7 +43,7 @@ function_code-requires-clause-size c =
     let roots = c.args.function.now.forest.roots in
     let code = c.in_ok-code.code in
     let a : IsAllocated roots code = subst (λ rs. IsAllocated rs code) e c.in_ok-code.ensures in
-    let few = length_few roots code a in
+    let few = length_few c.args.function.now.forest roots code a in
     let same = ap length c.code-3.ensures.value in
     let size = c.requires.size in
     omega (arith, few, same, size)
@@ -55,4 +55,4 @@ returns c =
     let code = c.in_ok-code.code in
     let a : IsAllocated roots code = subst (λ rs. IsAllocated rs code) e c.in_ok-code.ensures in
     let l = layout_is code c.argument_words.result c.slots.result c.code-2.result.now c.code-2.ensures.value c.argument_words.ensures c.slots.ensures in
-    are_code roots code a c.args.lowered.now label_text c.function_code.result c.requires.well_formed c.requires.names c.requires.function.symbols (made_same c.args.lowered.now.names c.names.result.now (layout_for code) (record { arguments = c.argument_words.result; slots = c.slots.result }) code.code c.code-3.result.now c.function_code.result c.names.ensures.value l c.code-3.ensures.value c.function_code.ensures)
+    are_code c.args.function.now.forest roots code a c.args.lowered.now label_text c.function_code.result c.requires.well_formed c.requires.names c.requires.function.symbols (made_same c.args.lowered.now.names c.names.result.now (layout_for code) (record { arguments = c.argument_words.result; slots = c.slots.result }) code.code c.code-3.result.now c.function_code.result c.names.ensures.value l c.code-3.ensures.value c.function_code.ensures)
