@@ -12,15 +12,16 @@ use Rattle.asm_text.specs.declared.program.Program.{Program}
 use Rattle.op_forest.specs.Words.{Word}
 use Rattle.vcode.specs.Execution.{State}
 use Rattle.vcode.specs.Maps.{Map}
+use Rattle.asm_text.specs.Runs.{MStep}
 use Rattle.mips_machine.specs.Addresses.{code_start, stack_top, floor_of}
 use Rattle.mips_machine.specs.Memory.{word_at, with_word}
 use Rattle.mips_machine.specs.State.{Cpu}
-use Rattle.mips_machine.specs.StepTable.{MStep, goes, next, register, writes, accesses, step}
+use Rattle.mips_machine.specs.StepTable.{goes, next, register, writes, accesses, step}
 use Rattle.mips_target.specs.Frame.{frame_size}
-use Rattle.mips_target.specs.FunctionCode.{in_frame, epilogue}
+use Rattle.mips_target.specs.FunctionCode.{in_frame, epilogue, unmarked}
+use Rattle.mips_target.specs.Items.{StandsIn}
 use Rattle.mips_programs.specs.Working.{Working, Gets}
 use Rattle.mips_programs.specs.Frames.{Frame, IsSound, stack_of, frame_word}
-use Rattle.mips_programs.specs.Following.{StandsAt}
 use Rattle.mips_programs.specs.Matches.{Alike, IsResult, Returned}
 use Rattle.mips_programs.proofs.Steps.{with_cpu, with_register, with_stack, index_set, index_other, both_gets, once, stepped, written, pointed, accessed, further}
 use Rattle.mips_programs.proofs.Words.{with_stack_word}
@@ -30,7 +31,7 @@ address : (low k : ℕ) → low + 4 * k + 4 ≤ stack_top → (low + 4 * k) % 2 
 address low k h = omega (arith, h)
 
 -- an access of a word of the frame
-reached : (f : Frame) (cpu : Cpu) (k : ℕ) (done : ℕ → MStep) → IsSound f → length cpu.stack ≡ stack_of f → register cpu 29 ≡ f.low → k ≤ f.layout.arguments + f.layout.slots → accesses cpu ((register cpu 29 + 4 * k) % 2 ^ 32) done ≡ done (f.low + 4 * k - floor_of (length cpu.stack))
+reached : (f : Frame) (cpu : Cpu) (k : ℕ) (done : ℕ → MStep Cpu) → IsSound f → length cpu.stack ≡ stack_of f → register cpu 29 ≡ f.low → k ≤ f.layout.arguments + f.layout.slots → accesses cpu ((register cpu 29 + 4 * k) % 2 ^ 32) done ≡ done (f.low + 4 * k - floor_of (length cpu.stack))
 reached f cpu k done sound room pointer low =
     let here = frame_inside f cpu.stack k sound room low in
     ap (λ (x : ℕ). accesses cpu ((x + 4 * k) % 2 ^ 32) done) pointer
@@ -53,8 +54,8 @@ store_word p order i f h s k sound room pointer low at stands =
     ∙ reached f h.cpu k (λ place. goes (record (next h.cpu) { stack = with_word order h.cpu.stack place (register h.cpu s) })) sound room pointer low)
 
 -- the epilogue comes back to the caller
-pub leave : (p : Program) (order : Order) (room : ℕ → ℕ) (map : Map) (f : Frame) (i : ℕ) (s : State) (h : Working) (v : Option Word) → IsSound f → Alike order room map f s h → IsResult map v (register h.cpu 2) → h.cpu.pc ≡ code_start + 4 * i → StandsAt p.code i (epilogue f.layout) → (h' : Working) × Gets p order h h' × Returned order map f v s.point.world h'
-leave p order room map f i s h v sound a result at stands =
+pub leave : (p : Program) (order : Order) (room : ℕ → ℕ) (map : Map) (f : Frame) (found : ℕ → Option ℕ) (i : ℕ) (s : State) (h : Working) (v : Option Word) → IsSound f → Alike order room map f s h → IsResult map v (register h.cpu 2) → h.cpu.pc ≡ code_start + 4 * i → StandsIn p.code found i (unmarked (epilogue f.layout)) → (h' : Working) × Gets p order h h' × Returned order map f v s.point.world h'
+leave p order room map f found i s h v sound a result at stands =
     let word = frame_word order f h.cpu.stack (f.layout.arguments + f.layout.slots) in
     let size = frame_size f.layout in
     let registers1 = slice_set h.cpu.registers 31 word in

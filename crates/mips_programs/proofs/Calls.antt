@@ -5,6 +5,8 @@ use Rattle.std.proofs.lemmas.Bool.{both_ways, eqb-true, or_cases, cond-true}
 use Rattle.std.specs.Int.Bits.{and_zero_r}
 use Rattle.lcc_base.specs.declared.order.Order.{Order}
 use Rattle.asm_text.specs.declared.program.Program.{Program}
+use Rattle.asm_text.specs.Runs.{Run}
+use Rattle.asm_text.specs.RunLaws.{prefix_of}
 use Rattle.op_forest.specs.Words.{Word, Number, Pointer, Function, Label, Partly, unknown}
 use Rattle.op_forest.specs.Traces.{output_of}
 use Rattle.op_forest.specs.Worlds.{World, Point, Outcome, Finished, Exited, Going, Failed}
@@ -12,19 +14,18 @@ use Rattle.op_forest.specs.Begun.{BeginsIn, Starts as Goes_on, output_starts, de
 use Rattle.vcode.specs.Execution.{State, without}
 use Rattle.vcode.specs.VirtualCode.{among}
 use Rattle.vcode.specs.Maps.{Map, IsWord, Grown}
-use Rattle.mips_machine.specs.Run.{Run}
+use Rattle.mips_machine.specs.State.{Cpu}
 use Rattle.mips_machine.specs.StepTable.{register}
 use Rattle.mips_rules.specs.Instructions.{lost_at_calls}
 use Rattle.mips_target.specs.Generated.{temporaries}
 use Rattle.mips_programs.specs.Working.{Working, runs, Gets}
 use Rattle.mips_programs.specs.Frames.{Waiting, IsOwn, Frame, stack_of, frame_word}
 use Rattle.mips_programs.specs.Matches.{Handed, Alike, Spent, Comes, CameBack}
-use Rattle.mips_programs.proofs.Prefixes.{starts_more}
 use Rattle.mips_programs.proofs.Steps.{runs_more, both_gets}
 use Rattle.mips_programs.proofs.Words.{small_index}
 
 -- a run that goes on from where the machine gets
-pub runs_on : (p : Program) (order : Order) (h h' : Working) (g : Gets p order h h') (n : ℕ) (r : Run) → runs p order h' n ≡ r → runs p order h (g.0 + n) ≡ r
+pub runs_on : (p : Program) (order : Order) (h h' : Working) (g : Gets p order h h') (n : ℕ) (r : Run Cpu) → runs p order h' n ≡ r → runs p order h (g.0 + n) ≡ r
 runs_on p order h h' g n r e = runs_more p order h h' g.0 n g.2 ∙ e
 
 -- an instruction at least was run, so another one is paid for
@@ -69,7 +70,7 @@ module _ (p : Program) (order : Order) (room : ℕ → ℕ) where
     pc = c.pc;
     printed = c.printed;
     out = c.out;
-    part = starts_more c.printed (output_of w.trace) (output_of more.trace) c.part (output_starts w.trace more.trace e);
+    part = prefix_of c.printed (output_of w.trace) (output_of more.trace) c.part (output_starts w.trace more.trace e);
     small = let d = depth_starts room [] w.trace more.trace e in omega (arith, c.small, d);
   }
 

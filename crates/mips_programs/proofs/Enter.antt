@@ -1,5 +1,5 @@
 -- A function is entered, or the stack is too small for its frame.
-use Rattle.std.proofs.Common.{◌≡◌, ◌⊎◌, inl, inr, ⊎_elim, ℕ, zero, suc, ◌+◌, ◌-◌, ◌*◌, ◌%◌, ◌^◌, ◌<◌, ◌≤◌, List, [], ◌∷◌, ◌++◌, length, refl, sym, ap, ◌∙◌, subst, arith}
+use Rattle.std.proofs.Common.{◌≡◌, ◌⊎◌, inl, inr, ⊎_elim, ℕ, zero, suc, ◌+◌, ◌-◌, ◌*◌, ◌%◌, ◌^◌, ◌<◌, ◌≤◌, Option, List, [], ◌∷◌, ◌++◌, length, refl, sym, ap, ◌∙◌, subst, arith}
 use Rattle.std.specs.Prelude.{slice_set}
 use Rattle.std.proofs.Common.{append-nil}
 use Rattle.std.proofs.lemmas.Bool.{cases_lt}
@@ -20,10 +20,10 @@ use Rattle.mips_machine.specs.Addresses.{code_start, stack_top, floor_of}
 use Rattle.mips_machine.specs.StepTable.{register, writes, goes, step}
 use Rattle.mips_target.specs.declared.layout.Layout.{Layout}
 use Rattle.mips_target.specs.Frame.{frame_size}
-use Rattle.mips_target.specs.FunctionCode.{prologue}
+use Rattle.mips_target.specs.FunctionCode.{prologue, unmarked}
+use Rattle.mips_target.specs.Items.{StandsIn}
 use Rattle.mips_programs.specs.Working.{Working, Gets}
 use Rattle.mips_programs.specs.Frames.{Waiting, Frame, IsSound, memory_of, Leaves}
-use Rattle.mips_programs.specs.Following.{StandsAt}
 use Rattle.mips_programs.specs.Matches.{IsBare, Alike, Entry, Spent}
 use Rattle.mips_programs.proofs.Steps.{with_cpu, with_register, with_stack, index_set, index_other, both_gets, once, once_out, stepped, pointed, out_of_stack, further}
 use Rattle.mips_programs.proofs.Words.{with_stack_word, small_index}
@@ -63,7 +63,7 @@ entered_machine order l h = with_cpu h (record {
 abbrev pub initial : Order → ℕ → Body → Point → State
 initial order name fn q = record { registers = λ r. unknown; slots = λ z. unknown; point = at_world q (entered order name fn q.world) }
 
-module _ (p : Program) (order : Order) (room : ℕ → ℕ) (map : Map) (outer : List Waiting) (name i : ℕ) (l : Layout) (forest_order : Order) (fn : Body) (q : Point) (h : Working) (bare : IsBare map) (entry : Entry order room map outer name q.world h) (at : h.cpu.pc ≡ code_start + 4 * i) (stands : StandsAt p.code i (prologue l)) (four : 4 ≤ l.arguments) (small : frame_size l ≤ 2147483648) (roomy : frame_size l ≤ room name) where
+module _ (p : Program) (order : Order) (room : ℕ → ℕ) (map : Map) (outer : List Waiting) (name i : ℕ) (found : ℕ → Option ℕ) (l : Layout) (forest_order : Order) (fn : Body) (q : Point) (h : Working) (bare : IsBare map) (entry : Entry order room map outer name q.world h) (at : h.cpu.pc ≡ code_start + 4 * i) (stands : StandsIn p.code found i (unmarked (prologue l))) (small : frame_size l ≤ 2147483648) (roomy : frame_size l ≤ room name) where
   -- what the first instruction writes, where the frame fits
   difference : floor_of (length h.cpu.stack) + frame_size l ≤ register h.cpu 29 → (register h.cpu 29 + 2 ^ 32 - frame_size l) % 2 ^ 32 ≡ register h.cpu 29 - frame_size l
   difference fits = let a = entry.high in omega (arith, a, fits)
@@ -74,7 +74,6 @@ module _ (p : Program) (order : Order) (room : ℕ → ℕ) (map : Map) (outer :
     above = omega (arith, fits);
     below = let a = entry.high in omega (arith, a, fits);
     four = let a = entry.four in omega (arith, a, fits);
-    words = four;
     back = entry.words 31;
     outer = λ a k. let y = entry.kept a k in (let x = y.0 in omega (arith, x, fits), y.1, y.2);
   }

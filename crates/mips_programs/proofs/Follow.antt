@@ -21,27 +21,28 @@ use Rattle.op_forest.specs.Functions.{value_or, Program as Meaning}
 use Rattle.vcode.specs.Execution.{State, with_value, with_slot, state_by, moved, executed}
 use Rattle.vcode.specs.VirtualCode.{among}
 use Rattle.vcode.specs.Maps.{Map, IsWord}
-use Rattle.mips_machine.specs.Addresses.{code_start, data_start, stack_top, floor_of, address_of}
+use Rattle.mips_machine.specs.Addresses.{code_start, data_start, stack_top, floor_of}
 use Rattle.mips_machine.specs.State.{Cpu}
-use Rattle.mips_machine.specs.StepTable.{register, writes, act, combined}
+use Rattle.mips_machine.specs.StepTable.{register, writes, calls as calls_at, act, combined}
+use Rattle.slot_allocator.specs.SlotCounts.{UsesSlotsBelow}
 use Rattle.mips_rules.specs.declared.instr.Instr.{Instr}
 use Rattle.mips_rules.specs.declared.instr.Instr.TheVariants as instr
 use Rattle.mips_rules.specs.declared.instr.Source.TheVariants as source
 use Rattle.mips_rules.specs.Instructions.{combined as combined_by, lost_at_calls}
 use Rattle.mips_rules.specs.Mips.{mips}
-use Rattle.mips_target.specs.FunctionCode.{in_frame, epilogue, loads_of, call_of, body_of}
+use Rattle.mips_target.specs.FunctionCode.{in_frame, epilogue, loads_of, call_of, unmarked, body_of}
+use Rattle.mips_target.specs.Items.{StandsIn}
 use Rattle.mips_target.specs.Registers.{NamesAmong}
 use Rattle.mips_target.specs.Sizes.{Fits}
 use Rattle.mips_target.specs.Generated.{temporaries}
 use Rattle.mips_programs.specs.Working.{Working, on, runs, Gets}
 use Rattle.mips_programs.specs.Frames.{Kept, Frame, stack_of, IsSound, stack_word, frame_word}
-use Rattle.mips_programs.specs.Following.{StandsAt}
-use Rattle.mips_programs.specs.Matches.{IsBare, Handed, Alike, Spent, Comes, passed_word, Entry, Answers, Calling}
+use Rattle.mips_programs.specs.Matches.{IsBare, HasPlaces, Handed, Alike, Spent, Comes, passed_word, Entry, Answers, Calling}
 use Rattle.mips_target.specs.CalledNames.{CallsAre}
-use Rattle.mips_programs.specs.Programs.{CanBeNamed, ArePlain, IsAddressed}
+use Rattle.mips_programs.specs.Programs.{CanBeNamed, IsAddressed}
 use Rattle.mips_programs.proofs.Steps.{with_register, with_stack, with_cpu, index_set, index_other, runs_more, both_gets, once, stepped, wrote, further}
 use Rattle.mips_programs.proofs.Words.{small_word, small_get, with_stack_word}
-use Rattle.mips_programs.proofs.Called.{stands_behind}
+use Rattle.mips_programs.proofs.Standing.{front_stands, stands_behind, both_stand}
 use Rattle.mips_programs.proofs.Keep.{temporary_range, set_temporary, set_other, put_slot, put_argument, with_argument}
 use Rattle.mips_programs.proofs.Access.{load_word, store_word, leave}
 use Rattle.mips_programs.proofs.Grow.{executed_begins}
@@ -107,10 +108,6 @@ of_name C t (Some (Function f)) q go stuck went = went f refl
 of_name C t (Some (Label g l)) q go stuck went = stuck
 of_name C t (Some (Partly mask bits)) q go stuck went = stuck
 
-pub front_stands : (code : List Instruction) (i : ℕ) (xs ys : List Instruction) → StandsAt code i (xs ++ ys) → StandsAt code i xs
-front_stands code i [] ys h = tt
-front_stands code i (x ∷ xs) ys h = (h.0, front_stands code (suc i) xs ys h.1)
-
 length_loads : (m : ℕ) → length (loads_of m) ≡ m
 length_loads zero = refl
 length_loads (suc m) = let a = length-append (loads_of m) (to.Load load.Word (4 + m) (in_frame (4 * m)) ∷ []) in let b = length_loads m in omega (arith, a, b)
@@ -149,8 +146,8 @@ record Loaded (p : Program) (order : Order) (room : ℕ → ℕ) (map : Map) (f 
   same : place.cpu.stack ≡ h.cpu.stack
   words : (j : ℕ) → j < m → register place.cpu (4 + j) ≡ frame_word order f h.cpu.stack j
 
-loaded : (p : Program) (order : Order) (room : ℕ → ℕ) (map : Map) (f : Frame) (s : State) (i m : ℕ) (h : Working) → IsSound f → m ≤ 4 → Alike order room map f s h → h.cpu.pc ≡ code_start + 4 * i → StandsAt p.code i (loads_of m) → Loaded p order room map f s i m h
-loaded p order room map f s i zero h sound few a at stands = record {
+loaded : (p : Program) (order : Order) (room : ℕ → ℕ) (map : Map) (f : Frame) (found : ℕ → Option ℕ) (s : State) (i m : ℕ) (h : Working) → IsSound f → m ≤ 4 → m ≤ f.layout.arguments → Alike order room map f s h → h.cpu.pc ≡ code_start + 4 * i → StandsIn p.code found i (unmarked (loads_of m)) → Loaded p order room map f s i m h
+loaded p order room map f found s i zero h sound few within a at stands = record {
   steps = 0;
   place = h;
   gets = refl;
@@ -162,17 +159,21 @@ loaded p order room map f s i zero h sound few a at stands = record {
   where
     none : (j : ℕ) → j < 0 → ⊥
     none j l = omega arith
-loaded p order room map f s i (suc m) h sound few a at stands =
-    let front = front_stands p.code i (loads_of m) _ stands in
-    let back = stands_behind p.code i (loads_of m) _ stands in
+loaded p order room map f found s i (suc m) h sound few within a at stands =
+    let last : List Instruction = to.Load load.Word (4 + m) (in_frame (4 * m)) ∷ [] in
+    let all = both_stand p.code found i (loads_of m) last stands in
+    let front = front_stands p.code found i (unmarked (loads_of m)) (unmarked last) all in
+    let back = stands_behind p.code found i (loads_of m) (unmarked last) all in
     let here : slice_get p.code (i + m) ≡ Some (to.Load load.Word (4 + m) (in_frame (4 * m))) = subst (λ n. slice_get p.code (i + n) ≡ Some (to.Load load.Word (4 + m) (in_frame (4 * m)))) (length_loads m) back.0 in
-    let x = loaded p order room map f s i m h sound (omega arith) a at front in
+    let x = loaded p order room map f found s i m h sound (omega arith) (omega arith) a at front in
     let v = frame_word order f x.place.cpu.stack m in
-    let g = load_word p order (i + m) f x.place (4 + m) m sound x.alike.leaves.room x.alike.pointer (let q = sound.words in omega (arith, q, few)) (omega arith) (ne_above (4 + m) 29 (omega arith)) x.at here in
+    let g = load_word p order (i + m) f x.place (4 + m) m sound x.alike.leaves.room x.alike.pointer (omega arith) (omega arith) (ne_above (4 + m) 29 (omega arith)) x.at here in
+    let y = with_register x.place (4 + m) v (x.place.cpu.pc + 4) in
+    let all_steps : Gets p order h y = gets_behind p order h x.place y x.steps x.gets g in
     record {
-      steps = x.steps + g.0;
-      place = with_register x.place (4 + m) v (x.place.cpu.pc + 4);
-      gets = runs_more p order h x.place x.steps g.0 x.gets ∙ g.2;
+      steps = all_steps.0;
+      place = y;
+      gets = all_steps.2;
       alike = set_other order room map f s x.place (4 + m) v (x.place.cpu.pc + 4) (omega arith) (ne_above (4 + m) 29 (omega arith)) (low_other (4 + m) (omega arith)) (small_word order x.place.cpu.stack _ x.alike.leaves.small) x.alike;
       at = (let e : code_start + 4 * suc (i + m) ≡ code_start + 4 * (i + suc m) = omega arith in further (i + m) x.place.cpu.pc x.at ∙ e);
       same = x.same;
@@ -196,13 +197,13 @@ passed order f cpu bytes k pointer same words j l =
     (λ e. cond-false (nat_lt j 4) (register cpu (4 + j)) (stack_word order cpu.stack (register cpu 29 + 4 * j)) (le-ltb j 4 e) ∙ ap (λ n. stack_word order cpu.stack (n + 4 * j)) pointer)
     (cases_lt j 4)
 
--- what waits for a call lies behind 16 bytes
-waiting_above : (f : Frame) → IsSound f → (a : ℕ) → Kept (waiting_in f) a → (f.low + 16 ≤ a) × (a + 4 ≤ stack_top) × (a % 4 ≡ 0)
-waiting_above f sound a (inl x) = low x.0 x.1.0 x.1.1 x.2
+-- what waits for a call lies behind its argument words
+waiting_above : (f : Frame) (count : ℕ) → IsSound f → count ≤ f.layout.arguments → (a : ℕ) → Kept (waiting_in f) a → (f.low + 4 * count ≤ a) × (a + 4 ≤ stack_top) × (a % 4 ≡ 0)
+waiting_above f count sound few a (inl x) = low x.0 x.1.0 x.1.1 x.2
   where
-    low : (k : ℕ) → f.layout.arguments ≤ k → k ≤ f.layout.arguments + f.layout.slots → a ≡ f.low + 4 * k → (f.low + 16 ≤ a) × (a + 4 ≤ stack_top) × (a % 4 ≡ 0)
-    low k at_least at_most e = let words = sound.words in let below = sound.below in let four = sound.four in (omega (arith, at_least, words, e), omega (arith, at_most, below, e), omega (arith, four, e))
-waiting_above f sound a (inr x) = let o = sound.outer a x in let words = sound.words in (omega (arith, o.0, words), o.1, o.2)
+    low : (k : ℕ) → f.layout.arguments ≤ k → k ≤ f.layout.arguments + f.layout.slots → a ≡ f.low + 4 * k → (f.low + 4 * count ≤ a) × (a + 4 ≤ stack_top) × (a % 4 ≡ 0)
+    low k at_least at_most e = let below = sound.below in let four = sound.four in (omega (arith, at_least, few, e), omega (arith, at_most, below, e), omega (arith, four, e))
+waiting_above f count sound few a (inr x) = let o = sound.outer a x in (omega (arith, o.0, few), o.1, o.2)
 
 -- a call begins
 entry_of : (order : Order) (room : ℕ → ℕ) (map : Map) (f : Frame) (name : ℕ) (s : State) (h : Working) → IsSound f → h.cpu.pc ≡ map.function name → Handed map (passed_word order h.cpu) 0 s.point.world.arguments → Alike order room map f s h → Entry order room map (waiting_in f) name s.point.world h
@@ -212,28 +213,28 @@ entry_of order room map f name s h sound at passes a = record {
   count = a.leaves.count;
   within = subst (λ n. n ≤ 16777216) (sym a.leaves.room) sound.within;
   low = subst (λ n. floor_of n ≤ register h.cpu 29) (sym a.leaves.room) (subst (λ x. floor_of (stack_of f) ≤ x) (sym a.pointer) sound.above);
-  high = subst (λ x. x + 16 ≤ stack_top) (sym a.pointer) (let below = sound.below in let words = sound.words in omega (arith, below, words));
+  high = subst (λ x. x + 4 * length s.point.world.arguments ≤ stack_top) (sym a.pointer) (let below = sound.below in let few = a.few in omega (arith, below, few));
   four = ap (λ x. x % 4) a.pointer ∙ sound.four;
   small = small_get h.cpu.stack a.leaves.small;
   shows = a.shows;
   passed = passes;
-  kept = λ b k. subst (λ x. (x + 16 ≤ b) × (b + 4 ≤ stack_top) × (b % 4 ≡ 0)) (sym a.pointer) (waiting_above f sound b k);
+  kept = λ b k. subst (λ x. (x + 4 * length s.point.world.arguments ≤ b) × (b + 4 ≤ stack_top) × (b % 4 ≡ 0)) (sym a.pointer) (waiting_above f (length s.point.world.arguments) sound a.few b k);
   deep = subst (λ x. stack_top ≤ x + room_of room (open_behind [] s.point.world.trace) + 32) (sym a.pointer) (subst (λ x. stack_top ≤ f.low + room_of room x + 32) (sym a.open_calls) a.deep);
 }
 
-module _ (p : Program) (order : Order) (room places : ℕ → ℕ) (long far : ℕ) (g : Meaning) (names : List (List ℕ)) (f : Frame) (t : Setting) (code : List Instr) where
+module _ (p : Program) (order : Order) (room : ℕ → ℕ) (places : ℕ → Option ℕ) (long far : ℕ) (g : Meaning) (names : List (List ℕ)) (found : ℕ → Option ℕ) (f : Frame) (t : Setting) (code : List Instr) where
   -- the rest of the code stands at the machine's place, in a state that is alike
   pub record Ready (map : Map) (k i : ℕ) (is : List Instr) (s : State) (h : Working) : Type 0 where
     pub alike : Alike order room map f s h
     pub at : h.cpu.pc ≡ code_start + 4 * i
-    pub stands : StandsAt p.code i (body_of names f.layout k is)
+    pub stands : StandsIn p.code found i (body_of names f.layout k is)
     pub fits : Fits names f.layout k is
     pub named : NamesAmong mips temporaries is
-    pub plain : ArePlain is
+    pub slots : UsesSlotsBelow mips f.layout.slots is
     pub calls : CallsAre (IsAddressed p g names places) is
     pub counts : k ≡ length s.point.world.arguments
     pub short : length is < long
-    pub functions : (name : ℕ) → map.function name ≡ places name
+    pub functions : HasPlaces map places
     pub bare : IsBare map
 
   module _ (ends : code_start + 4 * length p.code ≤ data_start) (sound : IsSound f) (same : t.global ≡ g.global) (calling : Calling p order room places (λ name. CanBeNamed (g.callee name)) long far t.call) where
@@ -248,8 +249,8 @@ module _ (p : Program) (order : Order) (room places : ℕ → ℕ) (long far : �
     shorter is x l = omega arith
 
     -- one instruction writes a temporary
-    temporary : (map : Map) (n b k i : ℕ) (x : Instr) (is : List Instr) (s : State) (h : Working) (d v : ℕ) (w : Word) → Holds n (b - 1) → IsTrue (among d temporaries) → v < 2 ^ 32 → IsWord map w v → Gets p order h (with_register h d v (h.cpu.pc + 4)) → StandsAt p.code (suc i) (body_of names f.layout k is) → Fits names f.layout k is → NamesAmong mips temporaries is → ArePlain is → CallsAre (IsAddressed p g names places) is → Ready map k i (x ∷ is) s h → Follows_on map b (length (x ∷ is)) h (executed mips t code n is (record { registers = with_value s.registers d w; slots = s.slots; point = s.point }))
-    temporary map n b k i x is s h d v w go low small is_word gets stands fits named plain calls r =
+    temporary : (map : Map) (n b k i : ℕ) (x : Instr) (is : List Instr) (s : State) (h : Working) (d v : ℕ) (w : Word) → Holds n (b - 1) → IsTrue (among d temporaries) → v < 2 ^ 32 → IsWord map w v → Gets p order h (with_register h d v (h.cpu.pc + 4)) → StandsIn p.code found (suc i) (body_of names f.layout k is) → Fits names f.layout k is → NamesAmong mips temporaries is → UsesSlotsBelow mips f.layout.slots is → CallsAre (IsAddressed p g names places) is → Ready map k i (x ∷ is) s h → Follows_on map b (length (x ∷ is)) h (executed mips t code n is (record { registers = with_value s.registers d w; slots = s.slots; point = s.point }))
+    temporary map n b k i x is s h d v w go low small is_word gets stands fits named slots calls r =
         let s' : State = record { registers = with_value s.registers d w; slots = s.slots; point = s.point } in
         let h' = with_register h d v (h.cpu.pc + 4) in
         later_by p order room map map long f b (length is) (length (x ∷ is)) h h' (executed mips t code n is s') (shorter is x r.short) (grown_same map) gets (go map k (suc i) is s' h' (record {
@@ -258,7 +259,7 @@ module _ (p : Program) (order : Order) (room places : ℕ → ℕ) (long far : �
           stands = stands;
           fits = fits;
           named = named;
-          plain = plain;
+          slots = slots;
           calls = calls;
           counts = r.counts;
           short = shorter is x r.short;
@@ -267,17 +268,17 @@ module _ (p : Program) (order : Order) (room places : ℕ → ℕ) (long far : �
         }))
 
     -- the same, where the instruction's own row says so
-    computes : (map : Map) (n b k i : ℕ) (z : Instruction) (x : Instr) (is : List Instr) (s : State) (h : Working) (d v : ℕ) (w : Word) → Holds n (b - 1) → IsTrue (among d temporaries) → v < 2 ^ 32 → IsWord map w v → act p order h.cpu z ≡ writes h.cpu d v → slice_get p.code i ≡ Some z → StandsAt p.code (suc i) (body_of names f.layout k is) → Fits names f.layout k is → NamesAmong mips temporaries is → ArePlain is → CallsAre (IsAddressed p g names places) is → Ready map k i (x ∷ is) s h → Follows_on map b (length (x ∷ is)) h (executed mips t code n is (record { registers = with_value s.registers d w; slots = s.slots; point = s.point }))
-    computes map n b k i z x is s h d v w go low small is_word acted here stands fits named plain calls r =
-        temporary map n b k i x is s h d v w go low small is_word (wrote p order i h z d v r.at here acted (above_zero d low) (not_pointer d low)) stands fits named plain calls r
+    computes : (map : Map) (n b k i : ℕ) (z : Instruction) (x : Instr) (is : List Instr) (s : State) (h : Working) (d v : ℕ) (w : Word) → Holds n (b - 1) → IsTrue (among d temporaries) → v < 2 ^ 32 → IsWord map w v → act p order h.cpu z ≡ writes h.cpu d v → slice_get p.code i ≡ Some z → StandsIn p.code found (suc i) (body_of names f.layout k is) → Fits names f.layout k is → NamesAmong mips temporaries is → UsesSlotsBelow mips f.layout.slots is → CallsAre (IsAddressed p g names places) is → Ready map k i (x ∷ is) s h → Follows_on map b (length (x ∷ is)) h (executed mips t code n is (record { registers = with_value s.registers d w; slots = s.slots; point = s.point }))
+    computes map n b k i z x is s h d v w go low small is_word acted here stands fits named slots calls r =
+        temporary map n b k i x is s h d v w go low small is_word (wrote p order i h z d v r.at here acted (above_zero d low) (not_pointer d low)) stands fits named slots calls r
 
     here_spent : (map : Map) (s : State) (h : Working) (w : World) → Alike order room map f s h → Spent p order room (length h.cpu.stack) h w → Spent p order room (stack_of f) h w
     here_spent map s h w a c = subst (λ n. Spent p order room n h w) a.leaves.room c
 
     -- what the machine does after a call, by what the call did
-    after_call : (map : Map) (n b k i m name d : ℕ) (is : List Instr) (s : State) (h h2 : Working) (e : Effect) → Holds n (b - 1) → b ≤ suc far → Answers p order room map long far (waiting_in f) s.point.world h2 e → Gets p order h h2 → Alike order room map f s h2 → register h2.cpu 31 ≡ code_start + 4 * suc m → slice_get p.code (suc m) ≡ Some (to.Move d 2) → StandsAt p.code (suc (suc m)) (body_of names f.layout 0 is) → IsTrue (among d temporaries) → Fits names f.layout 0 is → NamesAmong mips temporaries is → ArePlain is → CallsAre (IsAddressed p g names places) is → Ready map k i (instr.Call d name ∷ is) s h → Follows_on map b (length (instr.Call d name ∷ is)) h (goes (then_do e (λ ws q. handed ws q)) (λ ws q mv. moved mips code is mv q (λ js. executed mips t code n js (state_by mips (instr.Call d name) s ws q))))
-    after_call map n b k i m name d is s h h2 (Went [] q Next) go le ans gets a back here stands low fits named plain calls r = tt
-    after_call map n b k i m name d is s h h2 (Went (w ∷ ws) q Next) go le (inl c) gets a back here stands low fits named plain calls r =
+    after_call : (map : Map) (n b k i m name d : ℕ) (is : List Instr) (s : State) (h h2 : Working) (e : Effect) → Holds n (b - 1) → b ≤ suc far → Answers p order room map long far (waiting_in f) s.point.world h2 e → Gets p order h h2 → Alike order room map f s h2 → register h2.cpu 31 ≡ code_start + 4 * suc m → slice_get p.code (suc m) ≡ Some (to.Move d 2) → StandsIn p.code found (suc (suc m)) (body_of names f.layout 0 is) → IsTrue (among d temporaries) → Fits names f.layout 0 is → NamesAmong mips temporaries is → UsesSlotsBelow mips f.layout.slots is → CallsAre (IsAddressed p g names places) is → Ready map k i (instr.Call d name ∷ is) s h → Follows_on map b (length (instr.Call d name ∷ is)) h (goes (then_do e (λ ws q. handed ws q)) (λ ws q mv. moved mips code is mv q (λ js. executed mips t code n js (state_by mips (instr.Call d name) s ws q))))
+    after_call map n b k i m name d is s h h2 (Went [] q Next) go le ans gets a back here stands low fits named slots calls r = tt
+    after_call map n b k i m name d is s h h2 (Went (w ∷ ws) q Next) go le (inl c) gets a back here stands low fits named slots calls r =
         let s3 : State = record { registers = λ x. if among x lost_at_calls then Partly 0 0 else s.registers x; slots = s.slots; point = q } in
         let h3 = c.place in
         let s4 : State = record { registers = with_value s3.registers d w; slots = s.slots; point = q } in
@@ -292,22 +293,22 @@ module _ (p : Program) (order : Order) (room places : ℕ → ℕ) (long far : �
           stands = stands;
           fits = fits;
           named = named;
-          plain = plain;
+          slots = slots;
           calls = calls;
           counts = ap length (sym c.taken);
           short = shorter is (instr.Call d name) r.short;
-          functions = λ y. c.grown.functions y ∙ r.functions y;
+          functions = λ y a e. c.grown.functions y ∙ r.functions y a e;
           bare = c.bare;
         }))
-    after_call map n b k i m name d is s h h2 (Went (w ∷ ws) q Next) go le (inr c) gets a back here stands low fits named plain calls r =
+    after_call map n b k i m name d is s h h2 (Went (w ∷ ws) q Next) go le (inr c) gets a back here stands low fits named slots calls r =
         let s4 = state_by mips (instr.Call d name) s (w ∷ []) q in
         spent_in p order room map long f b (length (instr.Call d name ∷ is)) h q.world (executed mips t code n is s4) (executed_begins t calling.grows code n is s4) (spent_later p order room (stack_of f) h h2 q.world gets (here_spent map s h2 q.world a c))
-    after_call map n b k i m name d is s h h2 (Went ws q (To l)) go le ans gets a back here stands low fits named plain calls r = tt
-    after_call map n b k i m name d is s h h2 (Went ws q (End v)) go le ans gets a back here stands low fits named plain calls r = tt
-    after_call map n b k i m name d is s h h2 (Exits status w) go le (inl c) gets a back here stands low fits named plain calls r =
+    after_call map n b k i m name d is s h h2 (Went ws q (To l)) go le ans gets a back here stands low fits named slots calls r = tt
+    after_call map n b k i m name d is s h h2 (Went ws q (End v)) go le ans gets a back here stands low fits named slots calls r = tt
+    after_call map n b k i m name d is s h h2 (Exits status w) go le (inl c) gets a back here stands low fits named slots calls r =
         inl (record { steps = gets.0 + c.steps; ended = runs_on p order h h2 gets c.steps _ c.ended })
-    after_call map n b k i m name d is s h h2 (Exits status w) go le (inr c) gets a back here stands low fits named plain calls r = inr (spent_later p order room (stack_of f) h h2 w gets (here_spent map s h2 w a c))
-    after_call map n b k i m name d is s h h2 (Unfinished w) go le (inl c) gets a back here stands low fits named plain calls r =
+    after_call map n b k i m name d is s h h2 (Exits status w) go le (inr c) gets a back here stands low fits named slots calls r = inr (spent_later p order room (stack_of f) h h2 w gets (here_spent map s h2 w a c))
+    after_call map n b k i m name d is s h h2 (Unfinished w) go le (inl c) gets a back here stands low fits named slots calls r =
         inl (record {
           steps = gets.0 + c.steps;
           place = c.place;
@@ -315,8 +316,8 @@ module _ (p : Program) (order : Order) (room places : ℕ → ℕ) (long far : �
           gets = runs_on p order h h2 gets c.steps _ c.gets;
           printed = c.printed;
         })
-    after_call map n b k i m name d is s h h2 (Unfinished w) go le (inr c) gets a back here stands low fits named plain calls r = inr (spent_later p order room (stack_of f) h h2 w gets (here_spent map s h2 w a c))
-    after_call map n b k i m name d is s h h2 Stuck go le ans gets a back here stands low fits named plain calls r = tt
+    after_call map n b k i m name d is s h h2 (Unfinished w) go le (inr c) gets a back here stands low fits named slots calls r = inr (spent_later p order room (stack_of f) h h2 w gets (here_spent map s h2 w a c))
+    after_call map n b k i m name d is s h h2 Stuck go le ans gets a back here stands low fits named slots calls r = tt
 
     -- a call, of a name that is function fn
     calls_on : (map : Map) (n b k i name fn d : ℕ) (is : List Instr) (s : State) (h : Working) → Holds n (b - 1) → b ≤ suc far → t.global name ≡ Some (Function fn) → Ready map k i (instr.Call d name ∷ is) s h → Follows_on map b (length (instr.Call d name ∷ is)) h (goes (then_do (t.call fn s.point) (λ ws q. handed ws q)) (λ ws q mv. moved mips code is mv q (λ js. executed mips t code n js (state_by mips (instr.Call d name) s ws q))))
@@ -324,45 +325,47 @@ module _ (p : Program) (order : Order) (room places : ℕ → ℕ) (long far : �
         let j = min k 4 in
         let known = r.calls.0 fn (subst (λ (global : ℕ → Option Word). global name ≡ Some (Function fn)) same value) in
         let bytes = get_or names name [] in
-        let all = front_stands p.code i (call_of names k d name) (body_of names f.layout 0 is) r.stands in
-        let rest = stands_behind p.code i (call_of names k d name) (body_of names f.layout 0 is) r.stands in
+        let all = front_stands p.code found i (unmarked (call_of names k d name)) (body_of names f.layout 0 is) r.stands in
+        let rest = stands_behind p.code found i (call_of names k d name) (body_of names f.layout 0 is) r.stands in
         let two : List Instruction = to.Call (target.Label bytes) ∷ to.Move d 2 ∷ [] in
-        let first = front_stands p.code i (loads_of j) two all in
-        let x = loaded p order room map f s i j h sound (omega arith) r.alike r.at first in
-        let there = subst (λ n2. StandsAt p.code (i + n2) two) (length_loads j) (stands_behind p.code i (loads_of j) two all) in
+        let both = both_stand p.code found i (loads_of j) two all in
+        let first = front_stands p.code found i (unmarked (loads_of j)) (unmarked two) both in
+        let few : j ≤ f.layout.arguments = (let a = r.alike.few in let e = r.counts in omega (arith, a, e)) in
+        let x = loaded p order room map f found s i j h sound (omega arith) few r.alike r.at first in
+        let there = subst (λ n2. StandsIn p.code found (i + n2) (unmarked two)) (length_loads j) (stands_behind p.code found i (loads_of j) (unmarked two) both) in
         let last : length (call_of names k d name) ≡ j + 2 = length-append (loads_of j) two ∙ ap (λ n2. n2 + 2) (length_loads j) in
         let h1 = x.place in
-        let cpu2 : Cpu = record { registers = slice_set h1.cpu.registers 31 (h1.cpu.pc + 4); stack = h1.cpu.stack; pc = address_of p bytes } in
+        let cpu2 : Cpu = record { registers = slice_set h1.cpu.registers 31 (h1.cpu.pc + 4); stack = h1.cpu.stack; pc = known.address } in
         let h2 = with_cpu h1 cpu2 in
-        let step2 = once p order h1 cpu2 (stepped p order (i + j) h1.cpu h1.left (to.Call (target.Label bytes)) x.at there.0) in
+        let step2 = once p order h1 cpu2 (stepped p order (i + j) h1.cpu h1.left (to.Call (target.Label bytes)) x.at there.0 ∙ ap (calls_at h1.cpu) known.in_text) in
         let gets : Gets p order h h2 = gets_behind p order h h1 h2 x.steps x.gets step2 in
         let at2 = further (i + j) h1.cpu.pc x.at in
-        let a2 = set_other order room map f s h1 31 (h1.cpu.pc + 4) (address_of p bytes) (omega arith) (ne_below 31 29 (omega arith)) refl (near p.code (suc (i + j)) (to.Move d 2) (h1.cpu.pc + 4) ends at2 there.1.0) x.alike in
+        let a2 = set_other order room map f s h1 31 (h1.cpu.pc + 4) known.address (omega arith) (ne_below 31 29 (omega arith)) refl (near p.code (suc (i + j)) (to.Move d 2) (h1.cpu.pc + 4) ends at2 there.1.0) x.alike in
         let words : (y : ℕ) → y < j → register cpu2 (4 + y) ≡ frame_word order f h.cpu.stack y = λ y l. index_other h1.cpu.registers 31 (4 + y) (h1.cpu.pc + 4) (ne_above (4 + y) 31 (omega arith)) ∙ x.words y l in
         let passes = handed_same map (frame_word order f cpu2.stack) (passed_word order cpu2) 0 s.point.world.arguments (λ y l. passed order f cpu2 h.cpu.stack k a2.pointer x.same words y (omega (arith, l, r.counts))) a2.handed in
-        let entry = entry_of order room map f fn s h2 sound (known.0 ∙ sym (r.functions fn)) passes a2 in
+        let entry = entry_of order room map f fn s h2 sound (sym (r.functions fn known.address known.place)) passes a2 in
         let back : register cpu2 31 ≡ code_start + 4 * suc (i + j) = index_set h1.cpu.registers 31 (h1.cpu.pc + 4) (subst (λ n2. 31 < n2) (sym x.alike.leaves.count) (omega arith)) ∙ at2 in
         let behind : i + length (call_of names k d name) ≡ suc (suc (i + j)) = omega (arith, last) in
-        after_call map n b k i (i + j) name d is s h h2 (t.call fn s.point) go le (calling.answers map (waiting_in f) fn s.point h2 known.1 r.bare r.functions entry) gets a2 back there.1.0 (subst (λ n2. StandsAt p.code n2 (body_of names f.layout 0 is)) behind rest) r.named.0.0 r.fits.1 r.named.1 r.plain.1 r.calls.1 r
+        after_call map n b k i (i + j) name d is s h h2 (t.call fn s.point) go le (calling.answers map (waiting_in f) fn s.point h2 known.able r.bare r.functions entry) gets a2 back there.1.0 (subst (λ n2. StandsIn p.code found n2 (body_of names f.layout 0 is)) behind rest) r.named.0.0 r.fits.1 r.named.1 r.slots.1 r.calls.1 r
 
     pub follows : (n b : ℕ) (map : Map) (k i : ℕ) (is : List Instr) (s : State) (h : Working) → b ≤ n → b ≤ suc far → Ready map k i is s h → Comes p order room map long f b (length is) h (executed mips t code n is s)
     follows zero b map k i is s h less le r = inl (record { steps = 0; place = h; many = omega arith; gets = refl; printed = r.alike.shows.printed })
     follows (suc n) b map k i [] s h less le r =
-        let c = leave p order room map f i s h None sound r.alike tt r.at r.stands in
+        let c = leave p order room map f found i s h None sound r.alike tt r.at r.stands in
         inl (record { later = map; place = c.0; gets = c.1; grown = grown_same map; bare = r.bare; returned = c.2 })
     follows (suc n) b map k i (instr.LoadNumber d v ∷ is) s h less le r =
-        computes map n b k i (to.LoadNumber d v) (instr.LoadNumber d v) is s h d v (Number v) (λ m' k' i' is' s' h' r'. follows n (b - 1) m' k' i' is' s' h' (omega arith) (omega arith) r') r.named.0.0 r.plain.0 refl refl r.stands.0 r.stands.1 r.fits.1 r.named.1 r.plain.1 r.calls.1 r
+        computes map n b k i (to.LoadNumber d v) (instr.LoadNumber d v) is s h d v (Number v) (λ m' k' i' is' s' h' r'. follows n (b - 1) m' k' i' is' s' h' (omega arith) (omega arith) r') r.named.0.0 r.fits.0.1 refl refl r.stands.0 r.stands.1 r.fits.1 r.named.1 r.slots.1 r.calls.1 r
     follows (suc n) b map k i (instr.Binary op d x (source.Register y) ∷ is) s h less le r =
         let v = combined op (register h.cpu x) (register h.cpu y) in
         of_numbers map (Follows_on map b (length (instr.Binary op d x (source.Register y) ∷ is)) h) (combined_by op) (s.registers x) (s.registers y) (register h.cpu x) (register h.cpu y) s.point (λ ws q mv. moved mips code is mv q (λ js. executed mips t code n js (state_by mips (instr.Binary op d x (source.Register y)) s ws q))) (r.alike.temps x r.named.0.1.0) (r.alike.temps y r.named.0.1.1.0) tt
-        (computes map n b k i (to.Binary op d x (operand.Register y)) (instr.Binary op d x (source.Register y)) is s h d v (Number (combined_by op (register h.cpu x) (register h.cpu y))) (λ m' k' i' is' s' h' r'. follows n (b - 1) m' k' i' is' s' h' (omega arith) (omega arith) r') r.named.0.0 (combined_small op (register h.cpu x) (register h.cpu y)) (sym (same_combined op (register h.cpu x) (register h.cpu y))) refl r.stands.0 r.stands.1 r.fits.1 r.named.1 r.plain.1 r.calls.1 r)
+        (computes map n b k i (to.Binary op d x (operand.Register y)) (instr.Binary op d x (source.Register y)) is s h d v (Number (combined_by op (register h.cpu x) (register h.cpu y))) (λ m' k' i' is' s' h' r'. follows n (b - 1) m' k' i' is' s' h' (omega arith) (omega arith) r') r.named.0.0 (combined_small op (register h.cpu x) (register h.cpu y)) (sym (same_combined op (register h.cpu x) (register h.cpu y))) refl r.stands.0 r.stands.1 r.fits.1 r.named.1 r.slots.1 r.calls.1 r)
     follows (suc n) b map k i (instr.Binary op d x (source.Number y) ∷ is) s h less le r =
         let v = combined op (register h.cpu x) y in
         of_numbers map (Follows_on map b (length (instr.Binary op d x (source.Number y) ∷ is)) h) (combined_by op) (s.registers x) (Number y) (register h.cpu x) y s.point (λ ws q mv. moved mips code is mv q (λ js. executed mips t code n js (state_by mips (instr.Binary op d x (source.Number y)) s ws q))) (r.alike.temps x r.named.0.1.0) refl tt
-        (computes map n b k i (to.Binary op d x (operand.Number y)) (instr.Binary op d x (source.Number y)) is s h d v (Number (combined_by op (register h.cpu x) y)) (λ m' k' i' is' s' h' r'. follows n (b - 1) m' k' i' is' s' h' (omega arith) (omega arith) r') r.named.0.0 (combined_small op (register h.cpu x) y) (sym (same_combined op (register h.cpu x) y)) refl r.stands.0 r.stands.1 r.fits.1 r.named.1 r.plain.1 r.calls.1 r)
+        (computes map n b k i (to.Binary op d x (operand.Number y)) (instr.Binary op d x (source.Number y)) is s h d v (Number (combined_by op (register h.cpu x) y)) (λ m' k' i' is' s' h' r'. follows n (b - 1) m' k' i' is' s' h' (omega arith) (omega arith) r') r.named.0.0 (combined_small op (register h.cpu x) y) (sym (same_combined op (register h.cpu x) y)) refl r.stands.0 r.stands.1 r.fits.1 r.named.1 r.slots.1 r.calls.1 r)
     follows (suc n) b map k i (instr.Negate d x ∷ is) s h less le r =
         of_number map (Follows_on map b (length (instr.Negate d x ∷ is)) h) negated (s.registers x) (register h.cpu x) s.point (λ ws q mv. moved mips code is mv q (λ js. executed mips t code n js (state_by mips (instr.Negate d x) s ws q))) (r.alike.temps x r.named.0.1.0) tt
-        (computes map n b k i (to.Unary unary.Negate d x) (instr.Negate d x) is s h d (negated (register h.cpu x)) (Number (negated (register h.cpu x))) (λ m' k' i' is' s' h' r'. follows n (b - 1) m' k' i' is' s' h' (omega arith) (omega arith) r') r.named.0.0 (negated_small (register h.cpu x)) refl refl r.stands.0 r.stands.1 r.fits.1 r.named.1 r.plain.1 r.calls.1 r)
+        (computes map n b k i (to.Unary unary.Negate d x) (instr.Negate d x) is s h d (negated (register h.cpu x)) (Number (negated (register h.cpu x))) (λ m' k' i' is' s' h' r'. follows n (b - 1) m' k' i' is' s' h' (omega arith) (omega arith) r') r.named.0.0 (negated_small (register h.cpu x)) refl refl r.stands.0 r.stands.1 r.fits.1 r.named.1 r.slots.1 r.calls.1 r)
     follows (suc n) b map k i (instr.Argument x ∷ is) s h less le r =
         let s' : State = record { registers = s.registers; slots = s.slots; point = with_argument s.point (s.registers x) } in
         let h' = with_stack h (with_stack_word order h.cpu.stack (f.low + 4 * k) (register h.cpu x)) (h.cpu.pc + 4) in
@@ -373,7 +376,7 @@ module _ (p : Program) (order : Order) (room places : ℕ → ℕ) (long far : �
           stands = r.stands.1;
           fits = r.fits.1;
           named = r.named.1;
-          plain = r.plain.1;
+          slots = r.slots.1;
           calls = r.calls.1;
           counts = one_more k s.point.world.arguments (s.registers x) r.counts;
           short = shorter is (instr.Argument x) r.short;
@@ -389,17 +392,17 @@ module _ (p : Program) (order : Order) (room places : ℕ → ℕ) (long far : �
         let a = set_other order room map f s h 2 v (h.cpu.pc + 4) (omega arith) (ne_above 2 29 (omega arith)) refl (r.alike.leaves.words x) r.alike in
         let step1 = wrote p order i h (to.Move 2 x) 2 v r.at r.stands.0 refl (omega arith) (ne_above 2 29 (omega arith)) in
         let two : register h1.cpu 2 ≡ v = index_set h.cpu.registers 2 v (subst (λ n2. 2 < n2) (sym r.alike.leaves.count) (omega arith)) in
-        let c = leave p order room map f (suc i) s h1 (Some (s.registers x)) sound a (subst (IsWord map (s.registers x)) (sym two) (r.alike.temps x r.named.0.0)) (further i h.cpu.pc r.at) (front_stands p.code (suc i) (epilogue f.layout) _ r.stands.1) in
+        let c = leave p order room map f found (suc i) s h1 (Some (s.registers x)) sound a (subst (IsWord map (s.registers x)) (sym two) (r.alike.temps x r.named.0.0)) (further i h.cpu.pc r.at) (front_stands p.code found (suc i) (unmarked (epilogue f.layout)) (body_of names f.layout k is) r.stands.1) in
         inl (record { later = map; place = c.0; gets = both_gets p order h h1 c.0 step1 c.1; grown = grown_same map; bare = r.bare; returned = c.2 })
     follows (suc n) b map k i (instr.Copy d x ∷ is) s h less le r =
-        computes map n b k i (to.Move d x) (instr.Copy d x) is s h d (register h.cpu x) (s.registers x) (λ m' k' i' is' s' h' r'. follows n (b - 1) m' k' i' is' s' h' (omega arith) (omega arith) r') r.named.0.0 (r.alike.leaves.words x) (r.alike.temps x r.named.0.1.0) refl r.stands.0 r.stands.1 r.fits.1 r.named.1 r.plain.1 r.calls.1 r
+        computes map n b k i (to.Move d x) (instr.Copy d x) is s h d (register h.cpu x) (s.registers x) (λ m' k' i' is' s' h' r'. follows n (b - 1) m' k' i' is' s' h' (omega arith) (omega arith) r') r.named.0.0 (r.alike.leaves.words x) (r.alike.temps x r.named.0.1.0) refl r.stands.0 r.stands.1 r.fits.1 r.named.1 r.slots.1 r.calls.1 r
     follows (suc n) b map k i (instr.LoadSlot d (pos z) ∷ is) s h less le r =
-        let low = r.fits.0.1 in
+        let low = r.slots.0 in
         let y = f.layout.arguments + z in
-        temporary map n b k i (instr.LoadSlot d (pos z)) is s h d (frame_word order f h.cpu.stack y) (s.slots (pos z)) (λ m' k' i' is' s' h' r'. follows n (b - 1) m' k' i' is' s' h' (omega arith) (omega arith) r') r.named.0.0 (small_word order h.cpu.stack _ r.alike.leaves.small) (r.alike.spilled z low) (load_word p order i f h d y sound r.alike.leaves.room r.alike.pointer (omega (arith, low)) (above_zero d r.named.0.0) (not_pointer d r.named.0.0) r.at r.stands.0) r.stands.1 r.fits.1 r.named.1 r.plain.1 r.calls.1 r
-    follows (suc n) b map k i (instr.LoadSlot d (negsuc z) ∷ is) s h less le r = absurd r.plain.0
+        temporary map n b k i (instr.LoadSlot d (pos z)) is s h d (frame_word order f h.cpu.stack y) (s.slots (pos z)) (λ m' k' i' is' s' h' r'. follows n (b - 1) m' k' i' is' s' h' (omega arith) (omega arith) r') r.named.0.0 (small_word order h.cpu.stack _ r.alike.leaves.small) (r.alike.spilled z low) (load_word p order i f h d y sound r.alike.leaves.room r.alike.pointer (omega (arith, low)) (above_zero d r.named.0.0) (not_pointer d r.named.0.0) r.at r.stands.0) r.stands.1 r.fits.1 r.named.1 r.slots.1 r.calls.1 r
+    follows (suc n) b map k i (instr.LoadSlot d (negsuc z) ∷ is) s h less le r = absurd r.slots.0
     follows (suc n) b map k i (instr.StoreSlot x (pos z) ∷ is) s h less le r =
-        let low = r.fits.0.1 in
+        let low = r.slots.0 in
         let y = f.layout.arguments + z in
         let s' : State = record { registers = s.registers; slots = with_slot s.slots (pos z) (s.registers x); point = s.point } in
         let h' = with_stack h (with_stack_word order h.cpu.stack (f.low + 4 * y) (register h.cpu x)) (h.cpu.pc + 4) in
@@ -409,11 +412,11 @@ module _ (p : Program) (order : Order) (room places : ℕ → ℕ) (long far : �
           stands = r.stands.1;
           fits = r.fits.1;
           named = r.named.1;
-          plain = r.plain.1;
+          slots = r.slots.1;
           calls = r.calls.1;
           counts = r.counts;
           short = shorter is (instr.StoreSlot x (pos z)) r.short;
           functions = r.functions;
           bare = r.bare;
         }))
-    follows (suc n) b map k i (instr.StoreSlot x (negsuc z) ∷ is) s h less le r = absurd r.plain.0
+    follows (suc n) b map k i (instr.StoreSlot x (negsuc z) ∷ is) s h less le r = absurd r.slots.0

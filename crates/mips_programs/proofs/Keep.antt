@@ -7,7 +7,7 @@ use Rattle.std.proofs.Common.{length-append}
 use Rattle.lcc_base.specs.declared.order.Order.{Order}
 use Rattle.op_forest.specs.Words.{Word, Byte}
 use Rattle.op_forest.specs.Worlds.{Object, Point, at_world}
-use Rattle.slot_allocator.proofs.Values.{slot_at, slot_off}
+use Rattle.slot_allocator.specs.Values.{slot_at, slot_off}
 use Rattle.vcode.specs.Execution.{State, with_value, with_slot}
 use Rattle.vcode.specs.VirtualCode.{among}
 use Rattle.vcode.specs.Maps.{Map, IsWord, Lies, IsAt}

@@ -11,9 +11,9 @@ use Rattle.op_forest.specs.Prefixes.{output_append}
 use Rattle.op_forest.specs.Worlds.{Point}
 use Rattle.op_forest.specs.Functions.{Putchar, provided, put_character}
 use Rattle.vcode.specs.Maps.{Map}
+use Rattle.asm_text.specs.Runs.{Goes, after}
 use Rattle.mips_machine.specs.Addresses.{putchar_at}
-use Rattle.mips_machine.specs.StepTable.{Goes, register, lost, without, returned}
-use Rattle.mips_machine.specs.Run.{after}
+use Rattle.mips_machine.specs.StepTable.{register, lost, without, returned}
 use Rattle.mips_programs.specs.Working.{Working, Gets}
 use Rattle.mips_programs.specs.Frames.{Waiting, memory_of}
 use Rattle.mips_programs.specs.Matches.{IsBare, Handed, Entry, Answers, passed_word}

@@ -1,9 +1,10 @@
 -- How far the machine gets with the run of a program, from its answers to the call of the function main.
-use Rattle.std.proofs.Common.{◌≡◌, inl, inr, ⊎_elim, ℕ, suc, ◌+◌, ◌-◌, ◌*◌, ◌<◌, ◌≤◌, List, [], ◌∷◌, length, refl, ap, ◌∙◌, subst, arith}
+use Rattle.std.proofs.Common.{◌≡◌, inl, inr, ⊎_elim, ℕ, suc, ◌+◌, ◌-◌, ◌*◌, ◌<◌, ◌≤◌, List, [], ◌∷◌, length, Some, refl, sym, ap, ◌∙◌, subst, arith}
 use Rattle.std.specs.Int.{cast_signed, w32}
 use Rattle.std.proofs.lemmas.Bool.{cases_lt}
 use Rattle.lcc_base.specs.declared.order.Order.{Order}
 use Rattle.asm_text.specs.declared.program.Program.{Program}
+use Rattle.asm_text.specs.Runs.{Run, Ended, IsGoing, after, onward, run_from}
 use Rattle.op_forest.specs.Words.{Word, Number}
 use Rattle.op_forest.specs.Traces.{output_of}
 use Rattle.op_forest.specs.Worlds.{World, Point, Move, Effect, Went, Exits, Unfinished, Stuck}
@@ -12,10 +13,9 @@ use Rattle.vcode.specs.Maps.{Map, IsWord}
 use Rattle.mips_machine.specs.Addresses.{end_at}
 use Rattle.mips_machine.specs.State.{Cpu}
 use Rattle.mips_machine.specs.StepTable.{register, step, ends}
-use Rattle.mips_machine.specs.Run.{Run, Ended, after, onward, run_from}
 use Rattle.mips_programs.specs.Working.{Working, on, runs}
 use Rattle.mips_programs.specs.Matches.{Answers, CameBack}
-use Rattle.mips_programs.specs.Reached.{Reached, HasEnded, IsOut, IsAtWork}
+use Rattle.mips_programs.specs.Reached.{status_in, seen, Reached, HasEnded, IsOut, IsAtWork}
 use Rattle.mips_programs.specs.Meant.{HasMeaning}
 
 -- at the address where a run ends, it ends
@@ -23,14 +23,14 @@ step_ends : (p : Program) (order : Order) (cpu : Cpu) (left : List ℕ) → cpu.
 step_ends p order cpu left e = rw e refl
 
 -- the run at the end, whose status is in register 2
-abbrev ended_run : Working → Run
+abbrev ended_run : Working → Run Cpu
 ended_run h = record { printed = h.printed; place = Ended (cast_signed w32 (register h.cpu 2)) }
 
-onward_ends : (p : Program) (order : Order) (h : Working) → h.cpu.pc ≡ end_at → onward p order (on h).printed (on h).place ≡ ended_run h
+onward_ends : (p : Program) (order : Order) (h : Working) → h.cpu.pc ≡ end_at → onward (step p order) (on h).printed (on h).place ≡ ended_run h
 onward_ends p order h e = ap (after h.printed h.left) (step_ends p order h.cpu h.left e)
 
 run_ends : (p : Program) (order : Order) (h end : Working) (j : ℕ) → runs p order h j ≡ on end → end.cpu.pc ≡ end_at → runs p order h (suc j) ≡ ended_run end
-run_ends p order h end j gets at = ap (λ x. onward p order x.printed x.place) gets ∙ onward_ends p order end at
+run_ends p order h end j gets at = ap (λ (x : Run Cpu). onward (step p order) x.printed x.place) gets ∙ onward_ends p order end at
 
 number_is : (map : Map) (ws : List Word) (n r : ℕ) → ws ≡ Number n ∷ [] → IsWord map (first_of ws) r → r ≡ n
 number_is map ws n r e h = subst (λ vs. IsWord map (first_of vs) r) e h
@@ -48,8 +48,8 @@ bounded n j long a b = ⊎_elim (λ l. absurd (no_more l)) (λ l. l) (cases_lt j
         omega arith
 
 module _ (p : Program) (order : Order) (room : ℕ → ℕ) (map : Map) (u : World) (h : Working) (back : register h.cpu 31 ≡ end_at) where
-  abbrev Gets : ℕ → Effect → Type 0
-  Gets n e = Reached (λ m. run_from p order (on h) m) room (length h.cpu.stack) n e
+  abbrev pub Gets : ℕ → Effect → Type 0
+  Gets n e = Reached (λ m. run_from (step p order) (on h) m) (length h.cpu.stack) n (seen room e)
 
   came_back : (n : ℕ) (ws : List Word) (q : Point) (mv : Move) → HasMeaning (Went ws q mv) → CameBack p order map [] u h ws q.world → Gets n (Went ws q mv)
   came_back n ws q mv meant a =
@@ -57,21 +57,21 @@ module _ (p : Program) (order : Order) (room : ℕ → ℕ) (map : Map) (u : Wor
       let status = cast_signed w32 (register end.cpu 2) in
       let value : register end.cpu 2 ≡ meant.0 = number_is a.later ws meant.0 (register end.cpu 2) meant.1 a.result in
       let run : runs p order h (suc a.gets.0) ≡ record { printed = output_of q.world.trace; place = Ended status } = run_ends p order h end a.gets.0 a.gets.2 (a.at ∙ back) ∙ ap (λ out. record { printed = out; place = Ended status }) a.shows.printed in
-      HasEnded (suc a.gets.0) status run (meant.0, meant.1, ap (λ x. cast_signed w32 x) value)
+      HasEnded (suc a.gets.0) status run (ap status_in meant.1 ∙ ap (λ x. Some (cast_signed w32 x)) (sym value))
 
   reach_in : (long n far : ℕ) (e : Effect) → ((j : ℕ) → far ≤ j * long + long → n ≤ j) → HasMeaning e → Answers p order room map long far [] u h e → Gets n e
   reach_in long n far (Went ws q mv) pays meant (inl a) = came_back n ws q mv meant a
   reach_in long n far (Went ws q mv) pays meant (inr s) = IsOut s.steps s.pc s.printed s.out s.part s.small
   reach_in long n far (Exits status w) pays meant (inl a) = HasEnded a.steps (cast_signed w32 status) a.ended refl
   reach_in long n far (Exits status w) pays meant (inr s) = IsOut s.steps s.pc s.printed s.out s.part s.small
-  reach_in long n far (Unfinished w) pays meant (inl a) = IsAtWork a.steps a.place (pays a.steps a.many) a.gets a.printed tt
+  reach_in long n far (Unfinished w) pays meant (inl a) = IsAtWork a.steps (pays a.steps a.many) (subst (λ (x : Run Cpu). IsGoing x.place) (sym a.gets) tt) (ap (λ (x : Run Cpu). x.printed) a.gets ∙ a.printed) refl
   reach_in long n far (Unfinished w) pays meant (inr s) = IsOut s.steps s.pc s.printed s.out s.part s.small
   reach_in long n far Stuck pays meant a = absurd meant
 
   -- with a budget for n turns and one more it has made n steps or is over
-  pub reach : (long n : ℕ) (e : Effect) → 0 < long → HasMeaning e → Answers p order room map long (suc n * long) [] u h e → Reached (λ m. run_from p order (on h) m) room (length h.cpu.stack) n e
+  pub reach : (long n : ℕ) (e : Effect) → 0 < long → HasMeaning e → Answers p order room map long (suc n * long) [] u h e → Gets n e
   reach long n e more meant a = reach_in long n (suc n * long) e (λ j le. bounded n j long le more) meant a
 
   -- with any budget it has come as far as the effect
-  pub reach_any : (long far : ℕ) (e : Effect) → HasMeaning e → Answers p order room map long far [] u h e → Reached (λ m. run_from p order (on h) m) room (length h.cpu.stack) 0 e
+  pub reach_any : (long far : ℕ) (e : Effect) → HasMeaning e → Answers p order room map long far [] u h e → Gets 0 e
   reach_any long far e meant a = reach_in long 0 far e (λ j le. omega arith) meant a

@@ -1,5 +1,5 @@
 -- The start of the machine is where the call of the function main begins.
-use Rattle.std.proofs.Common.{◌≡◌, ℕ, zero, suc, ◌+◌, ◌*◌, ◌^◌, ◌<◌, ◌≤◌, List, [], Some, None, refl, sym, subst, arith}
+use Rattle.std.proofs.Common.{◌≡◌, ℕ, zero, suc, ◌+◌, ◌*◌, ◌^◌, ◌<◌, ◌≤◌, List, [], Option, Some, None, refl, sym, ap, subst, arith}
 use Rattle.std.specs.Prelude.{slice_get, slice_index, slice_set, replicate}
 use Rattle.std.proofs.lemmas.List.{length-replicate}
 use Rattle.std.proofs.lemmas.Option.{none-some, same_Some}
@@ -10,7 +10,7 @@ use Rattle.vcode.specs.Maps.{Map}
 use Rattle.mips_machine.specs.Addresses.{code_start, end_at, floor_of}
 use Rattle.mips_machine.specs.Run.{first_registers, first_cpu}
 use Rattle.mips_programs.specs.Working.{Working}
-use Rattle.mips_programs.specs.Matches.{IsBare, Entry}
+use Rattle.mips_programs.specs.Matches.{IsBare, HasPlaces, Entry}
 use Rattle.mips_programs.proofs.Steps.{small_set}
 use Rattle.mips_programs.proofs.Keep.{bare_lies}
 
@@ -18,11 +18,18 @@ use Rattle.mips_programs.proofs.Keep.{bare_lies}
 abbrev pub at_start : ℕ → ℕ → List ℕ → Working
 at_start stack main input = record { cpu = first_cpu stack main; printed = []; left = input }
 
--- no object lies in memory, and functions have these addresses
-abbrev pub start_map : (ℕ → ℕ) → Map
-start_map places = record { object = λ o. None; function = places; label = λ f l. 0 }
+abbrev address_or_none : Option ℕ → ℕ
+address_or_none (Some address) = address
+address_or_none None = 0
 
-pub start_bare : (places : ℕ → ℕ) → IsBare (start_map places)
+-- no object lies in memory, and functions have these addresses
+abbrev pub start_map : (ℕ → Option ℕ) → Map
+start_map places = record { object = λ o. None; function = λ name. address_or_none (places name); label = λ f l. 0 }
+
+pub start_places : (places : ℕ → Option ℕ) → HasPlaces (start_map places) places
+start_places places name address e = ap address_or_none e
+
+pub start_bare : (places : ℕ → Option ℕ) → IsBare (start_map places)
 start_bare places o = refl
 
 replicated : (b n : ℕ) → 0 < b → (r : ℕ) → slice_index (replicate n 0) r < b

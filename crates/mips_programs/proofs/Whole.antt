@@ -18,17 +18,17 @@ use Rattle.op_forest.specs.Prefixes.{output_append}
 use Rattle.op_forest.specs.Nested.{calls_at}
 use Rattle.op_forest.specs.Reached.{nested_begins}
 use Rattle.vcode.specs.Maps.{Map, IsWord}
-use Rattle.mips_machine.specs.Addresses.{code_start, floor_of}
+use Rattle.mips_machine.specs.Addresses.{code_start, floor_of, putchar_at}
 use Rattle.mips_machine.specs.StepTable.{register}
 use Rattle.mips_rules.specs.declared.instr.Instr.{Instr}
 use Rattle.mips_rules.specs.declared.instr.Instr.TheVariants as instr
 use Rattle.mips_target.specs.declared.layout.Layout.{Layout}
 use Rattle.mips_target.specs.Frame.{frame_size}
-use Rattle.mips_target.specs.FunctionCode.{instructions_of, handed_behind, body_of, loads_of, prologue}
-use Rattle.mips_target.specs.Generated.{allotted_code, layout_of}
+use Rattle.mips_target.specs.FunctionCode.{instructions_of, handed_behind, body_of, loads_of, prologue, unmarked}
+use Rattle.mips_target.specs.Items.{CodeItem, lines_in}
 use Rattle.mips_programs.specs.Working.{Working, Gets}
 use Rattle.mips_programs.specs.Frames.{Waiting}
-use Rattle.mips_programs.specs.Matches.{IsBare, IsResult, Spent, Comes, Entry, Answers, Calling}
+use Rattle.mips_programs.specs.Matches.{IsBare, HasPlaces, IsResult, Spent, Comes, Entry, Answers, Calling}
 use Rattle.mips_programs.specs.Programs.{CanBeNamed, ArePlaced}
 use Rattle.mips_programs.proofs.Steps.{both_gets}
 use Rattle.mips_programs.proofs.Words.{small_get}
@@ -36,9 +36,8 @@ use Rattle.mips_programs.proofs.Keep.{bare_lies}
 use Rattle.mips_programs.proofs.Enter.{open_append, frame_of, entered_machine, initial, sound_frame, enters, enters_alike, spends}
 use Rattle.mips_programs.proofs.PutChar.{put_answers}
 use Rattle.mips_programs.proofs.Calls.{runs_on, spent_later, spent_more}
-use Rattle.mips_programs.proofs.Plain.{selected_plain}
-use Rattle.mips_programs.proofs.Called.{stands_behind}
-use Rattle.mips_programs.proofs.Follow.{front_stands, follows}
+use Rattle.mips_programs.proofs.Standing.{lines_unmarked, front_stands, stands_behind}
+use Rattle.mips_programs.proofs.Follow.{follows}
 
 -- the result of a call whose body has this one
 result_word : (map : Map) (v : Option Word) (n : ℕ) → IsResult map v n → IsWord map (value_or v) n
@@ -60,10 +59,13 @@ one_at_least names l k (instr.Copy to from) = omega arith
 one_at_least names l k (instr.LoadSlot to slot) = omega arith
 one_at_least names l k (instr.StoreSlot from slot) = omega arith
 
-no_longer : (names : List (List ℕ)) (l : Layout) (k : ℕ) (is : List Instr) → length is ≤ length (body_of names l k is)
+length_items : (is : List Instruction) (xs : List (CodeItem Instruction)) → length (lines_in (unmarked is ++ xs)) ≡ length is + length (lines_in xs)
+length_items is xs = ap length (lines_unmarked is xs) ∙ length-append is (lines_in xs)
+
+no_longer : (names : List (List ℕ)) (l : Layout) (k : ℕ) (is : List Instr) → length is ≤ length (lines_in (body_of names l k is))
 no_longer names l k [] = omega arith
 no_longer names l k (i ∷ is) =
-    let e = length-append (instructions_of names l k i) (body_of names l (handed_behind k i) is) in
+    let e = length_items (instructions_of names l k i) (body_of names l (handed_behind k i) is) in
     let one = one_at_least names l k i in
     let more = no_longer names l (handed_behind k i) is in
     omega (arith, e, one, more)
@@ -132,55 +134,54 @@ unless_failed C Failed failed go = failed
 two_behind : (i pc : ℕ) → pc ≡ code_start + 4 * i → pc + 4 + 4 ≡ code_start + 4 * (i + 2)
 two_behind i pc e = omega arith
 
-module _ (p : Program) (order : Order) (g : Meaning) (names : List (List ℕ)) (places room : ℕ → ℕ) (long : ℕ) (placed : ArePlaced p g names places room long) where
+module _ (p : Program) (order : Order) (g : Meaning) (names : List (List ℕ)) (places : ℕ → Option ℕ) (room : ℕ → ℕ) (long : ℕ) (placed : ArePlaced p g names places room long) where
   abbrev there : ℕ → Type 0
   there name = CanBeNamed (g.callee name)
 
-  body : (n : ℕ) (map : Map) (waiting : List Waiting) (name : ℕ) (fn : Body) (q : Point) (h : Working) → g.callee name ≡ Defined fn → IsBare map → ((k : ℕ) → map.function k ≡ places k) → Entry order room map waiting name q.world h → Calling p order room places there long n (calls_at g n) → Answers p order room map long (suc n) waiting q.world h (answered q.world (body_run (setting_of g (calls_at g n) name fn q.world) fn.roots (suc n) fn.roots (at_world q (entered g.order name fn q.world))))
+  body : (n : ℕ) (map : Map) (waiting : List Waiting) (name : ℕ) (fn : Body) (q : Point) (h : Working) → g.callee name ≡ Defined fn → IsBare map → HasPlaces map places → Entry order room map waiting name q.world h → Calling p order room places there long n (calls_at g n) → Answers p order room map long (suc n) waiting q.world h (answered q.world (body_run (setting_of g (calls_at g n) name fn q.world) fn.roots (suc n) fn.roots (at_world q (entered g.order name fn q.world))))
   body n map waiting name fn q h e bare functions entry calling =
       let t = setting_of g (calls_at g n) name fn q.world in
       let inside = entered g.order name fn q.world in
       let o = body_run t fn.roots (suc n) fn.roots (at_world q inside) in
       let pl = placed.defined name fn e in
-      let l = layout_of pl.virtual in
-      let is = allotted_code pl.virtual in
+      let l = pl.layout in
+      let is = pl.allocated in
       let st = initial g.order name fn q in
-      let at : h.cpu.pc ≡ code_start + 4 * pl.entry = entry.at ∙ functions name ∙ pl.at in
-      let front = front_stands p.code pl.entry (prologue l) (body_of names l 0 is) pl.stands in
-      let back = stands_behind p.code pl.entry (prologue l) (body_of names l 0 is) pl.stands in
-      let four : 4 ≤ l.arguments = omega arith in
+      let at : h.cpu.pc ≡ code_start + 4 * pl.entry = entry.at ∙ functions name (code_start + 4 * pl.entry) pl.at in
+      let front = front_stands p.code pl.found pl.entry (unmarked (prologue l)) (body_of names l 0 is) pl.stands in
+      let back = stands_behind p.code pl.found pl.entry (prologue l) (body_of names l 0 is) pl.stands in
       let small : frame_size l ≤ 2147483648 = pl.small in
       unless_failed (λ x. Answers p order room map long (suc n) waiting q.world h (answered q.world x)) o tt (λ alive.
       let lin = pl.selected.linearised.agrees t (suc n) st alive in
-      let fol = pl.selected.follows.runs t lin.0 st st (record { points = refl; registers = λ r known. refl }) in
+      let fol = pl.follows.runs t lin.0 st st (record { points = refl; registers = λ r known. refl }) in
       ⊎_elim
-      (λ short. spent_answer p order room map long (suc n) waiting q.world inside h o (body_begins t calling.grows fn.roots (suc n) fn.roots (at_world q inside)) (spends p order room map waiting name pl.entry l g.order fn q h bare entry at front four small pl.roomy short))
+      (λ short. spent_answer p order room map long (suc n) waiting q.world inside h o (body_begins t calling.grows fn.roots (suc n) fn.roots (at_world q inside)) (spends p order room map waiting name pl.entry pl.found l g.order fn q h bare entry at front small pl.roomy short))
       (λ fits.
       let f = frame_of l waiting name q.world h in
       let h2 = entered_machine order l h in
-      let sound = sound_frame p order room map waiting name pl.entry l g.order fn q h bare entry at front four small pl.roomy fits in
-      let short : length is < long = (let a = pl.short in let b = no_longer names l 0 is in omega (arith, a, b)) in
-      let came = follows p order room places long n g names f t is placed.ends sound refl calling fol.0 (suc n) map 0 (pl.entry + 2) is st h2 (omega (arith, lin.1, fol.1)) (omega arith) (record {
-        alike = enters_alike p order room map waiting name pl.entry l g.order fn q h bare entry at front four small pl.roomy fits;
+      let sound = sound_frame p order room map waiting name pl.entry pl.found l g.order fn q h bare entry at front small pl.roomy fits in
+      let short : length is < long = (let a = pl.short in let b = no_longer names l 0 is in let c = length_items (prologue l) (body_of names l 0 is) in omega (arith, a, b, c)) in
+      let came = follows p order room places long n g names pl.found f t is placed.ends sound refl calling fol.0 (suc n) map 0 (pl.entry + 2) is st h2 (omega (arith, lin.1, fol.1)) (omega arith) (record {
+        alike = enters_alike p order room map waiting name pl.entry pl.found l g.order fn q h bare entry at front small pl.roomy fits;
         at = two_behind pl.entry h.cpu.pc at;
         stands = back;
         fits = pl.fits;
         named = pl.among;
-        plain = selected_plain fn.roots pl.virtual pl.selected;
+        slots = pl.slots;
         calls = pl.calls;
         counts = refl;
         short = short;
         functions = functions;
         bare = bare;
       }) in
-      answers_from p order room map long (suc n) (length is) waiting name l q.world h h2 o (omega (arith, fits)) short (enters p order room map waiting name pl.entry l g.order fn q h bare entry at front four small pl.roomy fits) (subst (λ x. Comes p order room map long f (suc n) (length is) h2 x) (fol.2 ∙ lin.2) came))
+      answers_from p order room map long (suc n) (length is) waiting name l q.world h h2 o (omega (arith, fits)) short (enters p order room map waiting name pl.entry pl.found l g.order fn q h bare entry at front small pl.roomy fits) (subst (λ x. Comes p order room map long f (suc n) (length is) h2 x) (fol.2 ∙ lin.2) came))
       (cases_lt (register h.cpu 29) (floor_of (length h.cpu.stack) + frame_size l)))
 
-  by : (n : ℕ) (run : Setting → List Node → Point → Outcome) (call : ℕ → Point → Effect) (map : Map) (waiting : List Waiting) (name : ℕ) (q : Point) (h : Working) (c : Callee) → g.callee name ≡ c → CanBeNamed c → IsBare map → ((k : ℕ) → map.function k ≡ places k) → Entry order room map waiting name q.world h → ((fn : Body) → g.callee name ≡ Defined fn → Answers p order room map long n waiting q.world h (answered q.world (run (setting_of g call name fn q.world) fn.roots (at_world q (entered g.order name fn q.world))))) → Answers p order room map long n waiting q.world h (call_by g run call name c q)
+  by : (n : ℕ) (run : Setting → List Node → Point → Outcome) (call : ℕ → Point → Effect) (map : Map) (waiting : List Waiting) (name : ℕ) (q : Point) (h : Working) (c : Callee) → g.callee name ≡ c → CanBeNamed c → IsBare map → HasPlaces map places → Entry order room map waiting name q.world h → ((fn : Body) → g.callee name ≡ Defined fn → Answers p order room map long n waiting q.world h (answered q.world (run (setting_of g call name fn q.world) fn.roots (at_world q (entered g.order name fn q.world))))) → Answers p order room map long n waiting q.world h (call_by g run call name c q)
   by n run call map waiting name q h (Defined fn) e able bare functions entry defined =
       cond_both (length q.world.arguments == fn.words) _ Stuck (λ x. Answers p order room map long n waiting q.world h x) (λ same. defined fn e) (λ other. tt)
   by n run call map waiting name q h (Provided Putchar) e able bare functions entry defined =
-      put_answers p order room map long n waiting name q h bare (entry.at ∙ functions name ∙ placed.built_in name e) entry
+      put_answers p order room map long n waiting name q h bare (entry.at ∙ functions name putchar_at (placed.built_in name e)) entry
   by n run call map waiting name q h (Provided Getchar) e able bare functions entry defined = absurd able
   by n run call map waiting name q h (Provided Exit) e able bare functions entry defined = absurd able
   by n run call map waiting name q h Missing e able bare functions entry defined = tt

@@ -41,7 +41,6 @@ pub record IsSound (f : Frame) : Type 0 where
   pub above : floor_of (stack_of f) ≤ f.low
   pub below : f.low + frame_size f.layout ≤ stack_top
   pub four : f.low % 4 ≡ 0
-  pub words : 4 ≤ f.layout.arguments
   pub back : f.back < 2 ^ 32
   pub outer : (a : ℕ) → Kept f.outer a → (f.low + frame_size f.layout ≤ a) × (a + 4 ≤ stack_top) × (a % 4 ≡ 0)
 

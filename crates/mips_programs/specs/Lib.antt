@@ -1,11 +1,8 @@
 pub mod Working
 pub mod Frames
 pub mod Matches
-pub mod Following
 pub mod Reached
-pub mod Agrees
 pub mod Programs
 pub mod Meant
-pub mod Entries
 pub mod Places
 pub mod WholePrograms

@@ -4,6 +4,8 @@ use Rattle.std.specs.Prelude.{◌≡◌, ◌≤◌, ◌<◌, ◌⊎◌, ℕ, suc
 use Rattle.std.specs.Int.{cast_signed, w32}
 use Rattle.lcc_base.specs.declared.order.Order.{Order}
 use Rattle.asm_text.specs.declared.program.Program.{Program}
+use Rattle.asm_text.specs.Runs.{Ended, StackOut}
+use Rattle.asm_text.specs.IsPrefix.{IsPrefix}
 use Rattle.op_forest.specs.Words.{Word}
 use Rattle.op_forest.specs.Traces.{output_of, open_behind, room_of, depth_of}
 use Rattle.op_forest.specs.Worlds.{World, Point, Effect, Went, Exits, Unfinished, Stuck, Outcome, Finished, Exited, Going, Failed}
@@ -14,10 +16,9 @@ use Rattle.vcode.specs.Maps.{Map, IsWord, Grown, Lies}
 use Rattle.mips_machine.specs.Addresses.{stack_top, floor_of}
 use Rattle.mips_machine.specs.State.{Cpu}
 use Rattle.mips_machine.specs.StepTable.{register}
-use Rattle.mips_machine.specs.Run.{Ended, StackOut}
 use Rattle.mips_target.specs.Frame.{frame_size}
 use Rattle.mips_target.specs.Generated.{temporaries}
-use Rattle.mips_programs.specs.Working.{Working, on, runs, Gets, Starts}
+use Rattle.mips_programs.specs.Working.{Working, on, runs, Gets}
 use Rattle.mips_programs.specs.Frames.{Waiting, Kept, Frame, stack_of, stack_word, frame_word, memory_of, Leaves}
 
 -- no object lies in memory
@@ -67,7 +68,7 @@ pub record Spent (p : Program) (order : Order) (room : ℕ → ℕ) (stack : ℕ
   pub pc : ℕ
   pub printed : List ℕ
   pub out : runs p order h steps ≡ record { printed = printed; place = StackOut pc }
-  pub part : Starts printed (output_of w.trace)
+  pub part : IsPrefix printed (output_of w.trace)
   pub small : stack < depth_of room [] w.trace + 128
 
 -- the machine is back with a value
@@ -112,12 +113,12 @@ pub record Entry (order : Order) (room : ℕ → ℕ) (map : Map) (outer : List 
   pub count : length h.cpu.registers ≡ 32
   pub within : length h.cpu.stack ≤ 16777216
   pub low : floor_of (length h.cpu.stack) ≤ register h.cpu 29
-  pub high : register h.cpu 29 + 16 ≤ stack_top
+  pub high : register h.cpu 29 + 4 * length w.arguments ≤ stack_top
   pub four : register h.cpu 29 % 4 ≡ 0
   pub small : (x : ℕ) (b : ℕ) → slice_get h.cpu.stack x ≡ Some b → b < 256
   pub shows : Shows map w h
   pub passed : Handed map (passed_word order h.cpu) 0 w.arguments
-  pub kept : (a : ℕ) → Kept outer a → (register h.cpu 29 + 16 ≤ a) × (a + 4 ≤ stack_top) × (a % 4 ≡ 0)
+  pub kept : (a : ℕ) → Kept outer a → (register h.cpu 29 + 4 * length w.arguments ≤ a) × (a + 4 ≤ stack_top) × (a % 4 ≡ 0)
   pub deep : stack_top ≤ register h.cpu 29 + room_of room (open_behind [] w.trace) + 32
 
 -- a call is over: the machine is where it returns to, with the stack pointer and what the waiting calls keep as they were
@@ -146,7 +147,11 @@ Answers p order room map long far outer u h (Exits status w) = Over p order h st
 Answers p order room map long far outer u h (Unfinished w) = Still p order long far long h w ⊎ Spent p order room (length h.cpu.stack) h w
 Answers p order room map long far outer u h Stuck = Unit {0}
 
+-- where a name has an address, the map gives the function it
+abbrev pub HasPlaces : Map → (ℕ → Option ℕ) → Type 0
+HasPlaces map places = (name address : ℕ) → places name ≡ Some address → map.function name ≡ address
+
 -- the machine follows each call of these names under this meaning, where functions have these addresses
-pub record Calling (p : Program) (order : Order) (room places : ℕ → ℕ) (there : ℕ → Type 0) (long far : ℕ) (calls : ℕ → Point → Effect) : Type 0 where
-  pub answers : (map : Map) (outer : List Waiting) (name : ℕ) (q : Point) (h : Working) → there name → IsBare map → ((k : ℕ) → map.function k ≡ places k) → Entry order room map outer name q.world h → Answers p order room map long far outer q.world h (calls name q)
+pub record Calling (p : Program) (order : Order) (room : ℕ → ℕ) (places : ℕ → Option ℕ) (there : ℕ → Type 0) (long far : ℕ) (calls : ℕ → Point → Effect) : Type 0 where
+  pub answers : (map : Map) (outer : List Waiting) (name : ℕ) (q : Point) (h : Working) → there name → IsBare map → HasPlaces map places → Entry order room map outer name q.world h → Answers p order room map long far outer q.world h (calls name q)
   pub grows : CallsGrow calls
