@@ -167,7 +167,8 @@ main:
     Ok(())
 }
 
-// The registers 64, 66, 69, 70 and 71 have the slots 0, 2, 5, 6 and 7 of 8.
+// The nodes that give a value have the registers 64 to 70 in order. The numbers, the sum, the call's
+// result and the negative are in 64, 66, 68, 69 and 70, which have the slots 0, 2, 4, 5 and 6 of 7.
 #[test]
 fn a_character_is_written(rt: HostRuntime) -> Result<(), Fail> {
     let parts = [
@@ -184,8 +185,8 @@ fn a_character_is_written(rt: HostRuntime) -> Result<(), Fail> {
     let text = b"\t.text
 \t.globl\tmain
 main:
-\tsubu\t$29,$29,56
-\tsw\t$31,48($29)
+\tsubu\t$29,$29,48
+\tsw\t$31,44($29)
 \tli\t$8,65
 \tsw\t$8,16($29)
 \tlw\t$9,16($29)
@@ -196,19 +197,19 @@ main:
 \tlw\t$4,0($29)
 \tjal\tputchar
 \tmove\t$8,$2
-\tsw\t$8,36($29)
+\tsw\t$8,32($29)
 \tli\t$8,3
-\tsw\t$8,40($29)
-\tlw\t$9,40($29)
+\tsw\t$8,36($29)
+\tlw\t$9,36($29)
 \tnegu\t$8,$9
-\tsw\t$8,44($29)
-\tlw\t$8,44($29)
+\tsw\t$8,40($29)
+\tlw\t$8,40($29)
 \tmove\t$2,$8
-\tlw\t$31,48($29)
-\taddu\t$29,$29,56
+\tlw\t$31,44($29)
+\taddu\t$29,$29,48
 \tj\t$31
-\tlw\t$31,48($29)
-\taddu\t$29,$29,56
+\tlw\t$31,44($29)
+\taddu\t$29,$29,48
 \tj\t$31
 ";
     let lines = printed(rt.alloc(), &parts)?;
@@ -236,27 +237,27 @@ fn five_arguments_are_handed(rt: HostRuntime) -> Result<(), Fail> {
     let text = b"\t.text
 \t.globl\tmain
 main:
-\tsubu\t$29,$29,72
-\tsw\t$31,68($29)
+\tsubu\t$29,$29,56
+\tsw\t$31,48($29)
 \tli\t$8,1
 \tsw\t$8,20($29)
 \tlw\t$8,20($29)
 \tsw\t$8,0($29)
 \tli\t$8,2
-\tsw\t$8,28($29)
-\tlw\t$8,28($29)
+\tsw\t$8,24($29)
+\tlw\t$8,24($29)
 \tsw\t$8,4($29)
 \tli\t$8,3
-\tsw\t$8,36($29)
-\tlw\t$8,36($29)
+\tsw\t$8,28($29)
+\tlw\t$8,28($29)
 \tsw\t$8,8($29)
 \tli\t$8,4
-\tsw\t$8,44($29)
-\tlw\t$8,44($29)
+\tsw\t$8,32($29)
+\tlw\t$8,32($29)
 \tsw\t$8,12($29)
 \tli\t$8,5
-\tsw\t$8,52($29)
-\tlw\t$8,52($29)
+\tsw\t$8,36($29)
+\tlw\t$8,36($29)
 \tsw\t$8,16($29)
 \tlw\t$4,0($29)
 \tlw\t$5,4($29)
@@ -264,9 +265,9 @@ main:
 \tlw\t$7,12($29)
 \tjal\tputchar
 \tmove\t$8,$2
-\tsw\t$8,64($29)
-\tlw\t$31,68($29)
-\taddu\t$29,$29,72
+\tsw\t$8,44($29)
+\tlw\t$31,48($29)
+\taddu\t$29,$29,56
 \tj\t$31
 ";
     let lines = printed(rt.alloc(), &parts)?;
