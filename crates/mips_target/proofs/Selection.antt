@@ -19,7 +19,7 @@ use Rattle.mips_rules.specs.declared.instr.Instr.{Instr}
 use Rattle.mips_rules.specs.Mips.{mips}
 use Rattle.mips_rules.specs.MipsRules.{mips_rules}
 use Rattle.mips_rules.specs.Shipped.{IsShipped, CoversRoots}
-use Rattle.mips_target.specs.Generated.{temporaries}
+use Rattle.mips_target.specs.Generated.{temporaries, IsSelected}
 use Rattle.mips_target.specs.Allocated.{IsAllocated}
 
 same_nodes : (t : Node) → tree_nodes (tree_of t) ≡ nodes t
@@ -50,13 +50,10 @@ best_of d d' roots rs xs e f best = subst (λ x. AreBest x (map tree_of roots) x
 pub derived_of : (d d' : MDescription) (roots rs : List Node) (xs : List MDerivation) → rs ≡ roots → d' ≡ d → AreBest d' (map tree_of rs) xs → AreDerived d roots xs
 derived_of d d' roots rs xs e f best = derived d roots xs (best_of d d' roots rs xs e f best)
 
-pub allocated : {E : Type 0} (d : MDescription) (roots : List Node) (xs : List MDerivation) (v : MCode Instr) (result : Result (MAllocated Instr) E) → IsShipped d → AreBest d (map tree_of roots) xs → IsLinearised mips mips_rules roots xs v → IfOk result (λ c. c.code ≡ allotted mips temporaries v.code) → IfOk result (λ c. c.slots ≡ slots_needed mips v.code) → IfOk result (λ c. UsesSlotsBelow mips c.slots c.code) → IfOk result (λ c. Follows mips temporaries v.code c.code) → IfOk result (λ c. IsAllocated roots c)
-allocated d roots xs v (Ok c) shipped best linearised code slots below follows = record {
-  virtual = v;
-  selected = record { description = d; shipped = shipped; derivations = xs; best = best; linearised = linearised };
-  code = code;
-  slots = slots;
-  below = below;
-  follows = follows;
-}
-allocated d roots xs v (Err e) shipped best linearised code slots below follows = tt
+pub selected : {E : Type 0} (d : MDescription) (roots : List Node) (xs : List MDerivation) (result : Result (MCode Instr) E) → IsShipped d → AreBest d (map tree_of roots) xs → IfOk result (λ v. IsLinearised mips mips_rules roots xs v) → IfOk result (λ v. IsSelected roots v)
+selected d roots xs (Ok v) shipped best linearised = record { description = d; shipped = shipped; derivations = xs; best = best; linearised = linearised }
+selected d roots xs (Err e) shipped best linearised = tt
+
+pub allocated : {E : Type 0} (roots : List Node) (v : MCode Instr) (result : Result (MAllocated Instr) E) → IsSelected roots v → IfOk result (λ c. c.code ≡ allotted mips temporaries v.code) → IfOk result (λ c. c.slots ≡ slots_needed mips v.code) → IfOk result (λ c. UsesSlotsBelow mips c.slots c.code) → IfOk result (λ c. Follows mips temporaries v.code c.code) → IfOk result (λ c. IsAllocated roots c)
+allocated roots v (Ok c) selected code slots below follows = record { virtual = v; selected = selected; code = code; slots = slots; below = below; follows = follows }
+allocated roots v (Err e) selected code slots below follows = tt

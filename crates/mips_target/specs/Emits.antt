@@ -1,7 +1,7 @@
 -- Emits: a function's code, but for what keeps its frame, its argument words and its result, is the expanded templates of
 -- derivations of its roots.
 -- Source: Fraser and Hanson, A Retargetable C Compiler, chapters 13 and 14.
-use Rattle.std.specs.Prelude.{◌≡◌, ◌≤◌, ℕ, ◌==◌, ◌&&◌, nat_lt, Bool, true, false, List, [], ◌∷◌, ◌++◌, decimal, if◌then◌else◌}
+use Rattle.std.specs.Prelude.{◌≤◌, ℕ, ◌==◌, ◌&&◌, nat_lt, Bool, true, false, List, [], ◌∷◌, decimal, if◌then◌else◌}
 use Rattle.std.specs.List.{AllZip}
 use Rattle.lburg_grammar.specs.Derivation.{MDerivation}
 use Rattle.asm_text.specs.declared.instruction.Instruction.{Instruction}

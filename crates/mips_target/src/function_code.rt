@@ -190,7 +190,7 @@ pub(crate) fn function_code(
     requires size { length code.now < 2 ^ 31 }
     ensures { IfOk result (λ is. unmarked is ≡ function_code names.now layout code.now) }
 {
-    let mut into = Items::new(alloc);
+    let mut into = Items::with_capacity(alloc, code.len() + 5)?;
     push_prologue(layout, &mut into)?;
     let mut handed = 0;
     for instr in code {

@@ -10,7 +10,7 @@ ghost use Rattle.asm_text.specs.Printable.{ArePrintable};
 ghost use Rattle.mips_target.specs.Callable.{AreCallable};
 ghost use Rattle.mips_target.specs.Allocated.{IsAllocated};
 ghost use Rattle.mips_target.specs.FunctionCode.{unmarked};
-ghost use Rattle.mips_target.specs.Generated.{IsCodeOf, IsGenerated};
+ghost use Rattle.mips_target.specs.Generated.{IsSelected, IsCodeOf, IsGenerated};
 ghost use Rattle.mips_target.specs.UnitAssembly.{HasBounds, IsUnitAssembly};
 ghost use Rattle.mips_target.specs.UnitLines.{label_text};
 ghost use Rattle.mips_target.specs.UnitProgram.{IsUnitProgram};
@@ -25,7 +25,7 @@ use op_forest::{Forest, Lowered, LoweredFunction, WellFormed, check_forest};
 use slot_allocator::give_slots;
 use std::alloc::Global;
 use tree_labeller::best_derivations;
-use vcode::{Code, Reg, RuleSet, linearise};
+use vcode::{Code, Reg, RuleSet, VCode, linearise};
 
 /// The registers that hold spilled values for one instruction.
 const TEMPORARIES: [Reg; 3] = [8, 9, 10];
@@ -41,17 +41,27 @@ fn well_formed(alloc: Global, forest: &Forest) -> Result<WellFormed, Memory>
     }
 }
 
-/// The code of a forest over the machine's registers and spill slots, by the best derivations of
-/// its roots.
-fn allocated(alloc: Global, rules: &MipsRules, forest: &WellFormed) -> Result<Code<Mips>, Memory>
+/// The virtual code of a forest, by the best derivations of its roots. The forest and the
+/// derivations are given up.
+fn linearised(alloc: Global, rules: &MipsRules, forest: WellFormed) -> Result<VCode<Mips>, Memory>
     requires shipped { IsShipped rules.now }
     requires covers { CoversRoots rules.now }
-    requires size { sum_by nodes forest.now.roots ≤ 2 ^ 24 }
-    ensures { IfOk result (λ c. IsAllocated forest.now.roots c) }
+    requires size { sum_by nodes forest.roots ≤ 2 ^ 24 }
+    ensures { IfOk result (λ c. IsSelected forest.roots c) }
 {
     let roots = forest.forest().roots.as_slice();
     let cover = best_derivations(alloc, rules.description(), roots)?;
-    let code = linearise(alloc, &Mips, forest, cover.as_slice(), rules)?;
+    linearise(alloc, &Mips, &forest, cover.as_slice(), rules)
+}
+
+/// The code of a forest over the machine's registers and spill slots.
+fn allocated(alloc: Global, rules: &MipsRules, forest: WellFormed) -> Result<Code<Mips>, Memory>
+    requires shipped { IsShipped rules.now }
+    requires covers { CoversRoots rules.now }
+    requires size { sum_by nodes forest.roots ≤ 2 ^ 24 }
+    ensures { IfOk result (λ c. IsAllocated forest.roots c) }
+{
+    let code = linearised(alloc, rules, forest)?;
     give_slots(alloc, &Mips, code, &TEMPORARIES)
 }
 
@@ -71,7 +81,7 @@ fn code_of(
     ensures { IfOk result (λ code. IsCodeOf lowered.now label_text function.now.forest.roots (unmarked code)) }
 {
     let forest = well_formed(alloc, &function.forest)?;
-    let code = allocated(alloc, rules, &forest)?;
+    let code = allocated(alloc, rules, forest)?;
     let layout = Layout {
         arguments: argument_words(code.code()),
         slots: code.slots(),

@@ -44,7 +44,7 @@ pub(crate) fn push_plain(
 fn push_label(alloc: Global, lines: &mut Lines, name: &[u8]) -> Result<(), Memory>
     ensures { OnOk result (lines.new ≡ lines.old ++ numbered (length lines.old + 1) (record { labels = name.now ∷ []; statement = Statement.Nothing } ∷ [])) }
 {
-    let mut labels = Items::new(alloc);
+    let mut labels = Items::with_capacity(alloc, 1)?;
     labels.push(Bytes::copied(alloc, name)?)?;
     push_item(lines, labels, Statement::Nothing)
 }
