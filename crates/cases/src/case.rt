@@ -11,8 +11,7 @@ pub struct Case {
 #[derive(Drop)]
 pub struct Step {
     pub words: Vec<String>,
-    /// What the output has to take. Where it isn't stated and another step follows, it may be
-    /// anything; for a last step it is empty then.
+    /// What the output has to take; with none it may be anything.
     pub output: Option<Vec<u8>>,
     pub report: Vec<u8>,
     pub status: u8,

@@ -29,6 +29,8 @@ impl Section {
 struct Reader {
     alloc: Global,
     section: Section,
+    /// Whether the open step states its output.
+    is_output_stated: bool,
     texts: Vec<NamedText>,
     cases: Vec<Case>,
 }
@@ -38,6 +40,7 @@ impl Reader {
         Reader {
             alloc,
             section: Section::Start,
+            is_output_stated: false,
             texts: Vec::new(alloc),
             cases: Vec::new(alloc),
         }
@@ -68,17 +71,18 @@ impl Reader {
         Ok(())
     }
 
-    /// Adds a command to the open case.
+    /// Adds a command to the open case. Its output is empty, unless it is stated.
     fn begin_step(&mut self, words: &str) -> Result<(), CaseFault> {
         let step = Step {
             words: split_words(self.alloc, words)?,
-            output: None,
+            output: Some(Vec::new(self.alloc)),
             report: Vec::new(self.alloc),
             status: 0,
         };
         if let Some(case) = self.cases.last_mut() {
             case.steps.push(step)?;
         }
+        self.is_output_stated = false;
         Ok(())
     }
 
@@ -91,10 +95,14 @@ impl Reader {
         Ok(())
     }
 
-    /// A further command, whose input is what came before; so it has no input of its own.
+    /// A further command, whose input is the output of the one before. So it has no input of its
+    /// own, and that output may be anything where it isn't stated.
     fn then(&mut self, words: &str) -> Result<(), CaseFault> {
         if self.section != Section::Status {
             return Err(CaseFault::OutOfPlace);
+        }
+        if !self.is_output_stated {
+            leave_output_open(&mut self.cases);
         }
         self.begin_step(words)?;
         self.section = Section::Input;
@@ -124,10 +132,7 @@ impl Reader {
 
     fn output(&mut self) -> Result<(), CaseFault> {
         self.enter(Section::Output)?;
-        let output = Vec::new(self.alloc);
-        if let Some(step) = last_step(&mut self.cases) {
-            step.output = Some(output);
-        }
+        self.is_output_stated = true;
         Ok(())
     }
 
@@ -204,6 +209,13 @@ impl Reader {
 
 fn last_step(cases: &mut Vec<Case>) -> Option<&mut Step> {
     cases.last_mut()?.steps.last_mut()
+}
+
+/// Lets the last step give any output.
+fn leave_output_open(cases: &mut Vec<Case>) {
+    if let Some(step) = last_step(cases) {
+        step.output = None;
+    }
 }
 
 fn add_to_output(step: &mut Step, bytes: &[u8]) -> Result<(), AllocError> {

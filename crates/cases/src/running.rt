@@ -1,4 +1,6 @@
 //! Running a case, and telling what differs.
+ghost use Rattle.std.specs.Prelude.{◌≡◌, ◌↔◌, IsTrue, IfSome};
+
 use crate::case::{Case, Step};
 use lcc_base::{MemSink, MemSource};
 use lcc_top::top;
@@ -29,6 +31,27 @@ fn run(alloc: Global, words: &[String], input: Vec<u8>) -> Result<Ran, AllocErro
     })
 }
 
+/// Whether the output is the wanted one, where one is wanted.
+fn is_wanted_output(wanted: &Option<Vec<u8>>, output: &Vec<u8>) -> bool
+    ensures { IsTrue result ↔ IfSome wanted.now (λ bytes. output.now.items ≡ bytes.items) }
+{
+    match wanted {
+        Some(bytes) => output.as_slice() == bytes.as_slice(),
+        None => true,
+    }
+}
+
+/// Whether a call gave all that its step wants.
+fn is_wanted(step: &Step, ran: &Ran) -> bool
+    ensures { IsTrue result ↔ (ran.now.status ≡ step.now.status)
+        × IfSome step.now.output (λ bytes. ran.now.output.items ≡ bytes.items)
+        × (ran.now.report.items ≡ step.now.report.items) }
+{
+    ran.status == step.status
+        && is_wanted_output(&step.output, &ran.output)
+        && ran.report.as_slice() == step.report.as_slice()
+}
+
 /// Adds ` NAME "TEXT"` where the bytes are a short text, and else ` NAME of N bytes`.
 fn tell(into: &mut String, name: &str, bytes: &[u8]) -> Result<(), AllocError> {
     if bytes.len() <= SHORT {
@@ -40,18 +63,15 @@ fn tell(into: &mut String, name: &str, bytes: &[u8]) -> Result<(), AllocError> {
     write!(into, " {name} of {length} bytes")
 }
 
-/// Adds what a call gave otherwise than it had to: nothing where all of it is as it had to be.
-fn tell_step(into: &mut String, step: &Step, is_last: bool, ran: &Ran) -> Result<(), AllocError> {
+/// Adds the number of a step, and what its call gave otherwise than it wants.
+fn tell_step(into: &mut String, number: usize, step: &Step, ran: &Ran) -> Result<(), AllocError> {
+    write!(into, " step {number}:")?;
     if ran.status != step.status {
         let status = ran.status;
         let wanted = step.status;
         write!(into, " status {status} for {wanted}")?;
     }
-    let is_as_wanted = match &step.output {
-        Some(wanted) => ran.output.as_slice() == wanted.as_slice(),
-        None => !is_last || ran.output.is_empty(),
-    };
-    if !is_as_wanted {
+    if !is_wanted_output(&step.output, &ran.output) {
         tell(into, "output", &ran.output)?;
     }
     if ran.report.as_slice() != step.report.as_slice() {
@@ -64,10 +84,11 @@ fn tell_step(into: &mut String, step: &Step, is_last: bool, ran: &Ran) -> Result
 pub fn run_case(alloc: Global, case: &Case) -> Result<String, AllocError> {
     let mut told = String::new(alloc);
     let mut input = case.input.clone()?;
-    let last = case.steps.len();
     for (i, step) in case.steps.iter().enumerate() {
         let ran = run(alloc, &step.words, input)?;
-        tell_step(&mut told, step, i + 1 == last, &ran)?;
+        if !is_wanted(step, &ran) {
+            tell_step(&mut told, i + 1, step, &ran)?;
+        }
         input = ran.output;
     }
     Ok(told)
