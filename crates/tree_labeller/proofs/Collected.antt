@@ -29,9 +29,6 @@ module _ {A : Type 0} where
   front_or_last (z ∷ xs) y zero x e = inl e
   front_or_last (z ∷ xs) y (suc j) x e = ⊎_elim (λ l. inl l) (λ r. inr (ap suc r.0, r.1)) (front_or_last xs y j x e)
 
-pub no_places : (root : Root) → ArePlaces [] root []
-no_places root = record { only = λ k i e. cc; all = λ i r e f. cc; many = refl }
-
 pub place_more : (rs : List Rule) (r : Rule) (root : Root) (places : List ℕ) → ArePlaces rs root places → root_of (pattern_of r.pattern) ≡ root → ArePlaces (rs ++ r ∷ []) root (places ++ length rs ∷ [])
 place_more rs r root places s here = record {
   only = λ k i e.
@@ -62,9 +59,6 @@ there : (lists : List (List ℕ)) (places : List ℕ) (n : ℕ) → n < length l
 there [] places n h = absurd (omega arith)
 there (x ∷ xs) places zero h = refl
 there (x ∷ xs) places (suc n) h = there xs places n (omega arith)
-
-pub no_lists : (rules : List Rule) (kind : ℕ → Root) → AreLists rules kind 0 []
-no_lists rules kind = record { many = refl; each = λ n h. absurd (omega arith) }
 
 pub list_more : (rules : List Rule) (kind : ℕ → Root) (count : ℕ) (lists : List (List ℕ)) (places : List ℕ) → AreLists rules kind count lists → ArePlaces rules (kind count) places → AreLists rules kind (count + 1) (lists ++ places ∷ [])
 list_more rules kind count lists places s here =

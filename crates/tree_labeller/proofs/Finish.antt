@@ -14,7 +14,7 @@ use Rattle.lburg_grammar.specs.Tree.{MTree, TLeaf, TOne, TTwo, nodes, kids_of}
 use Rattle.lburg_grammar.specs.Pattern.{MPattern, PHole, PLeaf, POne, PTwo, pattern_of}
 use Rattle.tree_labeller.specs.Labelled.{key_of, add, nothing_used, cells_of, end_of, cell, total, area, Sound, Labelled, KidsLabelled, base_total, made_by, Started, Filled}
 use Rattle.tree_labeller.proofs.Totals.{cell_of, fitted, added, nodes_pos, sound_of}
-use Rattle.tree_labeller.proofs.Rows.{Leq_cells, leq_trans, leq_refl, stored, write_lowers, cell_after, among_more, among_none, among_all}
+use Rattle.tree_labeller.proofs.Rows.{Leq_cells, leq_trans, leq_refl, stored, write_lowers, cell_after, among_more, among_all}
 
 abbrev pub Agree : List Row → List Row → ℕ → ℕ → Type 0
 Agree rows rows' lo hi = (i : ℕ) → lo ≤ i → i < hi → slice_get rows' i ≡ slice_get rows i
@@ -242,9 +242,6 @@ module _ (rows rows' : List Row) (d : List Rule) (w at : ℕ) (t : MTree) (cells
   })
 
 module _ (rows : List Row) (d : List Rule) (places : List ℕ) (at : ℕ) (t : MTree) where
-  pub started_none : (cells : List (Option Cell)) → ((n : ℕ) (c : Cell) → CellAt cells n c → ⊥) → Started rows d at t cells (Among places 0)
-  started_none cells none = record { made = λ n c a. absurd (none n c a); closed = λ j r k lt is tot. absurd (among_none places j lt) }
-
   -- all of them are all that there are
   pub started_all : (cells : List (Option Cell)) → ((j : ℕ) (r : Rule) (k : Key) → slice_get d j ≡ Some r → base_total rows (pattern_of r.pattern) t at ≡ Some k → (x : ℕ) × (slice_get places x ≡ Some j)) → Started rows d at t cells (Among places (length places)) → Started rows d at t cells Everywhere
   started_all cells all s = record {

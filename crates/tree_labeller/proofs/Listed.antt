@@ -1,6 +1,5 @@
 -- The best derivations of a list of trees, one more at the end.
-use Rattle.std.proofs.Common.{◌≡◌, ℕ, zero, suc, ◌+◌, ◌<◌, Some, List, [], ◌∷◌, ◌++◌, length, take, get_or, map, refl, sym, ap, ◌∙◌, subst}
-use Rattle.std.specs.Prelude.{slice_get}
+use Rattle.std.proofs.Common.{◌≡◌, ℕ, suc, ◌+◌, ◌<◌, List, [], ◌∷◌, ◌++◌, length, take, get_or, map, refl, sym, ap, ◌∙◌, subst}
 use Rattle.std.proofs.lemmas.List.{take_more, map_push, length-map}
 use Rattle.lburg_grammar.specs.declared.derivation.Derivation.{Derivation}
 use Rattle.lburg_grammar.specs.Tree.{MTree}
@@ -36,15 +35,3 @@ same_lengths d (t ∷ ts) (x ∷ xs) are = ap suc (same_lengths d ts xs are.1)
 -- there are as many derivations as trees
 pub as_many : {N : Type 0} (tree : N → MTree) (d : MDescription) (trees : List N) (xs : List Derivation) → AreBest d (map tree trees) (map derivation_of xs) → length xs ≡ length trees
 as_many tree d trees xs are = sym (length-map xs derivation_of) ∙ same_lengths d (map tree trees) (map derivation_of xs) are ∙ length-map trees tree
-
--- the derivation at a place is the best one of the tree there
-pub best_at : (d : MDescription) (ts : List MTree) (xs : List MDerivation) (i : ℕ) (t : MTree) (x : MDerivation) → AreBest d ts xs → slice_get ts i ≡ Some t → slice_get xs i ≡ Some x → IsBest d t x
-best_at d [] xs i t x are et ex = cc
-best_at d (u ∷ us) [] i t x are et ex = absurd are
-best_at d (u ∷ us) (y ∷ ys) zero t x are et ex =
-    let tu : u ≡ t = cc in
-    let xy : y ≡ x = cc in
-    let Tree : MTree → Type 0 = λ z. IsBest d z y in
-    let Found : MDerivation → Type 0 = λ z. IsBest d t z in
-    subst Found xy (subst Tree tu are.0)
-best_at d (u ∷ us) (y ∷ ys) (suc i) t x are et ex = best_at d us ys i t x are.1 et ex

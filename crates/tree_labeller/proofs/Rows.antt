@@ -1,5 +1,5 @@
 -- Rows of cells.
-use Rattle.std.proofs.Common.{◌≡◌, ◌≢◌, ℕ, zero, suc, ◌+◌, ◌<◌, ◌≤◌, ◌⊎◌, inl, inr, ⊎_elim, Option, Some, None, List, [], ◌∷◌, length, refl, sym, ap, ◌∙◌, subst, arith, length-set}
+use Rattle.std.proofs.Common.{◌≡◌, ◌≢◌, ℕ, zero, suc, ◌+◌, ◌<◌, ◌≤◌, ◌⊎◌, inl, inr, ⊎_elim, Option, Some, None, List, [], ◌∷◌, length, sym, ap, ◌∙◌, subst, arith, length-set}
 use Rattle.std.specs.Prelude.{slice_get, slice_set}
 use Rattle.std.proofs.lemmas.Bool.{cases_lt}
 use Rattle.std.proofs.lemmas.Option.{slice_get_within}
@@ -78,14 +78,6 @@ pub among_all : (places : List ℕ) (j k : ℕ) → slice_get places k ≡ Some 
 among_all places j k at = (k, slice_get_within places k j at, at)
 
 module _ (rules : List Rule) (places : List ℕ) (m : ℕ) (from : Cell) (old : List (Option Cell)) where
-  pub spread_none : Spread rules m from old old (Among places 0)
-  spread_none = record {
-    same_length = refl;
-    lower = λ n b at. (b, at, leq_refl b);
-    made = λ n c at. inl at;
-    closed = λ j r lt ch. absurd (among_none places j lt);
-  }
-
   -- all of them are all that there are
   pub spread_all : (row : List (Option Cell)) → ((j : ℕ) (r : Rule) → IsChain rules j m r → (k : ℕ) × (slice_get places k ≡ Some j)) → Spread rules m from old row (Among places (length places)) → Spread rules m from old row Everywhere
   spread_all row all s = record {
