@@ -1,8 +1,7 @@
 -- Which status a call has, by what its input is.
-use Rattle.std.proofs.Common.{◌≡◌, ℕ, ◌+◌, ◌≤◌, ◌⊎◌, inl, inr, List, [], ◌∷◌, ◌++◌, length, refl, sym, ap, subst, ◌∙◌, append-nil, length-append, arith, None, Some}
+use Rattle.std.proofs.Common.{◌≡◌, ℕ, ◌+◌, ◌≤◌, ◌<◌, ◌⊎◌, inl, inr, List, [], ◌∷◌, ◌++◌, length, refl, sym, ap, subst, ◌∙◌, append-nil, length-append, arith, None, Some}
 use Rattle.std.specs.declared.option.Option.{Option}
-use Rattle.std.specs.Prelude.{Result, Ok}
-use Rattle.std.specs.Io.KnownBytes.{Appends, Consumes, IsAtEnd}
+use Rattle.std.specs.Io.KnownBytes.{Appends, Consumes, Keeps, IsAtEnd}
 use Rattle.lcc_base.specs.Taken.{TookMore}
 use Rattle.lburg_grammar.specs.Tree.{MTree}
 use Rattle.lburg_grammar.specs.Description.{MDescription}
@@ -14,9 +13,7 @@ use Rattle.lcc_top.specs.declared.status.Status.{Status}
 use Rattle.lcc_top.specs.declared.status.Status.TheVariants as status
 use Rattle.lcc_top.specs.Outcome.{status_of, line_of}
 use Rattle.asm_text.specs.declared.program.Program.{Program}
-use Rattle.asm_text.specs.declared.asm_fault.AsmFault.{AsmFault}
 use Rattle.asm_text.specs.AssemblyText.{IsAssembly}
-use Rattle.asm_text.proofs.Exact.{program_read}
 use Rattle.lcc_base.specs.declared.order.Order.TheVariants.{Big}
 use Rattle.mips_machine.specs.Run.{HasMain, mrun}
 use Rattle.lcc_top.specs.Words.{AreCover, AreSimrun, AreRcc, AreAccepted}
@@ -25,7 +22,7 @@ use Rattle.first_form.specs.FirstForm.{IsFirst}
 use Rattle.lcc_top.specs.Simulation.{IsIdle, IsOutcome}
 use Rattle.lcc_top.specs.Headline.{IsAnswer, CoverHeadline, IsRunStatus, RunHeadline}
 use Rattle.lcc_top.specs.Cover.{IsCover, IsBadText}
-use Rattle.lcc_top.specs.Call.{Call, ReadAll, Covered, Simulated, WriteFailed, WriteOfAssemblyFailed, IsBadFor, IsCaused, IsFree, NoFault}
+use Rattle.lcc_top.specs.Call.{Call, ReadAll, IsUnbroken, WrongWords, Covered, Simulated, WriteFailed, WriteOfAssemblyFailed, IsBadFor, IsCaused, IsFree, NoFault}
 
 -- what was read to the end is what was left
 the_input : (left after : Option (List ℕ)) (input bytes : List ℕ) → Consumes left after input → IsAtEnd after → left ≡ Some bytes → input ≡ bytes
@@ -66,18 +63,6 @@ first_length (w ∷ ws) = length w
 
 pub not_simrun_rcc : (words : List (List ℕ)) → AreSimrun words → AreRcc words → ⊥
 not_simrun_rcc words simrun rcc = let sizes : 6 ≡ 3 = ap first_length (sym simrun ∙ rcc) in absurd (omega (arith, sizes))
-
--- a text is one program's
-same_program : (text : List ℕ) (p q : Program) → IsAssembly text p → IsAssembly text q → p ≡ q
-same_program text p q is also =
-    let one : Result Program AsmFault = Ok p in
-    program_read text one q is also
-
--- the program of the input, in the words of what was left
-this_program : (call : Call) (input bytes : List ℕ) (p q : Program) → ReadAll call input → call.left ≡ Some bytes → IsAssembly input p → IsAssembly bytes q → p ≡ q
-this_program call input bytes p q all is mine its =
-    let Text : List ℕ → Type 0 = λ l. IsAssembly l p in
-    same_program bytes p q (subst Text (read_input call input bytes all is) mine) its
 
 -- an input that nothing is done on
 abbrev Useless : Call → List ℕ → Type 0
@@ -156,10 +141,10 @@ covered_or_memory call outcome.Memory bytes d trees h words is small text tail f
 covered_or_memory call outcome.InputTooLong bytes d trees h words is small text tail fine sound = absurd (not_more call.left call.left_after bytes is small h.took)
 covered_or_memory call outcome.BadText bytes d trees h words is small text tail fine sound = absurd (no_bad_cover call h.input bytes d trees words h.read is text tail h.bad)
 
-not_without_main : (call : Call) (input bytes : List ℕ) (p q : Program) (main : ℕ) → ReadAll call input → call.left ≡ Some bytes → IsAssembly input p → ((m : ℕ) → HasMain p m → ⊥) → IsAssembly bytes q → HasMain q main → ⊥
-not_without_main call input bytes p q main all is mine none its has =
-    let Main : Program → Type 0 = λ r. HasMain r main in
-    none main (subst Main (sym (this_program call input bytes p q all is mine its)) has)
+not_without_main : (call : Call) (input bytes : List ℕ) (p : Program) (main : ℕ) → ReadAll call input → call.left ≡ Some bytes → IsIdle input → IsAssembly bytes p → HasMain p main → ⊥
+not_without_main call input bytes p main all is idle its has =
+    let Text : List ℕ → Type 0 = λ l. IsAssembly l p in
+    idle p main (subst Text (sym (read_input call input bytes all is)) its) has
 
 no_bad_assembly : (call : Call) (input bytes : List ℕ) (p : Program) → AreSimrun call.words → ReadAll call input → call.left ≡ Some bytes → IsAssembly bytes p → IsBadFor call.words input → ⊥
 no_bad_assembly call input bytes p words all is its (inl h) = not_both call.words h.0 words
@@ -176,7 +161,7 @@ ran_or_memory call (outcome.Exited s) bytes p main h words is small its has fine
 ran_or_memory call (outcome.Stuck cause pc step) bytes p main h words is small its has fine sound = inl tt
 ran_or_memory call (outcome.StackOut pc step) bytes p main h words is small its has fine sound = inl tt
 ran_or_memory call (outcome.OutOfSteps n) bytes p main h words is small its has fine sound = inl tt
-ran_or_memory call outcome.NoMain bytes p main h words is small its has fine sound = absurd (not_without_main call h.input bytes h.program p main h.read is h.is_assembly h.none its has)
+ran_or_memory call outcome.NoMain bytes p main h words is small its has fine sound = absurd (not_without_main call h.input bytes p main h.read is h.idle its has)
 ran_or_memory call outcome.Usage bytes p main h words is small its has fine sound = absurd (h.refused (inr (inl words)))
 ran_or_memory call outcome.ReadFault bytes p main h words is small its has fine sound = absurd (fine h.fault)
 ran_or_memory call outcome.WriteFault bytes p main h words is small its has fine sound = absurd (no_fault_of call h sound)
@@ -237,3 +222,64 @@ cover_headline call outcome.WriteFault bytes report report_after h words is told
 cover_headline call outcome.Memory bytes report report_after h words is told good = absurd (is_cover_status status.Memory good)
 cover_headline call outcome.InputTooLong bytes report report_after h words is told good = absurd (is_cover_status status.InputTooLong good)
 cover_headline call outcome.BadText bytes report report_after h words is told good = absurd (is_cover_status status.BadText good)
+
+-- ---- of the words
+
+bad_accepted : (words : List (List ℕ)) (input : List ℕ) → IsBadFor words input → AreAccepted words
+bad_accepted words input (inl h) = inl h.0
+bad_accepted words input (inr (inl h)) = inr (inl h.0)
+bad_accepted words input (inr (inr h)) = inr (inr h.0)
+
+write_accepted : (call : Call) → IsCaused call outcome.WriteFault → AreAccepted call.words
+write_accepted call (inl h) = inl h.accepted
+write_accepted call (inr (inl h)) = inr (inr h.accepted)
+write_accepted call (inr (inr h)) = inr (inl h.accepted)
+
+-- each outcome but that of wrong words has the words of a command
+accepted_or_kept : (call : Call) (o : Outcome) → IsCaused call o → AreAccepted call.words ⊎ WrongWords call
+accepted_or_kept call outcome.Covered h = inl (inl h.accepted)
+accepted_or_kept call outcome.Compiled h = inl (inr (inr h.accepted))
+accepted_or_kept call (outcome.NoCover n) h = inl (inl h.0.accepted)
+accepted_or_kept call (outcome.Exited s) h = inl (inr (inl h.accepted))
+accepted_or_kept call (outcome.Stuck cause pc step) h = inl (inr (inl h.accepted))
+accepted_or_kept call (outcome.StackOut pc step) h = inl (inr (inl h.accepted))
+accepted_or_kept call (outcome.OutOfSteps n) h = inl (inr (inl h.accepted))
+accepted_or_kept call outcome.NoMain h = inl (inr (inl h.accepted))
+accepted_or_kept call outcome.Usage h = inr h
+accepted_or_kept call outcome.ReadFault h = inl h.accepted
+accepted_or_kept call outcome.WriteFault h = inl (write_accepted call h)
+accepted_or_kept call outcome.Memory h = inl h.accepted
+accepted_or_kept call outcome.InputTooLong h = inl h.accepted
+accepted_or_kept call outcome.BadText h = inl (bad_accepted call.words h.input h.bad)
+
+-- words that are no command leave the input as it was
+pub input_kept : (call : Call) (o : Outcome) → IsCaused call o → (AreAccepted call.words → ⊥) → Keeps call.left call.left_after × (call.read_faults_after ≡ call.read_faults)
+input_kept call o h none = elim (accepted_or_kept call o h) [ inl a ↦ absurd (none a) | inr w ↦ (w.unread, w.unbroken) ]
+
+-- ---- of the input's faults
+
+write_unbroken : (call : Call) → IsCaused call outcome.WriteFault → IsUnbroken call
+write_unbroken call (inl h) = h.read.unbroken
+write_unbroken call (inr (inl h)) = h.read.unbroken
+write_unbroken call (inr (inr h)) = h.read.unbroken
+
+-- each outcome but that of a failed read comes without one
+unbroken_or_fault : (call : Call) (o : Outcome) → IsCaused call o → IsUnbroken call ⊎ (status_of o ≡ status.ReadFault)
+unbroken_or_fault call outcome.Covered h = inl h.read.unbroken
+unbroken_or_fault call outcome.Compiled h = inl h.read.unbroken
+unbroken_or_fault call (outcome.NoCover n) h = inl h.0.read.unbroken
+unbroken_or_fault call (outcome.Exited s) h = inl h.read.unbroken
+unbroken_or_fault call (outcome.Stuck cause pc step) h = inl h.read.unbroken
+unbroken_or_fault call (outcome.StackOut pc step) h = inl h.read.unbroken
+unbroken_or_fault call (outcome.OutOfSteps n) h = inl h.read.unbroken
+unbroken_or_fault call outcome.NoMain h = inl h.read.unbroken
+unbroken_or_fault call outcome.Usage h = inl h.unbroken
+unbroken_or_fault call outcome.ReadFault h = inr refl
+unbroken_or_fault call outcome.WriteFault h = inl (write_unbroken call h)
+unbroken_or_fault call outcome.Memory h = inl h.unbroken
+unbroken_or_fault call outcome.InputTooLong h = inl h.unbroken
+unbroken_or_fault call outcome.BadText h = inl h.read.unbroken
+
+-- where the input's count of faults rose, a read failed
+pub fault_of_input : (call : Call) (o : Outcome) → IsCaused call o → call.read_faults < call.read_faults_after → status_of o ≡ status.ReadFault
+fault_of_input call o h more = elim (unbroken_or_fault call o h) [ inl same ↦ absurd (omega (arith, same, more)) | inr is ↦ is ]

@@ -1,26 +1,43 @@
--- The text of a program's assembly.
-use Rattle.std.proofs.Common.{◌≡◌, inr, ℕ, ◌^◌, ◌≤◌, List, [], length, Result, Ok, Err, refl, sym, subst, arith}
+-- The text of a program's assembly, and what it does.
+use Rattle.std.proofs.Common.{◌≡◌, inr, ℕ, ◌+◌, ◌*◌, ◌^◌, ◌≤◌, List, [], ◌∷◌, length, Result, Ok, Err, refl, sym, ap, ◌∙◌, subst, arith}
 use Rattle.std.specs.Prelude.{sum_by, All, IfOk}
+use Rattle.std.specs.List.{AllZip}
+use Rattle.std.proofs.lemmas.Option.{same_Some}
 use Rattle.std.proofs.lemmas.List.Elements.{All-nil, All-cons}
 use Rattle.asm_text.specs.declared.line.Line.{Line}
 use Rattle.asm_text.specs.declared.program.Program.{Program}
-use Rattle.asm_text.specs.Program.{Makes}
+use Rattle.asm_text.specs.Program.{place_of, Makes}
+use Rattle.asm_text.specs.RunsAs.{RunsAs}
+use Rattle.asm_text.specs.RunLaws.{runs_as}
+use Rattle.mips_machine.specs.Addresses.{code_start, data_start}
+use Rattle.mips_machine.specs.Run.{HasMain, mrun}
+use Rattle.mips_programs.specs.Reached.{seen}
+use Rattle.mips_programs.specs.WholePrograms.{ProgramsAgree}
 use Rattle.asm_text.specs.Printable.{ArePrintable}
 use Rattle.asm_text.specs.AssemblyText.{IsText}
 use Rattle.first_form.specs.Expression.{MExpression, Constant, Negated, Combined, Enclosed}
 use Rattle.first_form.specs.FirstProgram.{MProgram}
 use Rattle.first_form.specs.FirstForm.{IsFirst}
-use Rattle.first_forest.specs.FirstForest.{expression_node, roots_of, main_of, unit_of}
+use Rattle.first_form.specs.Meaning.{output, status}
+use Rattle.first_forest.specs.FirstForest.{expression_node, roots_of, main_of, unit_names, unit_of}
+use Rattle.first_forest.specs.Meaning.{main_run}
+use Rattle.first_forest.specs.Running.{meant}
 use Rattle.first_forest.specs.WellFormedRoots.{well_formed}
-use Rattle.first_forest.specs.Small.{small}
-use Rattle.first_forest.specs.Known.{each_root}
+use Rattle.first_forest.specs.Small.{small, few}
+use Rattle.first_forest.specs.Known.{each_root, lowered}
 use Rattle.op_forest.specs.Nodes.{Node, nodes, head_of}
 use Rattle.op_forest.specs.EachNode.{AtEachNode}
 use Rattle.op_forest.specs.WellFormed.{IsWellFormed}
-use Rattle.op_forest.specs.Lowered.{LoweredUnit}
-use Rattle.mips_target.specs.Generated.{IsGenerated}
+use Rattle.op_forest.specs.declared.lowered.LoweredFunction.{LoweredFunction}
+use Rattle.op_forest.specs.Lowered.{LoweredUnit, IsLowered}
+use Rattle.op_forest.specs.Units.{body_of}
+use Rattle.mips_target.specs.UnitLines.{Coded}
+use Rattle.mips_target.specs.UnitProgram.{IsUnitProgram}
+use Rattle.mips_target.specs.UnitAssembly.{HasBounds, IsFunctionAssembly, IsUnitAssembly}
 use Rattle.mips_target.specs.Callable.{HasCallable, AreCallable}
-use Rattle.lcc_top.specs.Compilation.{IsCompiled}
+use Rattle.lcc_top.specs.Compilation.{IsMadeFor, IsCompiled}
+use Rattle.lcc_top.specs.Room.{room_of, most_instructions}
+use Rattle.lcc_top.proofs.FirstRuns.{has_meaning, comes_to, roomy}
 
 -- what a tree names may be called
 abbrev MayCall : LoweredUnit → Node → Type 0
@@ -39,20 +56,68 @@ callable p =
     All-cons (λ f. All (MayCall u) f.forest.roots) (main_of p) [] (each_root (MayCall u) p.prints p.result (λ e. (tt, node_callable u e)) (tt, inr refl) (tt, node_callable u p.result)) (All-nil (λ f. All (MayCall u) f.forest.roots))
 
 -- its function is well formed and small
-pub well_formed_unit : (p : MProgram) (input : List ℕ) (u : LoweredUnit) → u ≡ unit_of p → IsFirst input p → All (λ f. IsWellFormed f.forest.roots) u.functions
+pub well_formed_unit : (p : MProgram) (input : List ℕ) (u : LoweredUnit) → u ≡ unit_of p → IsFirst input p → All (λ f. IsWellFormed f.forest) u.functions
 well_formed_unit p input u e is =
-    subst (λ x. All (λ f. IsWellFormed f.forest.roots) x.functions) (sym e) (All-cons (λ f. IsWellFormed f.forest.roots) (main_of p) [] (well_formed p is.prints is.result) (All-nil (λ f. IsWellFormed f.forest.roots)))
+    subst (λ x. All (λ f. IsWellFormed f.forest) x.functions) (sym e) (All-cons (λ f. IsWellFormed f.forest) (main_of p) [] (well_formed p is.prints is.result) (All-nil (λ f. IsWellFormed f.forest)))
 
 pub small_unit : (p : MProgram) (input : List ℕ) (u : LoweredUnit) → u ≡ unit_of p → IsFirst input p → length input ≤ 16777216 → All (λ f. sum_by nodes f.forest.roots ≤ 2 ^ 24) u.functions
 small_unit p input u e is within =
     let few : sum_by nodes (roots_of p) ≤ 2 ^ 24 = let s = small input p is in omega (arith, s, within) in
     subst (λ x. All (λ f. sum_by nodes f.forest.roots ≤ 2 ^ 24) x.functions) (sym e) (All-cons (λ f. sum_by nodes f.forest.roots ≤ 2 ^ 24) (main_of p) [] few (All-nil (λ f. sum_by nodes f.forest.roots ≤ 2 ^ 24)))
 
-compiled : (p : MProgram) (lines : List Line) (a : Program) (text : List ℕ) → IsGenerated (unit_of p) lines → Makes lines a → IsText text a → IsCompiled p text
-compiled p lines a text generated made is = record { lines = lines; generated = generated; assembly = a; made = made; is_text = is }
+few_nodes : (p : MProgram) (input : List ℕ) → IsFirst input p → length input ≤ 16777216 → sum_by nodes (roots_of p) ≤ 2 ^ 24
+few_nodes p input is within = let s = small input p is in omega (arith, s, within)
 
-pub compiled_if : {E : Type 0} (p : MProgram) (u : LoweredUnit) (lines : List Line) (result : Result (List ℕ) E) → u ≡ unit_of p → IsGenerated u lines → ArePrintable lines → (AreCallable u → (a : Program) × Makes lines a) → IfOk result (λ text. (a : Program) → ArePrintable lines → Makes lines a → IsText text a) → IfOk result (λ text. IsCompiled p text)
-compiled_if p u lines (Ok text) e generated printable makes is =
-    let m = makes (subst AreCallable (sym e) (callable p)) in
-    compiled p lines m.0 text (subst (λ x. IsGenerated x lines) e generated) m.1 (is m.0 printable m.1)
-compiled_if p u lines (Err x) e generated printable makes is = tt
+-- a program's function has room for its frame and its code
+bounded : (p : MProgram) → HasBounds (λ f. room_of p) (λ f. most_instructions p) (main_of p)
+bounded p = let three = few p in record { frame = omega (arith, three); code = omega (arith, three) }
+
+all_bounded : (p : MProgram) → All (HasBounds (λ f. room_of p) (λ f. most_instructions p)) (unit_of p).functions
+all_bounded p = All-cons (HasBounds (λ f. room_of p) (λ f. most_instructions p)) (main_of p) [] (bounded p) (All-nil (HasBounds (λ f. room_of p) (λ f. most_instructions p)))
+
+-- main is the label of the one function
+main_label : (p : MProgram) (a : Program) → IsUnitAssembly (λ f. room_of p) (λ f. most_instructions p) (unit_of p) a → (main : ℕ) × HasMain a main
+main_label p a h = labelled h.functions h.each
+  where
+    labelled : (cs : List Coded) → AllZip (λ f c. IsFunctionAssembly (room_of p) (most_instructions p) unit_names a f c) (main_of p ∷ []) cs → (main : ℕ) × HasMain a main
+    labelled [] z = absurd z
+    labelled (c ∷ cs) z = (z.0.place.entry, ap (λ n. place_of a.labels n) (sym z.0.name) ∙ z.0.place.named)
+
+-- what is known of a program's unit
+lowered_unit : (p : MProgram) → IsLowered (unit_of p)
+lowered_unit p = lowered p (main_of p ∷ []) [] (unit_of p).names refl refl refl
+
+module _ (agree : ProgramsAgree) (p : MProgram) (input : List ℕ) (is : IsFirst input p) (within : length input ≤ 16777216) (a : Program) (program : IsUnitProgram (unit_of p) a) (main : ℕ) (has : HasMain a main) where
+  -- the assembly runs as the program does
+  run_so : (bytes : List ℕ) (stack : ℕ) → 4096 ≤ stack → stack ≤ 16777216 → code_start + 4 * length a.code ≤ data_start → RunsAs (output p) (status p) (room_of p) stack (λ n. mrun a (unit_of p).order stack main bytes n)
+  run_so bytes stack low high ends =
+      let m = meant p bytes is.prints is.result in
+      let all = agree (unit_of p) a (λ n. room_of p) 0 (record { lowered = lowered_unit p; program = program; ends = ends; roomy = roomy p (few_nodes p input is within) }) (record { body = body_of (main_of p); named = refl; defined = refl }) in
+      let same : all.0 ≡ main = same_Some all.0 main (sym all.1 ∙ has) in
+      let runs = runs_as (λ n. mrun a (unit_of p).order stack all.0 bytes n) (λ k. seen (λ n. room_of p) (main_run p bytes k)) (output p) (status p) (room_of p) stack (comes_to p bytes m) (all.2 stack bytes low high (λ k. has_meaning p (main_run p bytes k) (m.runs k))) in
+      subst (λ x. RunsAs (output p) (status p) (room_of p) stack (λ n. mrun a (unit_of p).order stack x bytes n)) same runs
+
+made_for : ProgramsAgree → (p : MProgram) (input : List ℕ) → IsFirst input p → length input ≤ 16777216 → (a : Program) → IsUnitProgram (unit_of p) a → IsUnitAssembly (λ f. room_of p) (λ f. most_instructions p) (unit_of p) a → IsMadeFor p a
+made_for agree p input is within a program assembly =
+    let m = main_label p a assembly in
+    record { unit = assembly; main = m.0; has_main = m.1; runs = run_so agree p input is within a program m.0 m.1 }
+
+-- what `generate` says of the lines of a unit
+pub record AreLinesOf (u : LoweredUnit) (lines : List Line) : Type 0 where
+  pub printable : ArePrintable lines
+  pub unit : (a : Program) → Makes lines a → IsUnitProgram u a
+  pub assembly : (a : Program) → Makes lines a → (room most : LoweredFunction → ℕ) → All (HasBounds room most) u.functions → IsUnitAssembly room most u a
+  pub program : AreCallable u → (a : Program) × Makes lines a
+
+compiled : ProgramsAgree → (p : MProgram) (input : List ℕ) (lines : List Line) (text : List ℕ) → IsFirst input p → length input ≤ 16777216 → AreLinesOf (unit_of p) lines → ((a : Program) → ArePrintable lines → Makes lines a → IsText text a) → IsCompiled p text
+compiled agree p input lines text is within l printed =
+    let m = l.program (callable p) in
+    record {
+      assembly = m.0;
+      is_text = printed m.0 l.printable m.1;
+      made = made_for agree p input is within m.0 (l.unit m.0 m.1) (l.assembly m.0 m.1 (λ f. room_of p) (λ f. most_instructions p) (all_bounded p));
+    }
+
+pub compiled_if : {E : Type 0} → ProgramsAgree → (p : MProgram) (input : List ℕ) (u : LoweredUnit) (lines : List Line) (result : Result (List ℕ) E) → IsFirst input p → length input ≤ 16777216 → u ≡ unit_of p → AreLinesOf u lines → IfOk result (λ text. (a : Program) → ArePrintable lines → Makes lines a → IsText text a) → IfOk result (λ text. IsCompiled p text)
+compiled_if agree p input u lines (Ok text) is within e l printed = compiled agree p input lines text is within (subst (λ x. AreLinesOf x lines) e l) printed
+compiled_if agree p input u lines (Err x) is within e l printed = tt

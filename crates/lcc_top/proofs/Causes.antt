@@ -1,5 +1,5 @@
 -- What a call did, from what its parts did.
-use Rattle.std.proofs.Common.{◌≡◌, ℕ, inl, inr, List, [], subst}
+use Rattle.std.proofs.Common.{◌≡◌, ℕ, inl, inr, List, [], sym, subst}
 use Rattle.lcc_top.specs.declared.outcome.Outcome.{Outcome}
 use Rattle.lcc_top.specs.declared.outcome.Outcome.TheVariants as outcome
 use Rattle.lcc_top.specs.Words.{AreCover, AreSimrun, AreRcc}
@@ -33,7 +33,7 @@ covered call input outcome.Usage accepted all (text, n, cover, none) = absurd no
 covered call input outcome.ReadFault accepted all (text, n, cover, none) = absurd none
 covered call input outcome.WriteFault accepted all (text, n, cover, (part, fault)) =
     inl (record { accepted = accepted; fault = fault; input = input; read = all; text = text; uncovered = n; cover = cover; part = part })
-covered call input outcome.Memory accepted all kept = kept
+covered call input outcome.Memory accepted all kept = record { accepted = inl accepted; unbroken = all.unbroken; nothing = kept }
 covered call input outcome.InputTooLong accepted all (text, n, cover, none) = absurd none
 covered call input outcome.BadText accepted all (bad, kept) = record { input = input; read = all; bad = inl (accepted, bad); nothing = kept }
 
@@ -43,19 +43,20 @@ run call input o p main stack steps words all is has size count ran =
 
 -- the words are simrun's, all was read, and the rest was done
 pub simulated : (call : Call) (input : List ℕ) (o : Outcome) → AreSimrun call.words → ReadAll call input → IsSimulated call.taken call.taken_after call.write_faults call.write_faults_after input o → IsCaused call o
-simulated call input outcome.Covered words all (p, is, (main, stack, steps, has, size, count, none)) = absurd none
-simulated call input outcome.Compiled words all (p, is, (main, stack, steps, has, size, count, none)) = absurd none
-simulated call input (outcome.NoCover k) words all (p, is, (main, stack, steps, has, size, count, none)) = absurd none
-simulated call input (outcome.Exited s) words all (p, is, (main, stack, steps, has, size, count, ran)) = run call input (outcome.Exited s) p main stack steps words all is has size count ran
-simulated call input (outcome.Stuck cause pc step) words all (p, is, (main, stack, steps, has, size, count, ran)) = run call input (outcome.Stuck cause pc step) p main stack steps words all is has size count ran
-simulated call input (outcome.StackOut pc step) words all (p, is, (main, stack, steps, has, size, count, ran)) = run call input (outcome.StackOut pc step) p main stack steps words all is has size count ran
-simulated call input (outcome.OutOfSteps k) words all (p, is, (main, stack, steps, has, size, count, ran)) = run call input (outcome.OutOfSteps k) p main stack steps words all is has size count ran
-simulated call input outcome.NoMain words all (p, is, (none, kept)) = record { accepted = words; input = input; read = all; program = p; is_assembly = is; none = none; nothing = kept }
-simulated call input outcome.Usage words all (p, is, (main, stack, steps, has, size, count, none)) = absurd none
-simulated call input outcome.ReadFault words all (p, is, (main, stack, steps, has, size, count, none)) = absurd none
-simulated call input outcome.WriteFault words all (p, is, (main, stack, steps, has, size, count, ran)) = inr (inr (run call input outcome.WriteFault p main stack steps words all is has size count ran))
-simulated call input outcome.Memory words all kept = kept
-simulated call input outcome.InputTooLong words all (p, is, (main, stack, steps, has, size, count, none)) = absurd none
+simulated call input outcome.Covered words all (p, is, one, (main, stack, steps, has, size, count, none)) = absurd none
+simulated call input outcome.Compiled words all (p, is, one, (main, stack, steps, has, size, count, none)) = absurd none
+simulated call input (outcome.NoCover k) words all (p, is, one, (main, stack, steps, has, size, count, none)) = absurd none
+simulated call input (outcome.Exited s) words all (p, is, one, (main, stack, steps, has, size, count, ran)) = run call input (outcome.Exited s) p main stack steps words all is has size count ran
+simulated call input (outcome.Stuck cause pc step) words all (p, is, one, (main, stack, steps, has, size, count, ran)) = run call input (outcome.Stuck cause pc step) p main stack steps words all is has size count ran
+simulated call input (outcome.StackOut pc step) words all (p, is, one, (main, stack, steps, has, size, count, ran)) = run call input (outcome.StackOut pc step) p main stack steps words all is has size count ran
+simulated call input (outcome.OutOfSteps k) words all (p, is, one, (main, stack, steps, has, size, count, ran)) = run call input (outcome.OutOfSteps k) p main stack steps words all is has size count ran
+simulated call input outcome.NoMain words all (p, is, one, (none, kept)) =
+    record { accepted = words; input = input; read = all; program = p; is_assembly = is; idle = λ q main text has. none main (subst (λ r. HasMain r main) (sym (one q text)) has); nothing = kept }
+simulated call input outcome.Usage words all (p, is, one, (main, stack, steps, has, size, count, none)) = absurd none
+simulated call input outcome.ReadFault words all (p, is, one, (main, stack, steps, has, size, count, none)) = absurd none
+simulated call input outcome.WriteFault words all (p, is, one, (main, stack, steps, has, size, count, ran)) = inr (inr (run call input outcome.WriteFault p main stack steps words all is has size count ran))
+simulated call input outcome.Memory words all kept = record { accepted = inr (inl words); unbroken = all.unbroken; nothing = kept }
+simulated call input outcome.InputTooLong words all (p, is, one, (main, stack, steps, has, size, count, none)) = absurd none
 simulated call input outcome.BadText words all (bad, kept) = record { input = input; read = all; bad = inr (inl (words, bad)); nothing = kept }
 
 -- the words are rcc's, all was read, and the rest was done
@@ -72,7 +73,7 @@ compiled call input outcome.Usage words all none = absurd none
 compiled call input outcome.ReadFault words all none = absurd none
 compiled call input outcome.WriteFault words all (text, is, part, fault) =
     inr (inl (record { accepted = words; fault = fault; input = input; read = all; text = text; compilation = is; part = part }))
-compiled call input outcome.Memory words all kept = kept
+compiled call input outcome.Memory words all kept = record { accepted = inr (inr words); unbroken = all.unbroken; nothing = kept }
 compiled call input outcome.InputTooLong words all none = absurd none
 compiled call input outcome.BadText words all (bad, kept) = record { input = input; read = all; bad = inr (inr (words, bad)); nothing = kept }
 

@@ -11,7 +11,6 @@ use Rattle.lcc_top.specs.Compilation.{IsCompilation}
 use Rattle.lcc_top.specs.Headline.{CompilerHeadline}
 use Rattle.lcc_top.specs.Call.{Call, ReadAll, Compiled, IsBadFor, IsCaused, NoFault}
 use Rattle.lcc_top.proofs.Answered.{read_input, not_more, not_cover_rcc, not_simrun_rcc, no_fault_of}
-use Rattle.lcc_top.proofs.FirstRuns.{headline}
 
 no_bad_program : (call : Call) (input bytes : List ℕ) (p : MProgram) → AreRcc call.words → ReadAll call input → call.left ≡ Some bytes → IsFirst bytes p → IsBadFor call.words input → ⊥
 no_bad_program call input bytes p words all is its (inl h) = not_cover_rcc call.words h.0 words
@@ -40,7 +39,7 @@ compiled : (call : Call) (bytes : List ℕ) → Compiled call → call.left ≡ 
 compiled call bytes h is =
     let e = read_input call h.input bytes h.read is in
     let Of : List ℕ → Type 0 = λ l. IsCompilation l h.text in
-    headline bytes h.text call.taken call.taken_after (subst Of e h.compilation) (let within = h.read.within in subst (λ l. length l ≤ 16777216) e within) h.written
+    record { text = h.text; compilation = subst Of e h.compilation; written = h.written }
 
 -- the headline of rcc
 pub compiler_headline : (call : Call) (o : Outcome) (bytes : List ℕ) → IsCaused call o → AreRcc call.words → call.left ≡ Some bytes → status_of o ≡ status.Ok → CompilerHeadline bytes call.taken call.taken_after

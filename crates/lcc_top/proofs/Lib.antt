@@ -1,4 +1,5 @@
 pub mod Pieces
+pub mod Refused
 pub mod SomeWords
 pub mod Printed
 pub mod CoverLines
@@ -7,7 +8,6 @@ pub mod Causes
 pub mod Running
 pub mod RunOf
 pub mod Answered
-pub mod FirstBounds
 pub mod Assembled
 pub mod FirstRuns
 pub mod Compiling

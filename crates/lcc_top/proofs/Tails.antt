@@ -10,8 +10,8 @@ use Rattle.lburg_grammar.specs.SameParts.{SameParts}
 use Rattle.lburg_grammar.specs.declared.terminal.Terminal.{Terminal}
 use Rattle.lcc_top.specs.Cover.{IsBadText}
 use Rattle.lcc_top.specs.declared.cover.Cover.{Cover}
-use Rattle.lcc_top.specs.declared.cover.CoverEnd.{CoverEnd}
-use Rattle.lcc_top.specs.declared.cover.CoverEnd.TheVariants.{BadText}
+use Rattle.lcc_top.specs.declared.input_fault.InputFault.{InputFault}
+use Rattle.lcc_top.specs.declared.input_fault.InputFault.TheVariants.{BadText}
 
 small_among : (d : MDescription) (named : List MNamed) (trees : List MTree) → TreesMean d named trees → (k : ℕ) (none : MTree) → k < length trees → nodes (get_or trees k none) ≤ 65535
 small_among d [] [] h k none below = absurd (omega arith)
@@ -50,5 +50,5 @@ same_tail : (d e : MDescription) (trees : List MTree) (input : List ℕ) → d.t
 same_tail d e trees input same h = record { named = h.named; spelled = h.spelled; means = same_trees d e h.named trees same h.means }
 
 -- where the one description of a text has no trees in its tail, the input is bad
-pub bad_tail : (result : Result Cover CoverEnd) (d : MDescription) (input : List ℕ) → ((other : MDescription) → IsText other input → SameParts d other) → (IsErrOf result BadText → (trees : List MTree) → IsTail d trees input → ⊥) → IsErrOf result BadText → IsBadText input
+pub bad_tail : (result : Result Cover InputFault) (d : MDescription) (input : List ℕ) → ((other : MDescription) → IsText other input → SameParts d other) → (IsErrOf result BadText → (trees : List MTree) → IsTail d trees input → ⊥) → IsErrOf result BadText → IsBadText input
 bad_tail result d input one h bad other trees is tail = h bad trees (same_tail other d trees input (sym (one other is).terminals) tail)

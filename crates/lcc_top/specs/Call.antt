@@ -14,7 +14,7 @@ use Rattle.asm_text.specs.AssemblyText.{IsAssembly}
 use Rattle.mips_machine.specs.Run.{HasMain, mrun}
 use Rattle.lcc_base.specs.declared.order.Order.TheVariants.{Big}
 use Rattle.lcc_top.specs.Words.{AreCover, AreSimrun, AreRcc, AreAccepted}
-use Rattle.lcc_top.specs.Simulation.{IsBadAssembly, HasRun}
+use Rattle.lcc_top.specs.Simulation.{IsBadAssembly, IsIdle, HasRun}
 use Rattle.lcc_top.specs.Cover.{IsCover, IsBadText}
 use Rattle.lcc_top.specs.Compilation.{IsCompilation, IsBadProgram}
 
@@ -31,11 +31,16 @@ pub record Call : Type 0 where
   pub write_faults : ℕ
   pub write_faults_after : ℕ
 
--- all that the input had left was read: at most 16,777,216 bytes
+-- no read failed, as the count of faults tells
+abbrev pub IsUnbroken : Call → Type 0
+IsUnbroken call = call.read_faults_after ≡ call.read_faults
+
+-- all that the input had left was read, without a fault: at most 16,777,216 bytes
 pub record ReadAll (call : Call) (bytes : List ℕ) : Type 0 where
   pub taken : Consumes call.left call.left_after bytes
   pub end : IsAtEnd call.left_after
   pub within : length bytes ≤ 16777216
+  pub unbroken : IsUnbroken call
 
 -- the output took nothing
 abbrev pub TookNothing : Call → Type 0
@@ -76,7 +81,7 @@ pub record WithoutMain (call : Call) : Type 0 where
   pub read : ReadAll call input
   pub program : Program
   pub is_assembly : IsAssembly input program
-  pub none : (main : ℕ) → HasMain program main → ⊥
+  pub idle : IsIdle input
   pub nothing : TookNothing call
 
 -- The input is the text of a program, and the outcome is that of its run: 10,000,000 steps in big-endian order with
@@ -95,8 +100,11 @@ pub record Simulated (call : Call) (o : Outcome) : Type 0 where
   pub steps_is : steps ≡ 10000000
   pub ran : HasRun (λ n. mrun program Big stack main [] n) steps call.taken call.taken_after call.write_faults call.write_faults_after o
 
+-- the words are no command; the input and the output are as they were
 pub record WrongWords (call : Call) : Type 0 where
   pub refused : AreAccepted call.words → ⊥
+  pub unread : Keeps call.left call.left_after
+  pub unbroken : IsUnbroken call
   pub nothing : TookNothing call
 
 -- a read failed before more bytes came than the limit
@@ -106,9 +114,17 @@ pub record ReadFailed (call : Call) : Type 0 where
   pub took : TookAtMost call.left call.left_after 16777216
   pub nothing : TookNothing call
 
+-- more bytes came than the limit, without a fault
 pub record TooLong (call : Call) : Type 0 where
   pub accepted : AreAccepted call.words
   pub took : TookMore call.left call.left_after 16777216
+  pub unbroken : IsUnbroken call
+  pub nothing : TookNothing call
+
+-- an allocation was refused, and no read failed
+pub record Refused (call : Call) : Type 0 where
+  pub accepted : AreAccepted call.words
+  pub unbroken : IsUnbroken call
   pub nothing : TookNothing call
 
 -- a write of the output failed, and it took a first part of the cover text
@@ -145,7 +161,7 @@ IsCaused call (outcome.StackOut pc step) = Simulated call (outcome.StackOut pc s
 IsCaused call (outcome.OutOfSteps n) = Simulated call (outcome.OutOfSteps n)
 IsCaused call outcome.NoMain = WithoutMain call
 IsCaused call outcome.WriteFault = WriteFailed call ⊎ WriteOfAssemblyFailed call ⊎ Simulated call outcome.WriteFault
-IsCaused call outcome.Memory = TookNothing call
+IsCaused call outcome.Memory = Refused call
 IsCaused call outcome.InputTooLong = TooLong call
 IsCaused call outcome.BadText = BadInput call
 

@@ -1,23 +1,32 @@
--- What `rcc` makes of the bytes of its input: the text of a program whose lines are generated for the forest of the
--- input's program.
-use Rattle.std.specs.Prelude.{ℕ, List}
-use Rattle.asm_text.specs.declared.line.Line.{Line}
+-- What `rcc` makes of the bytes of its input: the text of the assembly of the input's program.
+use Rattle.std.specs.Prelude.{◌≤◌, ℕ, ◌+◌, ◌*◌, List, length}
 use Rattle.asm_text.specs.declared.program.Program.{Program}
-use Rattle.asm_text.specs.Program.{Makes}
 use Rattle.asm_text.specs.AssemblyText.{IsText}
+use Rattle.asm_text.specs.RunsAs.{RunsAs}
+use Rattle.mips_machine.specs.Addresses.{code_start, data_start}
+use Rattle.mips_machine.specs.Run.{HasMain, mrun}
 use Rattle.first_form.specs.FirstProgram.{MProgram}
 use Rattle.first_form.specs.FirstForm.{IsFirst}
+use Rattle.first_form.specs.Meaning.{output, status}
 use Rattle.first_forest.specs.FirstForest.{unit_of}
-use Rattle.mips_target.specs.Generated.{IsGenerated}
+use Rattle.mips_target.specs.UnitAssembly.{IsUnitAssembly}
+use Rattle.lcc_top.specs.Room.{room_of, most_instructions}
 
--- The text is that of the assembly of a program: its lines are those of the program's unit, by the best derivations of
--- its forest's roots.
+-- The assembly is made for the program: its functions are the templates of the best derivations of the roots of the
+-- program's unit, each within its bounds. On each input and each stack of the machine, in the unit's order of bytes, its
+-- run never gets stuck, has always printed a first part of the program's output, ends only with the whole output and the
+-- status, and does end so, or is out of stack, which it is only where the program's room is above the stack.
+pub record IsMadeFor (p : MProgram) (assembly : Program) : Type 0 where
+  pub unit : IsUnitAssembly (λ f. room_of p) (λ f. most_instructions p) (unit_of p) assembly
+  pub main : ℕ
+  pub has_main : HasMain assembly main
+  pub runs : (bytes : List ℕ) (stack : ℕ) → 4096 ≤ stack → stack ≤ 16777216 → code_start + 4 * length assembly.code ≤ data_start → RunsAs (output p) (status p) (room_of p) stack (λ n. mrun assembly (unit_of p).order stack main bytes n)
+
+-- the text is that of an assembly that is made for the program
 pub record IsCompiled (p : MProgram) (text : List ℕ) : Type 0 where
-  pub lines : List Line
-  pub generated : IsGenerated (unit_of p) lines
   pub assembly : Program
-  pub made : Makes lines assembly
   pub is_text : IsText text assembly
+  pub made : IsMadeFor p assembly
 
 -- the input is the text of a program, and this text is its assembly's
 pub record IsCompilation (input text : List ℕ) : Type 0 where

@@ -2,7 +2,7 @@
 -- the status is Ok or NoCover, the input is a description's text with a tail of trees, the bytes taken are the
 -- trees' cover text, and the status is Ok exactly where each tree has a derivation, else NoCover with the number of
 -- trees that have none on the report.
-use Rattle.std.specs.Prelude.{ℕ, ◌≡◌, ◌≤◌, ◌<◌, ◌⊎◌, ◌+◌, ◌*◌, ◌++◌, List, [], length, codes, decimal}
+use Rattle.std.specs.Prelude.{ℕ, ◌≡◌, ◌<◌, ◌⊎◌, ◌++◌, List, [], codes, decimal}
 use Rattle.std.specs.declared.option.Option.{Option}
 use Rattle.std.specs.Io.KnownBytes.{Appends}
 use Rattle.lcc_top.specs.declared.status.Status.{Status}
@@ -10,17 +10,12 @@ use Rattle.lcc_top.specs.declared.status.Status.TheVariants as status
 use Rattle.lcc_base.specs.declared.order.Order.TheVariants.{Big}
 use Rattle.asm_text.specs.declared.program.Program.{Program}
 use Rattle.asm_text.specs.AssemblyText.{IsAssembly}
-use Rattle.mips_machine.specs.Addresses.{code_start, data_start}
 use Rattle.mips_machine.specs.Run.{HasMain, mrun}
-use Rattle.first_form.specs.FirstProgram.{MProgram}
-use Rattle.first_form.specs.FirstForm.{IsFirst}
-use Rattle.mips_target.specs.Bounds.{KeepsBounds}
 use Rattle.lcc_top.specs.declared.outcome.Outcome.{Outcome}
 use Rattle.lcc_top.specs.Outcome.{status_of, line_of}
 use Rattle.lcc_top.specs.Cover.{IsCover}
 use Rattle.lcc_top.specs.Simulation.{IsOutcome}
-use Rattle.lcc_top.specs.Compilation.{IsCompiled}
-use Rattle.lcc_top.specs.FirstRuns.{RunsAs, room_of, most_instructions}
+use Rattle.lcc_top.specs.Compilation.{IsCompilation}
 
 -- the status and the report where so many trees have no derivation
 abbrev pub IsAnswer : ℕ → Status → Option (List ℕ) → Option (List ℕ) → Type 0
@@ -60,17 +55,8 @@ pub record RunHeadline (input : List ℕ) (taken taken_after report report_after
   pub reported : Appends report report_after (line_of outcome)
 
 -- The headline of `rcc`: the input is the text of a program of the first form, and the bytes taken are the text of an
--- assembly whose lines are the templates of best derivations of the program's forest. It keeps its bounds. On each input
--- and each stack of the machine its run never gets stuck, has always printed a first part of the program's output, ends
--- only with the whole output and the status, and does end so, or is out of stack, which it is only where the program's
--- room is above the stack.
+-- assembly that is made by best derivations, keeps its bounds, and does what the program does.
 pub record CompilerHeadline (input : List ℕ) (taken taken_after : Option (List ℕ)) : Type 0 where
-  pub program : MProgram
-  pub is_first : IsFirst input program
   pub text : List ℕ
-  pub compiled : IsCompiled program text
+  pub compilation : IsCompilation input text
   pub written : Appends taken taken_after text
-  pub bounds : KeepsBounds (room_of program) (most_instructions program) compiled.assembly.code
-  pub main : ℕ
-  pub has_main : HasMain compiled.assembly main
-  pub runs : (bytes : List ℕ) (stack : ℕ) → 4096 ≤ stack → stack ≤ 16777216 → code_start + 4 * length compiled.assembly.code ≤ data_start → RunsAs program (room_of program) stack (λ n. mrun compiled.assembly Big stack main bytes n)

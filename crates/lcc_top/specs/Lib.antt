@@ -2,10 +2,11 @@ pub mod Words
 pub mod Commands
 pub mod Status
 pub mod Outcome
+pub mod InputFaults
 pub mod Cover
 pub mod Simulation
 pub mod Compilation
-pub mod FirstRuns
+pub mod Room
 pub mod Call
 pub mod Headline
 pub mod Work

@@ -2,8 +2,7 @@
 -- are decimal.
 use Rattle.std.specs.Prelude.{ℕ, ◌+◌, ◌/◌, ◌%◌, ◌^◌, ◌++◌, [], ◌∷◌, List, codes, decimal, nat_lt, if◌then◌else◌}
 use Rattle.std.specs.Fmt.{signed_decimal}
-use Rattle.asm_text.specs.declared.running.StuckCause.{StuckCause}
-use Rattle.asm_text.specs.declared.running.StuckCause.TheVariants.{BadJump, Outside, Misaligned}
+use Rattle.asm_text.specs.StuckCause.{cause_name}
 use Rattle.lcc_top.specs.declared.status.Status.{Status}
 use Rattle.lcc_top.specs.declared.status.Status.TheVariants as status
 use Rattle.lcc_top.specs.declared.outcome.Outcome.{Outcome}
@@ -24,11 +23,6 @@ status_of outcome.WriteFault = status.WriteFault
 status_of outcome.Memory = status.Memory
 status_of outcome.InputTooLong = status.InputTooLong
 status_of outcome.BadText = status.BadText
-
-abbrev pub cause_name : StuckCause → List ℕ
-cause_name BadJump = codes "BadJump"
-cause_name Outside = codes "Outside"
-cause_name Misaligned = codes "Misaligned"
 
 -- a hexadecimal digit, in lower case
 abbrev pub hex_digit : ℕ → ℕ

@@ -37,12 +37,12 @@ RunOf p taken taken_after faults faults_after outcome.Memory = Keeps taken taken
 RunOf p taken taken_after faults faults_after outcome =
     (main stack steps : ℕ) × HasMain p main × (stack ≡ 1048576) × (steps ≡ 10000000) × HasRun (λ n. mrun p Big stack main [] n) steps taken taken_after faults faults_after outcome
 
--- the input's program ran so, or there is none and the output took nothing
+-- the input's one program ran so, or there is none and the output took nothing
 abbrev pub IsSimulated : Option (List ℕ) → Option (List ℕ) → ℕ → ℕ → List ℕ → Outcome → Type 0
 IsSimulated taken taken_after faults faults_after input outcome.BadText = IsBadAssembly input × Keeps taken taken_after
 IsSimulated taken taken_after faults faults_after input outcome.Memory = Keeps taken taken_after
 IsSimulated taken taken_after faults faults_after input outcome =
-    (p : Program) × IsAssembly input p × RunOf p taken taken_after faults faults_after outcome
+    (p : Program) × IsAssembly input p × ((q : Program) → IsAssembly input q → p ≡ q) × RunOf p taken taken_after faults faults_after outcome
 
 -- the input's program was compiled and its assembly's text written so, or there is none and the output took nothing
 abbrev pub IsCompiledSo : Option (List ℕ) → Option (List ℕ) → ℕ → ℕ → List ℕ → Outcome → Type 0

@@ -1,5 +1,6 @@
 ghost use Rattle.std.specs.Prelude.{◌≡◌, ◌<◌, ◌≤◌, ◌⊎◌, ℕ, List, Some, map, string_bytes, length};
 ghost use Rattle.lcc_base.specs.Faults.{Rose};
+ghost use Rattle.std.specs.Io.KnownBytes.{Keeps};
 ghost use Rattle.lburg_grammar.specs.Tree.{MTree};
 ghost use Rattle.lburg_grammar.specs.Description.{MDescription};
 ghost use Rattle.lburg_grammar.specs.DescriptionText.{IsText};
@@ -66,12 +67,16 @@ pub fn top<S: Source, K: Sink, E: Sink>(
     ensures compiler_headline { (bytes : List ℕ) → AreRcc (map string_bytes words.now) → S.left input.old ≡ Some bytes → result ≡ Status.Ok
         → CompilerHeadline bytes (K.taken output.old) (K.taken output.new) }
 
-    // Only a rising count of faults gives an answer of reading or writing.
+    // Only a rising count of faults gives an answer of reading or writing, and a fault of the input
+    // gives no other.
     ensures read_fault { result ≡ Status.ReadFault → Rose (S.faults input.old) (S.faults input.new) }
+    ensures unbroken { S.faults input.old < S.faults input.new → (result ≡ Status.ReadFault) ⊎ (result ≡ Status.WriteFault) }
     ensures write_fault { result ≡ Status.WriteFault → Rose (K.faults output.old) (K.faults output.new) ⊎ Rose (E.faults report.old) (E.faults report.new) }
 
     // The other refusals come wherever they have to, unless memory was wanted or a write failed.
+    // Words that are no command leave the input as it was.
     ensures wrong_words { (AreAccepted (map string_bytes words.now) → ⊥) → (result ≡ Status.Usage) ⊎ IsFree result }
+    ensures unread { (AreAccepted (map string_bytes words.now) → ⊥) → Keeps (S.left input.old) (S.left input.new) × (S.faults input.new ≡ S.faults input.old) }
     ensures too_long { (bytes : List ℕ) → AreAccepted (map string_bytes words.now) → S.left input.old ≡ Some bytes → 16777216 < length bytes
         → NoFault (S.faults input.old) (S.faults input.new) → (result ≡ Status.InputTooLong) ⊎ IsFree result }
     ensures bad_text { (bytes : List ℕ) → AreCover (map string_bytes words.now) → S.left input.old ≡ Some bytes → length bytes ≤ 16777216

@@ -10,30 +10,22 @@ ghost use Rattle.tree_labeller.specs.IsLabelled.{IsLabelled};
 ghost use Rattle.tree_labeller.specs.MCells.{room, HasRoom};
 ghost use Rattle.lcc_top.specs.Printing.{Adds, AddsNumber, AddsLine};
 ghost use Rattle.lcc_top.specs.Cover.{IsCover, IsBadText};
-ghost use Rattle.lcc_top.specs.declared.cover.CoverEnd.TheVariants.{Memory};
+ghost use Rattle.lcc_top.specs.declared.input_fault.InputFault.TheVariants.{Memory};
 
+use crate::input_fault::InputFault;
 use crate::printer::Printer;
-use lburg_grammar::{DescFault, Description, TextTree, TreeFault, TreeNode, read, read_trees};
+use lburg_grammar::{Description, TextTree, TreeNode, read, read_trees};
 use lcc_base::{Bytes, Steps};
 use std::alloc::Global;
 use std::marker::Brand;
 use std::sync::ledger::{Blank, Ledger};
-use tree_labeller::{Cells, Cost, Tables, Visitor, best, build, label, reduce};
+use tree_labeller::{Cells, Cost, Tables, Visitor, best, build, label, most_nodes, reduce};
 
 /// The text of a cover, and how many trees have no derivation.
 #[derive(Drop)]
 pub(crate) struct Cover {
     pub(crate) text: Bytes,
     pub(crate) uncovered: u64,
-}
-
-/// Why there is no cover.
-#[derive(Clone, Copy, Debug, PartialEq, Eq)]
-pub(crate) enum CoverEnd {
-    /// The input isn't a description's text with a tail of trees.
-    BadText,
-    /// An allocation was refused.
-    Memory,
 }
 
 impl<N> Visitor<N> for Printer {
@@ -43,31 +35,6 @@ impl<N> Visitor<N> for Printer {
         self.print(b" ");
         self.print_number(u64::from(number));
     }
-}
-
-/// How many nodes a tree has.
-fn node_count<N: TreeNode>(tree: &N) -> usize
-    requires { nodes (N.tree tree.now) ≤ 65535 }
-    ensures { result ≡ nodes (N.tree tree.now) }
-{
-    match tree.arity() {
-        0 => 1,
-        1 => node_count(tree.kid(0)) + 1,
-        _ => node_count(tree.kid(0)) + node_count(tree.kid(1)) + 1,
-    }
-}
-
-/// The most nodes that one of the trees has.
-fn most_nodes(trees: &[TextTree]) -> usize
-    requires { All (λ t. nodes t ≤ 65535) trees.now }
-    ensures within { result ≤ 65535 }
-    ensures most { All (λ t. nodes t ≤ result) trees.now }
-{
-    let mut most: usize = 0;
-    for tree in trees {
-        most = most.max(node_count(tree));
-    }
-    most
 }
 
 /// Prints the line of a tree with a derivation, whose cost this is.
@@ -134,7 +101,7 @@ fn cover_trees<L: Ledger>(
     trees: &[TextTree],
     cells: &mut Cells,
     steps: &mut Steps<L>,
-) -> Result<Cover, CoverEnd>
+) -> Result<Cover, InputFault>
     requires nodes { All (λ t. nodes t ≤ room cells.old) trees.now }
     requires nonterminals { length tables.now.nonterminals ≤ cells.old.nonterminals }
     ensures found { IfOk result (λ c. IsCoverText tables.now trees.now c.text c.uncovered) }
@@ -149,7 +116,7 @@ fn cover_trees<L: Ledger>(
     }
     let Printer { text, is_refused } = printer;
     if is_refused {
-        return Err(CoverEnd::Memory);
+        return Err(InputFault::Memory);
     }
     Ok(Cover { text, uncovered })
 }
@@ -160,7 +127,7 @@ fn cover_all<L: Ledger>(
     blank: Blank,
     description: &Description,
     trees: &[TextTree],
-) -> Result<Cover, CoverEnd>
+) -> Result<Cover, InputFault>
     requires name { blank.name ≡ L.name }
     requires parts { blank.parts ≡ L.parts }
     requires some { 0 < blank.parts }
@@ -170,36 +137,26 @@ fn cover_all<L: Ledger>(
 {
     let mut steps = Steps::<L>::new(blank);
     let nonterminals = description.nonterminals().len();
-    match build(alloc, description) {
-        Ok(tables) => match Cells::reserve(alloc, most_nodes(trees), nonterminals) {
-            Ok(mut cells) => cover_trees(alloc, &tables, trees, &mut cells, &mut steps),
-            Err(_) => Err(CoverEnd::Memory),
-        },
-        Err(_) => Err(CoverEnd::Memory),
-    }
+    let tables = build(alloc, description)?;
+    let mut cells = Cells::reserve(alloc, most_nodes(trees), nonterminals)?;
+    cover_trees(alloc, &tables, trees, &mut cells, &mut steps)
 }
 
 /// The cover of the trees in the tail of a description's text.
-fn cover_tail(alloc: Global, description: &Description, input: &[u8]) -> Result<Cover, CoverEnd>
+fn cover_tail(alloc: Global, description: &Description, input: &[u8]) -> Result<Cover, InputFault>
     requires { IsText description.now input.now }
     ensures found { IfOk result (λ c. IsCover input.now c.text c.uncovered) }
-    ensures bad { IsErrOf result CoverEnd.BadText → (trees : List MTree) → IsTail description.now trees input.now → ⊥ }
+    ensures bad { IsErrOf result InputFault.BadText → (trees : List MTree) → IsTail description.now trees input.now → ⊥ }
 {
-    match read_trees(alloc, description, input) {
-        Ok(trees) => cover_all::<Brand>(alloc, Blank::new(1), description, trees.as_slice()),
-        Err(TreeFault::BadText) => Err(CoverEnd::BadText),
-        Err(TreeFault::Memory) => Err(CoverEnd::Memory),
-    }
+    let trees = read_trees(alloc, description, input)?;
+    cover_all::<Brand>(alloc, Blank::new(1), description, trees.as_slice())
 }
 
 /// The cover that a description's text with a tail of trees asks for.
-pub(crate) fn cover_text(alloc: Global, input: &[u8]) -> Result<Cover, CoverEnd>
+pub(crate) fn cover_text(alloc: Global, input: &[u8]) -> Result<Cover, InputFault>
     ensures found { IfOk result (λ c. IsCover input.now c.text c.uncovered) }
-    ensures bad { IsErrOf result CoverEnd.BadText → IsBadText input.now }
+    ensures bad { IsErrOf result InputFault.BadText → IsBadText input.now }
 {
-    match read(alloc, input) {
-        Ok(description) => cover_tail(alloc, &description, input),
-        Err(DescFault::BadText) => Err(CoverEnd::BadText),
-        Err(DescFault::Memory) => Err(CoverEnd::Memory),
-    }
+    let description = read(alloc, input)?;
+    cover_tail(alloc, &description, input)
 }

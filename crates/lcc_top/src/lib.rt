@@ -3,6 +3,7 @@
 
 mod calling;
 mod cover;
+mod input_fault;
 mod outcome;
 mod printer;
 mod rcc;

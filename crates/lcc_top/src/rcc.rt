@@ -1,47 +1,47 @@
-//! The assembly of a program of the first form of C.
-ghost use Rattle.std.specs.Prelude.{◌≤◌, ℕ, List, length, IfOk, IsErrOf};
-ghost use Rattle.first_form.specs.FirstProgram.{program_of};
+//! The assembly of a program of the first form of C. Each stage's value is given up once the next
+//! stands.
+ghost use Rattle.std.specs.Prelude.{◌≡◌, ◌≤◌, ℕ, List, length, IfOk, IsErrOf};
+ghost use Rattle.first_form.specs.FirstProgram.{MProgram};
 ghost use Rattle.first_form.specs.FirstForm.{IsFirst};
+ghost use Rattle.first_forest.specs.FirstForest.{unit_of};
 ghost use Rattle.lcc_top.specs.Compilation.{IsCompiled, IsCompilation, IsBadProgram};
 
+use crate::input_fault::InputFault;
 use asm_text::print;
 use first_forest::lower;
-use first_form::{FirstFault, FirstProgram, read};
+use first_form::read;
 use lcc_base::{Bytes, Memory};
+use mips_programs::programs_agree;
 use mips_target::generate;
+use op_forest::Lowered;
 use std::alloc::Global;
 
-/// Why there is no assembly.
-#[derive(Clone, Copy, Debug, PartialEq, Eq)]
-pub(crate) enum CompileEnd {
-    /// The input isn't the text of a program.
-    BadText,
-    /// An allocation was refused.
-    Memory,
+/// The unit of the input's program.
+fn unit_of_input(alloc: Global, input: &[u8]) -> Result<Lowered, InputFault>
+    ensures found { IfOk result (λ u. (p : MProgram) × IsFirst input.now p × (u ≡ unit_of p)) }
+    ensures bad { IsErrOf result InputFault.BadText → IsBadProgram input.now }
+{
+    let program = read(alloc, input)?;
+    Ok(lower(alloc, &program)?)
 }
 
-/// The text of a program's assembly.
-fn assembly_text(alloc: Global, program: &FirstProgram) -> Result<Bytes, Memory>
-    requires { (input : List ℕ) × IsFirst input (program_of program.now) × (length input ≤ 16777216) }
-    ensures { IfOk result (λ text. IsCompiled (program_of program.now) text) }
+/// The text of the assembly of a program's unit.
+fn assembly_text(alloc: Global, unit: Lowered) -> Result<Bytes, Memory>
+    requires { (input : List ℕ) × (p : MProgram) × IsFirst input p × (length input ≤ 16777216) × (unit ≡ unit_of p) }
+    ensures { (input : List ℕ) (p : MProgram) → IsFirst input p → length input ≤ 16777216 → unit ≡ unit_of p → IfOk result (λ text. IsCompiled p text) }
 {
-    let lowered = lower(alloc, program)?;
-    let lines = generate(alloc, &lowered)?;
+    let lines = generate(alloc, &unit)?;
+    drop(unit);
+    programs_agree();
     print(alloc, &lines)
 }
 
 /// The text of the assembly of the input's program.
-pub(crate) fn compile(alloc: Global, input: &[u8]) -> Result<Bytes, CompileEnd>
+pub(crate) fn compile(alloc: Global, input: &[u8]) -> Result<Bytes, InputFault>
     requires { length input.now ≤ 16777216 }
     ensures found { IfOk result (λ text. IsCompilation input.now text) }
-    ensures bad { IsErrOf result CompileEnd.BadText → IsBadProgram input.now }
+    ensures bad { IsErrOf result InputFault.BadText → IsBadProgram input.now }
 {
-    match read(alloc, input) {
-        Ok(program) => match assembly_text(alloc, &program) {
-            Ok(text) => Ok(text),
-            Err(Memory) => Err(CompileEnd::Memory),
-        },
-        Err(FirstFault::BadText) => Err(CompileEnd::BadText),
-        Err(FirstFault::Memory) => Err(CompileEnd::Memory),
-    }
+    let unit = unit_of_input(alloc, input)?;
+    Ok(assembly_text(alloc, unit)?)
 }

@@ -3,7 +3,8 @@ ghost use Rattle.std.specs.Fmt.{signed_decimal};
 ghost use Rattle.std.specs.Io.KnownBytes.{Appends};
 ghost use Rattle.lcc_base.specs.Faults.{HasCause};
 ghost use Rattle.lcc_base.specs.Taken.{TookPrefix};
-ghost use Rattle.lcc_top.specs.Outcome.{cause_name, hex_digit, hex_word, line_of, place_line};
+ghost use Rattle.asm_text.specs.StuckCause.{cause_name};
+ghost use Rattle.lcc_top.specs.Outcome.{hex_digit, hex_word, line_of, place_line};
 
 use crate::outcome::Outcome;
 use asm_text::StuckCause;
@@ -91,10 +92,9 @@ fn write_stuck<E: Sink>(report: &mut E, cause: StuckCause, pc: u32, step: u32) -
     ensures prefix { OnErr result (TookPrefix (E.taken report.old) (E.taken report.new) (place_line (codes "stuck: " ++ cause_name cause) pc step)) }
     ensures cause { HasCause (E.faults report.old) (E.faults report.new) result }
 {
-    match cause {
-        StuckCause::BadJump => write_place(report, b"stuck: BadJump", pc, step),
-        StuckCause::Outside => write_place(report, b"stuck: Outside", pc, step),
-        StuckCause::Misaligned => write_place(report, b"stuck: Misaligned", pc, step),
+    match write_all(report, b"stuck: ") {
+        Err(fault) => Err(fault),
+        Ok(()) => write_place(report, cause.name().as_bytes(), pc, step),
     }
 }
 

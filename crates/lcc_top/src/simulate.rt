@@ -1,5 +1,6 @@
 ghost use Rattle.std.specs.Prelude.{◌≡◌, ◌≤◌, ◌^◌, ◌<◌, ℕ, [], IsErrOf};
-ghost use Rattle.mips_machine.specs.Run.{run_from, Going};
+ghost use Rattle.asm_text.specs.Runs.{run_from, Going};
+ghost use Rattle.mips_machine.specs.StepTable.{step};
 ghost use Rattle.lcc_top.specs.Simulation.{HasRun};
 
 use crate::outcome::Outcome;
@@ -15,7 +16,7 @@ pub(crate) fn run_machine<K: Sink>(
     steps: u32,
     output: &mut K,
 ) -> Outcome
-    ensures ran { HasRun (λ n. run_from machine.old.program machine.old.order (record { printed = []; place = Going machine.old.cpu [] }) n) steps (K.taken output.old) (K.taken output.new) (K.faults output.old) (K.faults output.new) result }
+    ensures ran { HasRun (λ n. run_from (step machine.old.program machine.old.order) (record { printed = []; place = Going machine.old.cpu [] }) n) steps (K.taken output.old) (K.taken output.new) (K.faults output.old) (K.faults output.new) result }
     ensures later { K.faults output.old ≤ K.faults output.new }
 {
     let mut input = Input {

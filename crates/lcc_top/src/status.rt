@@ -17,14 +17,22 @@ pub enum Status {
     InputTooLong,
     /// The input isn't of the command's form.
     BadText,
+    /// The program breaks a constraint of the language.
+    BadProgram,
+    /// The input passes a limit.
+    Limit,
     /// A tree has no derivation from the start symbol.
     NoCover,
+    /// The program's behaviour is undefined.
+    Undefined,
     /// A run is stuck.
     Stuck,
     /// A run is out of stack.
     StackOut,
     /// A run was still going after all its steps.
     OutOfSteps,
+    /// A program's run was still going after all its turns.
+    OutOfTurns,
 }
 
 impl Status {
@@ -42,10 +50,14 @@ impl Status {
             Status::Memory => 4,
             Status::InputTooLong => 5,
             Status::BadText => 6,
+            Status::BadProgram => 7,
+            Status::Limit => 8,
             Status::NoCover => 9,
+            Status::Undefined => 10,
             Status::Stuck => 11,
             Status::StackOut => 12,
             Status::OutOfSteps => 13,
+            Status::OutOfTurns => 14,
         }
     }
 }

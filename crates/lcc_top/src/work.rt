@@ -4,9 +4,10 @@ ghost use Rattle.lcc_top.specs.Commands.{AreWordsOf};
 ghost use Rattle.asm_text.specs.IsProgram.{IsProgram};
 ghost use Rattle.lcc_top.specs.Work.{IsDone, IsWritten, IsDoneBy, IsSimulated, IsCompiledSo, RunOf};
 
-use crate::cover::{Cover, CoverEnd, cover_text};
+use crate::cover::{Cover, cover_text};
+use crate::input_fault::InputFault;
 use crate::outcome::Outcome;
-use crate::rcc::{CompileEnd, compile};
+use crate::rcc::compile;
 use crate::simulate::run_machine;
 use crate::words::{Command, command_of};
 use asm_text::{AsmFault, Isa, Program};
@@ -55,8 +56,8 @@ fn cover_input<K: Sink>(alloc: Global, input: &[u8], output: &mut K) -> Outcome
 {
     match cover_text(alloc, input) {
         Ok(cover) => write_cover(&cover, output),
-        Err(CoverEnd::BadText) => Outcome::BadText,
-        Err(CoverEnd::Memory) => Outcome::Memory,
+        Err(InputFault::BadText) => Outcome::BadText,
+        Err(InputFault::Memory) => Outcome::Memory,
     }
 }
 
@@ -96,8 +97,8 @@ fn compile_input<K: Sink>(alloc: Global, input: &[u8], output: &mut K) -> Outcom
             Ok(()) => Outcome::Compiled,
             Err(Failed) => Outcome::WriteFault,
         },
-        Err(CompileEnd::BadText) => Outcome::BadText,
-        Err(CompileEnd::Memory) => Outcome::Memory,
+        Err(InputFault::BadText) => Outcome::BadText,
+        Err(InputFault::Memory) => Outcome::Memory,
     }
 }
 

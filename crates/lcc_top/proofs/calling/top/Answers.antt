@@ -3,7 +3,7 @@ use Rattle.lcc_top.specs.declared.status.Status.{Status}
 use Rattle.lcc_top.specs.declared.status.Status.TheVariants as status
 use Rattle.lcc_top.specs.Call.{IsFree}
 use Rattle.lcc_top.specs.Headline.{CoverHeadline, IsRunStatus, RunHeadline}
-use Rattle.lcc_top.proofs.Answered.{bad_or_free, covered_or_memory, ran_or_memory, cover_headline, ran_headline}
+use Rattle.lcc_top.proofs.Answered.{bad_or_free, covered_or_memory, ran_or_memory, cover_headline, ran_headline, input_kept, fault_of_input}
 use Rattle.lcc_top.proofs.Compiling.{compiled_or_memory, compiler_headline}
 use Rattle.lcc_top.proofs.calling.top.Goals as goal
 
@@ -51,3 +51,12 @@ pub returns-in-Ok-clause-complete_compile : goal.returns-in-Ok-clause-complete_c
 returns-in-Ok-clause-complete_compile g c = λ bytes p words is small text fine sound _.
     (let Answer : Status → Type 0 = λ s. (s ≡ status.Ok) ⊎ (s ≡ status.Memory) in
     subst Answer (sym c.status.ensures) (compiled_or_memory _ c.run-outcome.result bytes p c.run-outcome.ensures.caused words is small text fine sound))
+
+pub returns-in-Ok-clause-unread : goal.returns-in-Ok-clause-unread
+returns-in-Ok-clause-unread g c = input_kept _ c.run-outcome.result c.run-outcome.ensures.caused
+
+pub returns-in-Err-clause-unread : goal.returns-in-Err-clause-unread
+returns-in-Err-clause-unread g c = input_kept _ c.run-outcome.result c.run-outcome.ensures.caused
+
+pub returns-in-Ok-clause-unbroken : goal.returns-in-Ok-clause-unbroken
+returns-in-Ok-clause-unbroken g c = λ more. inl (c.status.ensures ∙ fault_of_input _ c.run-outcome.result c.run-outcome.ensures.caused more)

@@ -1,5 +1,5 @@
 use Rattle.std.proofs.Common.{◌≤◌, []}
-use Rattle.mips_machine.specs.Run.{Going}
+use Rattle.asm_text.specs.Runs.{Going}
 use Rattle.lcc_top.proofs.Running.{Running, run_at}
 use Rattle.lcc_top.proofs.simulate.run_machine.Given as goal
 

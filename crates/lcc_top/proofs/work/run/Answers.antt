@@ -6,4 +6,4 @@ use Rattle.lcc_top.proofs.work.run.Goals as goal
 pub returns-in-Ok-clause-caused : goal.returns-in-Ok-clause-caused
 returns-in-Ok-clause-caused g c =
     let Done : List ℕ → Type 0 = λ bytes. IsDoneBy c.in-Some.asked (g.K.Sink.taken c.args.output.now) (g.K.Sink.taken c.work.new.output) (g.K.Sink.faults c.args.output.now) (g.K.Sink.faults c.work.new.output) bytes c.work.result in
-    caused c.in-Some.asked _ c.in-Ok.bytes c.work.result c.in-Some.ensures.some (record { taken = c.in-Ok.ensures.all; end = c.in-Ok.ensures.end; within = c.in-Ok.ensures.within }) (subst Done c.as_slice.ensures c.work.ensures.done)
+    caused c.in-Some.asked _ c.in-Ok.bytes c.work.result c.in-Some.ensures.some (record { taken = c.in-Ok.ensures.all; end = c.in-Ok.ensures.end; within = c.in-Ok.ensures.within; unbroken = c.in-Ok.ensures.unbroken (λ e. cc) }) (subst Done c.as_slice.ensures c.work.ensures.done)

@@ -1,9 +1,10 @@
-use Rattle.asm_text.proofs.MadeProgram.{made_program}
 use Rattle.std.proofs.KnownBytes.{Keeps-refl}
+use Rattle.lcc_top.proofs.RunOf.{simulated_of}
 use Rattle.lcc_top.proofs.work.run_input.Goals as goal
 
-pub run_program-requires : goal.run_program-requires
-run_program-requires g c = (let is = c.in-Ok.ensures.found in made_program _ _ is.text.made is.limit)
+pub returns-in-Ok-clause-done : goal.returns-in-Ok-clause-done
+returns-in-Ok-clause-done g c =
+    simulated_of c.in-Ok.program c.args.input.now _ _ _ _ c.run_program.result c.in-Ok.ensures.found c.in-Ok.ensures.one c.run_program.ensures.ran
 
 pub returns-in-Err-BadText-clause-done : goal.returns-in-Err-BadText-clause-done
 returns-in-Err-BadText-clause-done g c =

@@ -1,0 +1,72 @@
+ghost use Rattle.std.specs.Prelude.{◌≡◌};
+ghost use Rattle.lcc_top.specs.InputFaults.{of_description, of_trees, of_program, of_assembly};
+ghost use Rattle.lcc_top.specs.declared.input_fault.InputFault.TheVariants as fault;
+
+use asm_text::AsmFault;
+use first_form::FirstFault;
+use lburg_grammar::{DescFault, TreeFault};
+use lcc_base::Memory;
+use thiserror::Error;
+
+/// Why a command made nothing of its input.
+#[derive(Clone, Copy, Debug, PartialEq, Eq, Error)]
+pub(crate) enum InputFault {
+    /// The input isn't of the command's form.
+    #[error("the input isn't of the command's form")]
+    BadText,
+    /// An allocation was refused.
+    #[error("an allocation was refused")]
+    Memory,
+}
+
+impl From<Memory> for InputFault {
+    ghost from_gives = { λ _ e. e ≡ fault.Memory };
+
+    fn from(_: Memory) -> Self {
+        InputFault::Memory
+    }
+}
+
+impl From<DescFault> for InputFault {
+    ghost from_gives = { λ why e. e ≡ of_description why };
+
+    fn from(why: DescFault) -> Self {
+        match why {
+            DescFault::BadText => InputFault::BadText,
+            DescFault::Memory => InputFault::Memory,
+        }
+    }
+}
+
+impl From<TreeFault> for InputFault {
+    ghost from_gives = { λ why e. e ≡ of_trees why };
+
+    fn from(why: TreeFault) -> Self {
+        match why {
+            TreeFault::BadText => InputFault::BadText,
+            TreeFault::Memory => InputFault::Memory,
+        }
+    }
+}
+
+impl From<FirstFault> for InputFault {
+    ghost from_gives = { λ why e. e ≡ of_program why };
+
+    fn from(why: FirstFault) -> Self {
+        match why {
+            FirstFault::BadText => InputFault::BadText,
+            FirstFault::Memory => InputFault::Memory,
+        }
+    }
+}
+
+impl From<AsmFault> for InputFault {
+    ghost from_gives = { λ why e. e ≡ of_assembly why };
+
+    fn from(why: AsmFault) -> Self {
+        match why {
+            AsmFault::BadText => InputFault::BadText,
+            AsmFault::Memory => InputFault::Memory,
+        }
+    }
+}
