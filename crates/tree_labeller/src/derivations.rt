@@ -23,6 +23,16 @@ use std::sync::ledger::{Blank, Ledger};
 #[cfg(test)]
 mod tests;
 
+// How many nonterminals a pattern has.
+fn nonterminal_count(pattern: &Pattern) -> usize {
+    match pattern {
+        Pattern::Nonterminal(_) => 1,
+        Pattern::Leaf(_) => 0,
+        Pattern::Unary(_, p) => nonterminal_count(p),
+        Pattern::Binary(_, p, q) => nonterminal_count(p).saturating_add(nonterminal_count(q)),
+    }
+}
+
 // The best derivation of a nonterminal, which its cell tells.
 #[cycle(derive)]
 fn derivation_at<N: TreeNode>(
@@ -37,8 +47,9 @@ fn derivation_at<N: TreeNode>(
     ensures { IfOk result (Built labels.now.rows.now labels.now.rules.now n (N.tree tree.now) at) }
 {
     let choice = labels.choice(tree, at, n);
-    let mut parts = Items::new(alloc);
-    add_parts(alloc, labels, &choice.rule.pattern, tree, at, &mut parts)?;
+    let pattern = &choice.rule.pattern;
+    let mut parts = Items::with_capacity(alloc, nonterminal_count(pattern))?;
+    add_parts(alloc, labels, pattern, tree, at, &mut parts)?;
     Ok(Derivation {
         rule: choice.number,
         parts,
@@ -105,7 +116,7 @@ fn derive_trees<N: TreeNode, L: Ledger>(
     requires nonterminals { length t.now.nonterminals ≤ cells.old.nonterminals }
     ensures { IfOk result (λ xs. AreBest t.now (map N.tree trees.now) (map derivation_of xs)) }
 {
-    let mut all = Items::new(alloc);
+    let mut all = Items::with_capacity(alloc, trees.len())?;
     for tree in trees {
         label(t, tree, cells, steps);
         let best = best_derivation(alloc, t, tree, cells)?;

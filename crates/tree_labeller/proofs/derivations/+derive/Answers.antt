@@ -15,7 +15,7 @@ derivation_at-returns g t c =
     let T = g.N.TreeNode.tree c.args.tree.now in
     let r = c.choice-choice.result.rule.now in
     let Added : List Derivation → Type 0 = λ old. PartsAdded rows rules (pattern_of r.pattern) T c.args.at old c.add_parts.new.parts in
-    built rows rules c.args.labels.now.width c.args.n T c.args.at c.choice-choice.result.number r c.add_parts.new.parts c.requires.labelled c.requires.some c.choice-choice.ensures.chosen c.choice-choice.ensures.rule (subst Added c.new-parts.ensures c.in_ok-add_parts.ensures)
+    built rows rules c.args.labels.now.width c.args.n T c.args.at c.choice-choice.result.number r c.add_parts.new.parts c.requires.labelled c.requires.some c.choice-choice.ensures.chosen c.choice-choice.ensures.rule (subst Added c.in_ok-parts.ensures c.in_ok-add_parts.ensures)
 
 pub add_parts-returns-in_ok-part-in-Nonterminal : goal.add_parts-returns-in_ok-part-in-Nonterminal
 add_parts-returns-in_ok-part-in-Nonterminal g t c =
