@@ -156,10 +156,14 @@ fn numbers_of_statuses(rt: HostRuntime) {
         (Status::Memory, 4),
         (Status::InputTooLong, 5),
         (Status::BadText, 6),
+        (Status::BadProgram, 7),
+        (Status::Limit, 8),
         (Status::NoCover, 9),
+        (Status::Undefined, 10),
         (Status::Stuck, 11),
         (Status::StackOut, 12),
         (Status::OutOfSteps, 13),
+        (Status::OutOfTurns, 14),
     ];
     for (status, number) in table {
         assert_eq!(rt; status.number(), number);
