@@ -1,5 +1,5 @@
 -- The instructions of a function's roots, from their allocated code.
-use Rattle.std.proofs.Common.{◌≡◌, IfOk, Result, Ok, Err, ℕ, ◌+◌, ◌*◌, ◌≤◌, List, length, sum_by, All, sym, ap, ◌∙◌, subst, arith}
+use Rattle.std.proofs.Common.{◌≡◌, ℕ, ◌+◌, ◌*◌, ◌≤◌, List, length, sum_by, All, sym, ap, ◌∙◌, subst, arith}
 use Rattle.asm_text.specs.declared.instruction.Instruction.{Instruction}
 use Rattle.op_forest.specs.declared.forest.Forest.{Forest}
 use Rattle.op_forest.specs.Nodes.{Node, nodes, head_of}
@@ -13,8 +13,8 @@ use Rattle.mips_target.specs.declared.layout.Layout.{Layout}
 use Rattle.mips_target.specs.Callable.{IsCallable}
 use Rattle.mips_target.specs.CalledNames.{CallsAre}
 use Rattle.mips_target.specs.Frame.{frame_size}
-use Rattle.mips_target.specs.FunctionCode.{argument_words, unmarked, function_code}
-use Rattle.mips_target.specs.Items.{lines_in}
+use Rattle.mips_target.specs.FunctionCode.{argument_words, function_code}
+use Rattle.mips_target.specs.Items.{CodeItem, lines_in}
 use Rattle.mips_target.specs.Registers.{NamesAmong}
 use Rattle.mips_target.specs.Sizes.{Fits}
 use Rattle.mips_target.specs.Emits.{Emits}
@@ -49,12 +49,12 @@ module _ (f : Forest) (roots : List Node) (c : MAllocated Instr) (a : IsAllocate
   fits u w k =
       subst (Fits u.names (layout_for c) 0) (sym a.code) (subst (λ l. Fits u.names l 0 (allotted_code a.virtual)) same_layout (code_fits roots a.selected.derivations a.virtual a.selected.linearised u f w k))
 
-  -- the instructions are those of a function of the roots
-  pub is_code : (u : LoweredUnit) (labels : ℕ → List ℕ) → AreGood f roots → All IsUnitName u.names → All (AtEachNode (λ t. IsKnown u roots (head_of t).sym)) roots → (code : List Instruction) → unmarked code ≡ function_code u.names (layout_for c) c.code → IsCodeOf u labels roots (unmarked code)
-  is_code u labels w n k code made =
+  -- the items are those of a function of the roots
+  pub is_code : (u : LoweredUnit) (labels : ℕ → List ℕ) → AreGood f roots → All IsUnitName u.names → All (AtEachNode (λ t. IsKnown u roots (head_of t).sym)) roots → (items : List (CodeItem Instruction)) → items ≡ function_code u.names (layout_for c) c.code → IsCodeOf u labels roots items
+  is_code u labels w n k items made =
       let v = a.virtual in
       let s = a.selected in
-      let is : unmarked code ≡ function_code u.names (layout_of v) (allotted_code v) = made ∙ ap (λ l. function_code u.names l c.code) (sym same_layout) ∙ ap (λ is. function_code u.names (layout_of v) is) a.code in
+      let is : items ≡ function_code u.names (layout_of v) (allotted_code v) = made ∙ ap (λ l. function_code u.names l c.code) (sym same_layout) ∙ ap (λ is. function_code u.names (layout_of v) is) a.code in
       let long = allotted_length roots s.derivations v s.linearised in
       let short = code_small u.names (layout_of v) (allotted_code v) (sum_by nodes roots) long in
       let e = ap (λ x. length (lines_in x)) is ∙ ap length (function_lines u.names (layout_of v) (allotted_code v)) in
@@ -69,14 +69,10 @@ module _ (f : Forest) (roots : List Node) (c : MAllocated Instr) (a : IsAllocate
         fits = fits u w k;
         made = made;
         calls = λ callable. subst (CallsAre (IsCallable u)) (sym a.code) (calls_callable u f roots v s w callable);
-        emits = subst (λ l. Emits u.names labels (frame_size l) s.derivations roots (unmarked code)) same_layout (subst (Emits u.names labels (frame_size (layout_of v)) s.derivations roots) (sym is) (code_emits u f roots s.derivations v s.linearised labels s.description s.shipped s.best w k n));
+        emits = subst (λ l. Emits u.names labels (frame_size l) s.derivations roots items) same_layout (subst (Emits u.names labels (frame_size (layout_of v)) s.derivations roots) (sym is) (code_emits u f roots s.derivations v s.linearised labels s.description s.shipped s.best w k n));
         frame = subst (λ l. frame_size l ≤ frame_bound (sum_by nodes roots)) same_layout (frame_small (layout_of v) (sum_by nodes roots) (frame_words roots s.derivations v s.linearised));
         short = omega (arith, short, e);
       }
-
-  pub are_code : {E : Type 0} (u : LoweredUnit) (labels : ℕ → List ℕ) (result : Result (List Instruction) E) → AreGood f roots → All IsUnitName u.names → All (AtEachNode (λ t. IsKnown u roots (head_of t).sym)) roots → IfOk result (λ code. unmarked code ≡ function_code u.names (layout_for c) c.code) → IfOk result (λ code. IsCodeOf u labels roots (unmarked code))
-  are_code u labels (Ok code) w n k made = is_code u labels w n k code made
-  are_code u labels (Err e) w n k made = tt
 
 -- a layout of these numbers
 pub layout_is : (c : MAllocated Instr) (arguments slots : ℕ) (code : List Instr) → code ≡ c.code → arguments ≡ argument_words code → slots ≡ c.slots → record { arguments = arguments; slots = slots } ≡ layout_for c
@@ -85,6 +81,5 @@ layout_is c arguments slots code e a s = λ i. record { arguments = (a ∙ ap ar
 pub fits_same : (names names' : List (List ℕ)) (l l' : Layout) (code code' : List Instr) → names' ≡ names → l' ≡ l → code' ≡ code → Fits names l 0 code → Fits names' l' 0 code'
 fits_same names names' l l' code code' n e c h = subst (λ x. Fits x l' 0 code') (sym n) (subst (λ x. Fits names x 0 code') (sym e) (subst (λ x. Fits names l 0 x) (sym c) h))
 
-pub made_same : {E : Type 0} (names names' : List (List ℕ)) (l l' : Layout) (code code' : List Instr) (result : Result (List Instruction) E) → names' ≡ names → l' ≡ l → code' ≡ code → IfOk result (λ is. unmarked is ≡ function_code names' l' code') → IfOk result (λ is. unmarked is ≡ function_code names l code)
-made_same names names' l l' code code' (Ok is) n e c h = h ∙ ap (λ x. function_code x l' code') n ∙ ap (λ x. function_code names x code') e ∙ ap (λ x. function_code names l x) c
-made_same names names' l l' code code' (Err x) n e c h = tt
+pub code_same : (names names' : List (List ℕ)) (l l' : Layout) (code code' : List Instr) → names' ≡ names → l' ≡ l → code' ≡ code → function_code names' l' code' ≡ function_code names l code
+code_same names names' l l' code code' n e c = λ i. function_code (n i) (e i) (c i)

@@ -1,7 +1,7 @@
 -- What is generated for a lowered unit: for each function the best derivations of its roots by the shipped description,
 -- the virtual code that their rules add, code over the machine's registers and spill slots that does the same, and the
 -- machine's instructions for that. How registers and slots are given is left open.
-use Rattle.std.specs.Prelude.{◌≡◌, ◌≤◌, ℕ, ◌+◌, ◌*◌, List, ◌∷◌, [], map, length, sum_by, All, get_or}
+use Rattle.std.specs.Prelude.{◌≡◌, ◌≤◌, ℕ, ◌+◌, ◌*◌, List, ◌∷◌, [], ◌++◌, map, length, sum_by, All, get_or}
 use Rattle.std.specs.List.{AllZip}
 use Rattle.lburg_grammar.specs.Derivation.{MDerivation}
 use Rattle.lburg_grammar.specs.Description.{MDescription}
@@ -28,7 +28,7 @@ use Rattle.mips_target.specs.FunctionCode.{function_code}
 use Rattle.mips_target.specs.Items.{CodeItem, lines_in}
 use Rattle.mips_target.specs.Registers.{NamesAmong}
 use Rattle.mips_target.specs.Sizes.{Fits}
-use Rattle.mips_target.specs.UnitLines.{Coded, unit_lines}
+use Rattle.mips_target.specs.UnitLines.{Coded, numbered, function_items, unit_lines}
 use Rattle.mips_target.specs.Emits.{Emits}
 
 -- the registers that hold values of the virtual code
@@ -72,6 +72,12 @@ pub record IsCodeOf (u : LoweredUnit) (labels : ℕ → List ℕ) (roots : List 
 pub record IsFunction (u : LoweredUnit) (f : LoweredFunction) (c : Coded) : Type 0 where
   pub name : c.name ≡ get_or u.names f.name []
   pub code : IsCodeOf u c.labels f.forest.roots c.items
+
+-- the lines of a function of the unit come behind others
+pub record AddsFunction (u : LoweredUnit) (f : LoweredFunction) (before behind : List Line) : Type 0 where
+  pub function : Coded
+  pub is : IsFunction u f function
+  pub adds : behind ≡ before ++ numbered (length before + 1) (function_items function)
 
 -- the lines are those of the unit's functions
 pub record IsGenerated (u : LoweredUnit) (lines : List Line) : Type 0 where

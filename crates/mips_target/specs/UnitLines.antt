@@ -43,11 +43,11 @@ pub record Coded : Type 0 where
   pub items : List (CodeItem Instruction)
 
 -- a function's name is a label, seen from outside
+abbrev pub named : List ℕ → List Item
+named name = plain (statement.Directive (directive.Global name)) ∷ marked name ∷ []
+
 abbrev pub function_items : Coded → List Item
-function_items f =
-    plain (statement.Directive (directive.Global f.name))
-    ∷ marked f.name
-    ∷ code_lines f.labels f.items
+function_items f = named f.name ++ code_lines f.labels f.items
 
 abbrev pub items_of : List Coded → List Item
 items_of [] = []

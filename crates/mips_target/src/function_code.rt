@@ -1,15 +1,17 @@
 //! The instructions of a function.
-ghost use Rattle.std.specs.Prelude.{◌≡◌, ◌+◌, ◌*◌, ◌≤◌, ◌<◌, ◌^◌, ◌++◌, [], ◌∷◌, max, min, length, get_or, drop, IfOk, OnOk};
+ghost use Rattle.std.specs.Prelude.{◌≡◌, ◌+◌, ◌*◌, ◌≤◌, ◌<◌, ◌^◌, ◌++◌, [], ◌∷◌, max, min, length, get_or, drop, OnOk};
 ghost use Rattle.mips_rules.specs.Mips.{mips};
 ghost use Rattle.mips_target.specs.Frame.{slot_place, return_place, frame_size};
 ghost use Rattle.mips_target.specs.FunctionCode.{in_frame, operand_of, prologue, epilogue, loads_of, call_of, instructions_of, handed_behind, most_handed, argument_words, unmarked, body_of, function_code};
+ghost use Rattle.mips_target.specs.UnitLines.{numbered, label_text, code_lines};
 ghost use Rattle.mips_target.specs.Sizes.{IsSourceWithin, FitsOne, Fits};
 
 use crate::layout::Layout;
+use crate::unit_lines::push_instruction;
 use asm_text::{
-    Address, BinaryOp, Instruction, LoadOp, Operand, Register, StoreOp, Target, UnaryOp,
+    Address, BinaryOp, Instruction, Lines, LoadOp, Operand, Register, StoreOp, Target, UnaryOp,
 };
-use lcc_base::{Bytes, Items, Memory};
+use lcc_base::{Bytes, Memory};
 use mips_rules::{Instr, Source};
 use std::alloc::Global;
 use vcode::Reg;
@@ -58,23 +60,35 @@ fn move_stack_pointer(op: BinaryOp, bytes: u32) -> Instruction
     Instruction::Binary(op, register(29), register(29), Operand::Number(bytes))
 }
 
-/// Adds the instructions that make the frame.
-fn push_prologue(layout: Layout, into: &mut Items<Instruction>) -> Result<(), Memory>
+/// Adds the lines that make the frame.
+fn push_prologue(alloc: Global, layout: Layout, lines: &mut Lines) -> Result<(), Memory>
     requires { layout.arguments + layout.slots < 2 ^ 28 }
-    ensures { OnOk result (into.new ≡ into.old ++ prologue layout) }
+    ensures { OnOk result (lines.new ≡ lines.old ++ numbered (length lines.old + 1) (code_lines label_text (unmarked (prologue layout)))) }
 {
-    into.push(move_stack_pointer(BinaryOp::Subtract, layout.frame_size()))?;
-    into.push(store(31, layout.return_place()))
+    push_instruction(
+        alloc,
+        lines,
+        move_stack_pointer(BinaryOp::Subtract, layout.frame_size()),
+    )?;
+    push_instruction(alloc, lines, store(31, layout.return_place()))
 }
 
-/// Adds the instructions that give the frame back and return.
-fn push_epilogue(layout: Layout, into: &mut Items<Instruction>) -> Result<(), Memory>
+/// Adds the lines that give the frame back and return.
+fn push_epilogue(alloc: Global, layout: Layout, lines: &mut Lines) -> Result<(), Memory>
     requires { layout.arguments + layout.slots < 2 ^ 28 }
-    ensures { OnOk result (into.new ≡ into.old ++ epilogue layout) }
+    ensures { OnOk result (lines.new ≡ lines.old ++ numbered (length lines.old + 1) (code_lines label_text (unmarked (epilogue layout)))) }
 {
-    into.push(load(31, layout.return_place()))?;
-    into.push(move_stack_pointer(BinaryOp::Add, layout.frame_size()))?;
-    into.push(Instruction::Jump(Target::Register(register(31))))
+    push_instruction(alloc, lines, load(31, layout.return_place()))?;
+    push_instruction(
+        alloc,
+        lines,
+        move_stack_pointer(BinaryOp::Add, layout.frame_size()),
+    )?;
+    push_instruction(
+        alloc,
+        lines,
+        Instruction::Jump(Target::Register(register(31))),
+    )
 }
 
 /// The last operand of an operation.
@@ -88,66 +102,83 @@ fn operand_of(source: Source) -> Operand
     }
 }
 
-/// Adds a call of a name with so many argument words, of which the first four go in registers. The
-/// register gets its result.
+/// Adds the lines of a call of a name with so many argument words, of which the first four go in
+/// registers. The register gets its result.
 fn push_call(
     alloc: Global,
     names: &[Bytes],
     words: u32,
     to: Reg,
     name: u32,
-    into: &mut Items<Instruction>,
+    lines: &mut Lines,
 ) -> Result<(), Memory>
     requires register { to < 32 }
     requires name { name < length names.now }
-    ensures { OnOk result (into.new ≡ into.old ++ call_of names.now words to name) }
+    ensures { OnOk result (lines.new ≡ lines.old ++ numbered (length lines.old + 1) (code_lines label_text (unmarked (call_of names.now words to name)))) }
 {
     for word in 0..words.min(4) {
-        into.push(load(4 + word, 4 * word))?;
+        push_instruction(alloc, lines, load(4 + word, 4 * word))?;
     }
     let label = Bytes::copied(alloc, names[name as usize].as_slice())?;
-    into.push(Instruction::Call(Target::Label(label)))?;
-    into.push(Instruction::Move(register(to), register(2)))
+    push_instruction(alloc, lines, Instruction::Call(Target::Label(label)))?;
+    push_instruction(alloc, lines, Instruction::Move(register(to), register(2)))
 }
 
-/// Adds the instructions of one, where so many argument words were handed since the last call.
+/// Adds the lines of an instruction, where so many argument words were handed since the last call.
 fn push_instructions(
     alloc: Global,
     names: &[Bytes],
     layout: Layout,
     handed: u32,
     instr: Instr,
-    into: &mut Items<Instruction>,
+    lines: &mut Lines,
 ) -> Result<(), Memory>
     requires fits { FitsOne names.now layout handed instr }
     requires frame { layout.arguments + layout.slots < 2 ^ 28 }
-    ensures { OnOk result (into.new ≡ into.old ++ instructions_of names.now layout handed instr) }
+    ensures { OnOk result (lines.new ≡ lines.old ++ numbered (length lines.old + 1) (code_lines label_text (unmarked (instructions_of names.now layout handed instr)))) }
 {
     match instr {
-        Instr::LoadNumber { to, number } => into.push(Instruction::LoadNumber(
-            register(to),
-            number,
-        )),
+        Instr::LoadNumber { to, number } => push_instruction(
+            alloc,
+            lines,
+            Instruction::LoadNumber(register(to), number),
+        ),
         Instr::Binary {
             op,
             to,
             from,
             operand,
-        } => into.push(Instruction::Binary(op, register(to), register(from), operand_of(operand))),
-        Instr::Negate { to, from } => into.push(Instruction::Unary(
-            UnaryOp::Negate,
-            register(to),
-            register(from),
-        )),
-        Instr::Argument { from } => into.push(store(from, 4 * handed)),
-        Instr::Call { to, name } => push_call(alloc, names, handed, to, name, into),
+        } => push_instruction(
+            alloc,
+            lines,
+            Instruction::Binary(op, register(to), register(from), operand_of(operand)),
+        ),
+        Instr::Negate { to, from } => push_instruction(
+            alloc,
+            lines,
+            Instruction::Unary(UnaryOp::Negate, register(to), register(from)),
+        ),
+        Instr::Argument { from } => push_instruction(alloc, lines, store(from, 4 * handed)),
+        Instr::Call { to, name } => push_call(alloc, names, handed, to, name, lines),
         Instr::Return { from } => {
-            into.push(Instruction::Move(register(2), register(from)))?;
-            push_epilogue(layout, into)
+            push_instruction(alloc, lines, Instruction::Move(register(2), register(from)))?;
+            push_epilogue(alloc, layout, lines)
         }
-        Instr::Copy { to, from } => into.push(Instruction::Move(register(to), register(from))),
-        Instr::LoadSlot { to, slot } => into.push(load(to, layout.slot_place(slot))),
-        Instr::StoreSlot { from, slot } => into.push(store(from, layout.slot_place(slot))),
+        Instr::Copy { to, from } => push_instruction(
+            alloc,
+            lines,
+            Instruction::Move(register(to), register(from)),
+        ),
+        Instr::LoadSlot { to, slot } => push_instruction(
+            alloc,
+            lines,
+            load(to, layout.slot_place(slot)),
+        ),
+        Instr::StoreSlot { from, slot } => push_instruction(
+            alloc,
+            lines,
+            store(from, layout.slot_place(slot)),
+        ),
     }
 }
 
@@ -178,25 +209,24 @@ pub(crate) fn argument_words(code: &[Instr]) -> u32
     most
 }
 
-/// The instructions of a function with this allocated code. It has no labels so far.
-pub(crate) fn function_code(
+/// Adds the lines of a function with this allocated code. It has no labels so far.
+pub(crate) fn push_function_code(
     alloc: Global,
     names: &[Bytes],
     layout: Layout,
     code: &[Instr],
-) -> Result<Items<Instruction>, Memory>
+    lines: &mut Lines,
+) -> Result<(), Memory>
     requires fits { Fits names.now layout 0 code.now }
     requires frame { layout.arguments + layout.slots < 2 ^ 28 }
     requires size { length code.now < 2 ^ 31 }
-    ensures { IfOk result (λ is. unmarked is ≡ function_code names.now layout code.now) }
+    ensures { OnOk result (lines.new ≡ lines.old ++ numbered (length lines.old + 1) (code_lines label_text (function_code names.now layout code.now))) }
 {
-    let mut into = Items::with_capacity(alloc, code.len() + 5)?;
-    push_prologue(layout, &mut into)?;
+    push_prologue(alloc, layout, lines)?;
     let mut handed = 0;
     for instr in code {
-        push_instructions(alloc, names, layout, handed, *instr, &mut into)?;
+        push_instructions(alloc, names, layout, handed, *instr, lines)?;
         handed = handed_behind(handed, *instr);
     }
-    push_epilogue(layout, &mut into)?;
-    Ok(into)
+    push_epilogue(alloc, layout, lines)
 }

@@ -9,16 +9,14 @@ ghost use Rattle.asm_text.specs.Program.{Makes};
 ghost use Rattle.asm_text.specs.Printable.{ArePrintable};
 ghost use Rattle.mips_target.specs.Callable.{AreCallable};
 ghost use Rattle.mips_target.specs.Allocated.{IsAllocated};
-ghost use Rattle.mips_target.specs.FunctionCode.{unmarked};
-ghost use Rattle.mips_target.specs.Generated.{IsSelected, IsCodeOf, IsGenerated};
+ghost use Rattle.mips_target.specs.Generated.{IsSelected, AddsFunction, IsGenerated};
 ghost use Rattle.mips_target.specs.UnitAssembly.{HasBounds, IsUnitAssembly};
-ghost use Rattle.mips_target.specs.UnitLines.{label_text};
 ghost use Rattle.mips_target.specs.UnitProgram.{IsUnitProgram};
 
-use crate::function_code::{argument_words, function_code};
+use crate::function_code::{argument_words, push_function_code};
 use crate::layout::Layout;
-use crate::unit_lines::{push_function, push_plain};
-use asm_text::{Directive, Instruction, Lines, Statement};
+use crate::unit_lines::{push_name, push_plain};
+use asm_text::{Directive, Lines, Statement};
 use lcc_base::{Items, Memory};
 use mips_rules::{Mips, MipsRules, rules};
 use op_forest::{Forest, Lowered, LoweredFunction, WellFormed, check_forest};
@@ -65,20 +63,21 @@ fn allocated(alloc: Global, rules: &MipsRules, forest: WellFormed) -> Result<Cod
     give_slots(alloc, &Mips, code, &TEMPORARIES)
 }
 
-/// The instructions of a function of a unit.
-fn code_of(
+/// Adds the lines of a function of a unit.
+fn push_function(
     alloc: Global,
     lowered: &Lowered,
     rules: &MipsRules,
     function: &LoweredFunction,
-) -> Result<Items<Instruction>, Memory>
+    lines: &mut Lines,
+) -> Result<(), Memory>
     requires shipped { IsShipped rules.now }
     requires covers { CoversRoots rules.now }
     requires names { All IsUnitName lowered.now.names }
     requires function { IsFunctionOf lowered.now function.now }
     requires well_formed { IsWellFormed function.now.forest }
     requires size { sum_by nodes function.now.forest.roots ≤ 2 ^ 24 }
-    ensures { IfOk result (λ code. IsCodeOf lowered.now label_text function.now.forest.roots (unmarked code)) }
+    ensures { OnOk result (AddsFunction lowered.now function.now lines.old lines.new) }
 {
     let forest = well_formed(alloc, &function.forest)?;
     let code = allocated(alloc, rules, forest)?;
@@ -86,7 +85,9 @@ fn code_of(
         arguments: argument_words(code.code()),
         slots: code.slots(),
     };
-    function_code(alloc, lowered.names(), layout, code.code())
+    let name = &lowered.names()[function.name as usize];
+    push_name(alloc, lines, name.as_slice())?;
+    push_function_code(alloc, lowered.names(), layout, code.code(), lines)
 }
 
 /// The lines of a unit: its functions in order, each by the best derivations of its roots. `Memory`
@@ -105,9 +106,7 @@ pub fn generate(alloc: Global, lowered: &Lowered) -> Result<Lines, Memory>
     let mut lines = Items::new(alloc);
     push_plain(alloc, &mut lines, Statement::Directive(Directive::Text))?;
     for function in lowered.functions() {
-        let code = code_of(alloc, lowered, &rules, function)?;
-        let name = &lowered.names()[function.name as usize];
-        push_function(alloc, &mut lines, name.as_slice(), code)?;
+        push_function(alloc, lowered, &rules, function, &mut lines)?;
     }
     Ok(lines)
 }

@@ -1,7 +1,7 @@
 //! The lines of a unit.
 ghost use Rattle.std.specs.Prelude.{◌≡◌, ◌+◌, ◌++◌, [], ◌∷◌, length, IfOk, OnOk};
-ghost use Rattle.mips_target.specs.FunctionCode.{unmarked};
-ghost use Rattle.mips_target.specs.UnitLines.{Item, plain, numbered, label_text, code_lines, function_items};
+ghost use Rattle.asm_text.specs.declared.line.Statement.TheVariants as statement;
+ghost use Rattle.mips_target.specs.UnitLines.{Item, plain, marked, named, numbered};
 
 use asm_text::{Directive, Instruction, Line, Lines, Statement};
 use lcc_base::{Bytes, Items, Memory};
@@ -42,34 +42,29 @@ pub(crate) fn push_plain(
 
 /// Adds a line with this label alone.
 fn push_label(alloc: Global, lines: &mut Lines, name: &[u8]) -> Result<(), Memory>
-    ensures { OnOk result (lines.new ≡ lines.old ++ numbered (length lines.old + 1) (record { labels = name.now ∷ []; statement = Statement.Nothing } ∷ [])) }
+    ensures { OnOk result (lines.new ≡ lines.old ++ numbered (length lines.old + 1) (marked name.now ∷ [])) }
 {
     let mut labels = Items::with_capacity(alloc, 1)?;
     labels.push(Bytes::copied(alloc, name)?)?;
     push_item(lines, labels, Statement::Nothing)
 }
 
-/// Adds a line for each instruction.
-fn push_code(alloc: Global, lines: &mut Lines, code: Items<Instruction>) -> Result<(), Memory>
-    ensures { OnOk result (lines.new ≡ lines.old ++ numbered (length lines.old + 1) (code_lines label_text (unmarked code))) }
-{
-    for instruction in code.into_vec() {
-        push_plain(alloc, lines, Statement::Instruction(instruction))?;
-    }
-    Ok(())
-}
-
-/// Adds the lines of a function: its name, which is seen from outside, and its instructions.
-pub(crate) fn push_function(
+/// Adds a line with this instruction.
+pub(crate) fn push_instruction(
     alloc: Global,
     lines: &mut Lines,
-    name: &[u8],
-    code: Items<Instruction>,
+    instruction: Instruction,
 ) -> Result<(), Memory>
-    ensures { OnOk result (lines.new ≡ lines.old ++ numbered (length lines.old + 1) (function_items (record { name = name.now; labels = label_text; items = unmarked code }))) }
+    ensures { OnOk result (lines.new ≡ lines.old ++ numbered (length lines.old + 1) (plain (statement.Instruction instruction) ∷ [])) }
+{
+    push_plain(alloc, lines, Statement::Instruction(instruction))
+}
+
+/// Adds the lines that a function begins with: its name, which is seen from outside.
+pub(crate) fn push_name(alloc: Global, lines: &mut Lines, name: &[u8]) -> Result<(), Memory>
+    ensures { OnOk result (lines.new ≡ lines.old ++ numbered (length lines.old + 1) (named name.now)) }
 {
     let global = Directive::Global(Bytes::copied(alloc, name)?);
     push_plain(alloc, lines, Statement::Directive(global))?;
-    push_label(alloc, lines, name)?;
-    push_code(alloc, lines, code)
+    push_label(alloc, lines, name)
 }

@@ -1,7 +1,8 @@
-use Rattle.std.proofs.Common.{◌≡◌, ◌++◌}
-use Rattle.mips_target.specs.FunctionCode.{loads_of}
+use Rattle.std.proofs.Common.{◌≡◌, ◌+◌, ◌++◌, length}
+use Rattle.mips_target.specs.FunctionCode.{unmarked, loads_of}
+use Rattle.mips_target.specs.UnitLines.{numbered, label_text, code_lines}
 use Rattle.mips_target.proofs.function_code.push_call.Given as goal
 
 -- the argument words so far are loaded
 abbrev pub invariant-loop-word : goal.invariant-loop-word
-invariant-loop-word l = l.into ≡ l.fn.into ++ loads_of l.word
+invariant-loop-word l = l.lines ≡ l.fn.lines ++ numbered (length l.fn.lines + 1) (code_lines label_text (unmarked (loads_of l.word)))

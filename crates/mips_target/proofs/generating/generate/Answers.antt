@@ -12,15 +12,11 @@ use Rattle.mips_target.proofs.generating.generate.Goals as goal
 pub loop-function-preserved : goal.loop-function-preserved
 loop-function-preserved c =
     let u = c.args.lowered.now in
-    let coded : Coded = record { name = c.as_slice.result.now; labels = label_text; items = unmarked c.in_ok-code.code } in
     let f = c.function-item.result in
     let here : f ≡ get_or u.functions c.loop-function.function-index f = search rules in
     let lt : c.loop-function.function-index < length u.functions = search rules in
-    let item = c.index-names-function.result in
-    let there : item ≡ get_or u.names f.name item = c.index-names-function.is ∙ ap (λ names. get_or names f.name item) c.names.ensures.value in
-    let name : coded.name ≡ get_or u.names f.name [] = c.as_slice.ensures ∙ name_is u c.loop-function.function-index f item c.names.ensures.is lt here there in
-    let is : IsFunction u f coded = record { name = name; code = c.in_ok-code.ensures } in
-    one_more u c.loop-function.function-index c.loop-function.lines c.push_function.new.lines f coded lt c.loop-function.invariant (subst (λ x. IsFunction u x coded) here is) c.in_ok-push_function.ensures
+    let more = c.in_ok-push_function.ensures in
+    one_more u c.loop-function.function-index c.loop-function.lines c.push_function.new.lines f more.function lt c.loop-function.invariant (subst (λ x. IsFunction u x more.function) here more.is) more.adds
 
 pub returns-clause-printable : goal.returns-clause-printable
 returns-clause-printable c =
