@@ -1,0 +1,6 @@
+mod Runs
+mod Comments
+mod Chains
+mod Characters
+mod Numbers
+mod LineNumbers

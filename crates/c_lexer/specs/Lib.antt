@@ -1,0 +1,16 @@
+pub mod Classes
+pub mod Runs
+pub mod Chains
+pub mod Numbers
+pub mod Integers
+pub mod Constants
+pub mod Quoted
+pub mod Characters
+pub mod LongestSigns
+pub mod Starts
+pub mod Comments
+pub mod ControlLines
+pub mod Gaps
+pub mod Readings
+pub mod Tokens
+pub mod LexerState

@@ -1,0 +1,26 @@
+//! C's tokens: a source is cut from the left into blanks, comments, control lines and tokens.
+#![tactic(auto)]
+
+mod class;
+mod comment;
+mod constant;
+mod control;
+mod gap;
+mod integer;
+mod lex_fault;
+mod lexer;
+mod number;
+mod place;
+mod quoted;
+mod read;
+mod run;
+mod sign;
+mod start;
+#[cfg(test)]
+mod tests;
+mod token;
+
+pub use lex_fault::{LexFault, LexFaultKind};
+pub use lexer::Lexer;
+pub use place::Place;
+pub use token::Token;
