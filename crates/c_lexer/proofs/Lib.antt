@@ -4,3 +4,4 @@ mod Chains
 mod Characters
 mod Numbers
 mod LineNumbers
+mod OneCut

@@ -7,6 +7,7 @@ mod constant;
 mod control;
 mod gap;
 mod integer;
+mod laws;
 mod lex_fault;
 mod lexer;
 mod number;
@@ -20,6 +21,7 @@ mod start;
 mod tests;
 mod token;
 
+pub use laws::{one_cut, one_list};
 pub use lex_fault::{LexFault, LexFaultKind};
 pub use lexer::Lexer;
 pub use place::Place;

@@ -1,1 +1,202 @@
+ghost use Rattle.std.specs.Prelude.{◌≤◌, length};
+
 use super::*;
+use c_ast::{Class, IntKind, keyword_text, sign_text};
+use std::test::Fail;
+
+/// The only token or fault of the source.
+fn only(source: &[u8]) -> Result<Option<Class>, LexFaultKind>
+    requires { length source.now ≤ 16777216 }
+{
+    let mut lexer = Lexer::new(source);
+    match lexer.next() {
+        Ok(Some(token)) => Ok(Some(token.class)),
+        Ok(None) => Ok(None),
+        Err(fault) => Err(fault.kind),
+    }
+}
+
+fn integer(value: u32, kind: IntKind) -> Result<Option<Class>, LexFaultKind> {
+    Ok(Some(Class::Integer { value, kind }))
+}
+
+fn character(value: i32) -> Result<Option<Class>, LexFaultKind> {
+    Ok(Some(Class::Character(value)))
+}
+
+/// By C89 3.1.3.2 with 32-bit int and long.
+#[test]
+fn integers(rt: HostRuntime) -> Result<(), Fail> {
+    let table: [(&[u8], u32, IntKind); 14] = [
+        (b"0", 0, IntKind::Int),
+        (b"0x1Fu", 31, IntKind::Unsigned),
+        (b"2147483647", 2_147_483_647, IntKind::Int),
+        (b"2147483648", 2_147_483_648, IntKind::UnsignedLong),
+        (b"4294967295", 4_294_967_295, IntKind::UnsignedLong),
+        (b"017777777777", 2_147_483_647, IntKind::Int),
+        (b"020000000000", 2_147_483_648, IntKind::Unsigned),
+        (b"0XffffFFFF", 4_294_967_295, IntKind::Unsigned),
+        (b"1U", 1, IntKind::Unsigned),
+        (b"1l", 1, IntKind::Long),
+        (b"0x80000000L", 2_147_483_648, IntKind::UnsignedLong),
+        (b"1uL", 1, IntKind::UnsignedLong),
+        (b"1Lu", 1, IntKind::UnsignedLong),
+        (b"1LU", 1, IntKind::UnsignedLong),
+    ];
+    for (source, value, kind) in table {
+        assert_eq!(rt; only(source), integer(value, kind));
+    }
+    Ok(())
+}
+
+/// By C89 3.1.3.4, with a signed char.
+#[test]
+fn characters(rt: HostRuntime) -> Result<(), Fail> {
+    let table: [(&[u8], i32); 19] = [
+        (b"'a'", 97),
+        (b"'\"'", 34),
+        (b"'\\''", 39),
+        (b"'\\\"'", 34),
+        (b"'\\?'", 63),
+        (b"'\\\\'", 92),
+        (b"'\\a'", 7),
+        (b"'\\b'", 8),
+        (b"'\\f'", 12),
+        (b"'\\n'", 10),
+        (b"'\\r'", 13),
+        (b"'\\t'", 9),
+        (b"'\\v'", 11),
+        (b"'\\0'", 0),
+        (b"'\\12'", 10),
+        (b"'\\377'", -1),
+        (b"'\\xff'", -1),
+        (b"'\\x0041'", 65),
+        (b"'\x80'", -128),
+    ];
+    for (source, value) in table {
+        assert_eq!(rt; only(source), character(value));
+    }
+    Ok(())
+}
+
+/// Each fault.
+#[test]
+fn faults(rt: HostRuntime) -> Result<(), Fail> {
+    let table: [(&[u8], LexFaultKind); 31] = [
+        (b"@", LexFaultKind::BadByte),
+        (b"\\", LexFaultKind::BadByte),
+        (b"/**/#", LexFaultKind::BadByte),
+        (b"08", LexFaultKind::BadConstant),
+        (b"4294967296", LexFaultKind::BadConstant),
+        (b"99999999999999999999999", LexFaultKind::BadConstant),
+        (b"0x", LexFaultKind::BadConstant),
+        (b"0xg", LexFaultKind::BadConstant),
+        (b"1uu", LexFaultKind::BadConstant),
+        (b"1ll", LexFaultKind::BadConstant),
+        (b"1a", LexFaultKind::BadConstant),
+        (b"0x1p", LexFaultKind::BadConstant),
+        (b"''", LexFaultKind::BadConstant),
+        (b"'ab'", LexFaultKind::BadConstant),
+        (b"'\\400'", LexFaultKind::BadConstant),
+        (b"'\\x100'", LexFaultKind::BadConstant),
+        (b"'\\x'", LexFaultKind::BadConstant),
+        (b"\"\\q\"", LexFaultKind::BadConstant),
+        (b"/*", LexFaultKind::OpenComment),
+        (b"/*/", LexFaultKind::OpenComment),
+        (b"\"a", LexFaultKind::OpenText),
+        (b"\"a\n\"", LexFaultKind::OpenText),
+        (b"'ab", LexFaultKind::OpenText),
+        (b"'\\\n'", LexFaultKind::OpenText),
+        (b"\"\\", LexFaultKind::OpenText),
+        (b"1e3", LexFaultKind::FloatConstant),
+        (b".5", LexFaultKind::FloatConstant),
+        (b"1.", LexFaultKind::FloatConstant),
+        (b"1.0x", LexFaultKind::FloatConstant),
+        (b"L'a'", LexFaultKind::WideConstant),
+        (b"L\"a\"", LexFaultKind::WideConstant),
+    ];
+    for (source, kind) in table {
+        assert_eq!(rt; only(source), Err(kind));
+    }
+    Ok(())
+}
+
+/// Whether the source has these tokens, and then twice the fault that a byte is none of C's.
+fn cuts(source: &[u8], table: &[(Class, u32, u32, u32)], line: u32) -> bool
+    requires { length source.now ≤ 16777216 }
+{
+    let mut lexer = Lexer::new(source);
+    for row in table {
+        let token = Token {
+            class: row.0,
+            start: row.1,
+            end: row.2,
+            line: row.3,
+        };
+        if lexer.next() != Ok(Some(token)) {
+            return false;
+        }
+    }
+    let fault = LexFault {
+        kind: LexFaultKind::BadByte,
+        line,
+    };
+    lexer.next() == Err(fault) && lexer.next() == Err(fault)
+}
+
+/// Each token is the longest.
+#[test]
+fn longest(rt: HostRuntime) -> Result<(), Fail> {
+    let one = Class::Integer {
+        value: 1,
+        kind: IntKind::Int,
+    };
+    let thirty = Class::Integer {
+        value: 30,
+        kind: IntKind::Int,
+    };
+    let table = [
+        (Class::Name, 0, 1, 1),
+        (Class::Sign(8), 1, 3, 1),
+        (Class::Sign(12), 3, 4, 1),
+        (Class::Name, 4, 5, 1),
+        (thirty, 6, 10, 1),
+        (Class::Sign(12), 10, 11, 1),
+        (one, 11, 12, 1),
+        (Class::Text, 12, 17, 1),
+        (Class::Name, 17, 19, 1),
+        (Class::Sign(33), 19, 22, 1),
+        (Class::Sign(6), 22, 23, 1),
+        (Class::Keyword(31), 24, 29, 1),
+    ];
+    let source = b"a+++b 0x1e+1\"a\\\"\"LL.... while@";
+    assert!(rt; cuts(source.as_slice(), table.as_slice(), 1));
+    Ok(())
+}
+
+/// Lines behind line feeds, comments and control lines.
+#[test]
+fn lines(rt: HostRuntime) -> Result<(), Fail> {
+    let table = [
+        (Class::Name, 9, 10, 3),
+        (Class::Name, 22, 23, 7),
+        (Class::Name, 35, 36, 3),
+        (Class::Name, 48, 49, 5),
+        (Class::Name, 54, 55, 7),
+    ];
+    let source = b"\n/*/*\n*/ x\n # 7 \"f\" 1\ny\n#line 3\"g\"\nz\n#line7 \"h\"\nu\n# 9\nv#";
+    assert!(rt; cuts(source.as_slice(), table.as_slice(), 7));
+    Ok(())
+}
+
+/// Every keyword and every sign.
+#[test]
+fn keywords_and_signs(rt: HostRuntime) -> Result<(), Fail> {
+    for number in 0..32u8 {
+        assert_eq!(rt; only(keyword_text(number)), Ok(Some(Class::Keyword(number))));
+    }
+    for number in 0..46u8 {
+        assert_eq!(rt; only(sign_text(number)), Ok(Some(Class::Sign(number))));
+    }
+    Ok(())
+}
