@@ -55,7 +55,10 @@ pub fn keyword_number(word: &[u8]) -> Option<u8>
     match *first {
         b'a' => number_among(rest, &[(b"uto", 0)]),
         b'b' => number_among(rest, &[(b"reak", 1)]),
-        b'c' => number_among(rest, &[(b"ase", 2), (b"har", 3), (b"onst", 4), (b"ontinue", 5)]),
+        b'c' => number_among(
+            rest,
+            &[(b"ase", 2), (b"har", 3), (b"onst", 4), (b"ontinue", 5)],
+        ),
         b'd' => number_among(rest, &[(b"efault", 6), (b"o", 7), (b"ouble", 8)]),
         b'e' => number_among(rest, &[(b"lse", 9), (b"num", 10), (b"xtern", 11)]),
         b'f' => number_among(rest, &[(b"loat", 12), (b"or", 13)]),
@@ -63,7 +66,17 @@ pub fn keyword_number(word: &[u8]) -> Option<u8>
         b'i' => number_among(rest, &[(b"f", 15), (b"nt", 16)]),
         b'l' => number_among(rest, &[(b"ong", 17)]),
         b'r' => number_among(rest, &[(b"egister", 18), (b"eturn", 19)]),
-        b's' => number_among(rest, &[(b"hort", 20), (b"igned", 21), (b"izeof", 22), (b"tatic", 23), (b"truct", 24), (b"witch", 25)]),
+        b's' => number_among(
+            rest,
+            &[
+                (b"hort", 20),
+                (b"igned", 21),
+                (b"izeof", 22),
+                (b"tatic", 23),
+                (b"truct", 24),
+                (b"witch", 25),
+            ],
+        ),
         b't' => number_among(rest, &[(b"ypedef", 26)]),
         b'u' => number_among(rest, &[(b"nion", 27), (b"nsigned", 28)]),
         b'v' => number_among(rest, &[(b"oid", 29), (b"olatile", 30)]),

@@ -1,5 +1,5 @@
 -- Chains of steps.
-use Rattle.std.proofs.Common.{◌≡◌, ◌+◌, ℕ, zero, suc, subst, Option, Some, None, refl, sym, ap, ◌∙◌, arith, add-one}
+use Rattle.std.proofs.Common.{◌≡◌, ◌+◌, ℕ, zero, suc, subst, Option, Some, None, refl, sym, ap, ◌∙◌, add-one}
 use Rattle.c_lexer.specs.Chains.{Chain}
 
 more_suc : {S : Type 0} (step : S → Option S) (n : ℕ) (s t u : S) → Chain step n s t → step t ≡ Some u → Chain step (suc n) s u

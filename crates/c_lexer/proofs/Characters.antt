@@ -1,5 +1,5 @@
 -- Characters between quotes, one after the other.
-use Rattle.std.proofs.Common.{◌≡◌, ◌+◌, ◌-◌, ℕ, Option, Some, List, length, take, drop, refl, sym, ap, ◌∙◌, arith}
+use Rattle.std.proofs.Common.{◌≡◌, ◌+◌, ◌-◌, ℕ, List, length, take, drop, sym, ap, ◌∙◌, arith}
 use Rattle.std.proofs.lemmas.Grind.{common_steps}
 use Rattle.c_lexer.specs.declared.quoted.Quoted.TheVariants.{Character}
 use Rattle.c_lexer.specs.Chains.{Chain}

@@ -1,6 +1,6 @@
 -- The first end of a comment.
-use Rattle.std.proofs.Common.{◌≡◌, ◌<◌, ◌≤◌, ◌+◌, ℕ, zero, suc, Bool, true, false, Some, None, List, [], ◌∷◌, length, drop, refl, sym, ap, ◌∙◌, arith, add-one}
-use Rattle.c_lexer.specs.Comments.{closes, one_more, before_close}
+use Rattle.std.proofs.Common.{◌≡◌, ◌<◌, ℕ, zero, suc, true, false, Some, None, List, [], ◌∷◌, length, drop, refl, ap, arith, add-one}
+use Rattle.c_lexer.specs.Comments.{closes, before_close}
 
 abbrev NoneBefore : List ℕ → ℕ → Type 0
 NoneBefore bytes n = (k : ℕ) → k < n → closes (drop k bytes) ≡ false

@@ -5,3 +5,5 @@ mod Characters
 mod Numbers
 mod LineNumbers
 mod OneCut
+mod Starts
+mod Lists

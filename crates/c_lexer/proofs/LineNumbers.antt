@@ -1,10 +1,10 @@
 -- The numbers of control lines have nine digits at most.
-use Rattle.std.proofs.Common.{◌≡◌, ◌<◌, ◌≤◌, ◌+◌, ◌*◌, ℕ, zero, suc, Bool, true, false, Option, Some, None, IfSome, List, [], ◌∷◌, length, refl, sym, ap, ◌∙◌, subst, arith}
+use Rattle.std.proofs.Common.{◌≡◌, ◌≤◌, ◌+◌, ◌*◌, ℕ, zero, suc, true, Option, Some, IfSome, List, [], ◌∷◌, length, sym, ◌∙◌, subst, arith}
 use Rattle.std.specs.Char.{is_ascii_digit}
 use Rattle.std.proofs.lemmas.Bool.Decides.{nat_tests}
 use Rattle.lcc_text.specs.declared.class.Class.TheVariants.{Digit}
 use Rattle.lcc_text.specs.Classes.{in_class, AllIn}
-use Rattle.c_lexer.specs.Numbers.{digit_value, value_behind, in_word, number_in}
+use Rattle.c_lexer.specs.Numbers.{digit_value, value_behind, number_in}
 use Rattle.c_lexer.specs.ControlLines.{spaces, starts_named, number_named}
 use Rattle.c_lexer.proofs.Numbers.{word_some}
 

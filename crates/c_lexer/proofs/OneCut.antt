@@ -1,5 +1,5 @@
 -- A source is cut in one way.
-use Rattle.std.proofs.Common.{◌≡◌, ◌+◌, ℕ, zero, suc, Option, Some, None, Result, Ok, Err, List, [], ◌∷◌, drop, refl, sym, ap, ◌∙◌, subst, arith}
+use Rattle.std.proofs.Common.{◌≡◌, ℕ, Option, Some, None, Result, Ok, Err, List, [], ◌∷◌, drop, refl, sym, ap, ◌∙◌, subst}
 use Rattle.c_lexer.specs.declared.lex_fault.LexFault.{LexFault}
 use Rattle.c_lexer.specs.declared.lex_fault.LexFaultKind.{LexFaultKind}
 use Rattle.c_lexer.specs.declared.place.Place.{Place}
@@ -7,7 +7,6 @@ use Rattle.c_lexer.specs.declared.quoted.Quoted.TheVariants.{Close, Fault}
 use Rattle.c_lexer.specs.declared.start.Start.{Start}
 use Rattle.c_lexer.specs.declared.start.Start.TheVariants as start
 use Rattle.c_lexer.specs.declared.token.Token.{Token}
-use Rattle.c_lexer.specs.Chains.{Chain}
 use Rattle.c_lexer.specs.Quoted.{quoted, behind_quoted, next_character}
 use Rattle.c_lexer.specs.Characters.{Characters}
 use Rattle.c_lexer.specs.Gaps.{gap}
@@ -59,9 +58,10 @@ reads_same bytes r s p q = from_same (start_of bytes) bytes r s p q
 pub cut_same : (source : List ℕ) (p : Place) (r s : Answer) (q t : Place) → Cuts source p r q → Cuts source p s t → (r ≡ s) × (q ≡ t)
 cut_same source p r s q t c d =
     let h : c.here ≡ d.here = (chain_same (gap source) c.count d.count p c.here d.here c.gaps c.no_more d.gaps d.no_more).1 in
-    let f : c.reading ≡ d.reading = reads_same (drop d.here.offset source) c.reading d.reading (subst (λ (x : Place). Reads (drop x.offset source) c.reading) h c.reads) d.reads in
-    (c.answers ∙ ap (λ (x : Place). answer_at x c.reading) h ∙ ap (λ (y : Reading). answer_at d.here y) f ∙ sym d.answers,
-      c.leads ∙ ap (λ (x : Place). place_behind p x c.reading) h ∙ ap (λ (y : Reading). place_behind p d.here y) f ∙ sym d.leads)
+    let f : c.reading ≡ d.reading = reads_same (drop d.here.offset source) c.reading d.reading (subst (λ (x : Place). Reads (drop x.offset source) c.reading) h c.reads) d.reads in (
+      c.answers ∙ ap (λ (x : Place). answer_at x c.reading) h ∙ ap (λ (y : Reading). answer_at d.here y) f ∙ sym d.answers,
+      c.leads ∙ ap (λ (x : Place). place_behind p x c.reading) h ∙ ap (λ (y : Reading). place_behind p d.here y) f ∙ sym d.leads,
+    )
 
 same_fault : (f g : LexFault) → ◌≡◌ {A = Answer} (Err f) (Err g) → Some f ≡ Some g
 same_fault f g e = cc

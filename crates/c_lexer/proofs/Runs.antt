@@ -1,5 +1,5 @@
 -- Runs, by how long they are.
-use Rattle.std.proofs.Common.{◌≡◌, ◌≤◌, ℕ, zero, suc, Bool, true, false, List, [], ◌∷◌, length, take, drop, refl, sym, ap, ◌∙◌, arith}
+use Rattle.std.proofs.Common.{◌≡◌, ◌≤◌, ℕ, zero, suc, Bool, List, [], ◌∷◌, length, take, drop, refl, ap, arith}
 use Rattle.lcc_text.specs.Classes.{AllIn, StopsIn}
 use Rattle.c_lexer.specs.Runs.{run, behind}
 

@@ -1,7 +1,7 @@
 -- Control lines: what stands behind the `#` may say the next line's number, as `n "f"` and `line n "f"` do, n with one to
 -- nine digits. Between the parts stand spaces and tabs.
 -- Source: C89 3.8.4.
-use Rattle.std.specs.Prelude.{ℕ, Bool, true, false, ◌&&◌, ◌==◌, nat_le, List, [], ◌∷◌, length, drop, take, Option, Some, None, codes, if◌then◌else◌}
+use Rattle.std.specs.Prelude.{ℕ, Bool, false, ◌&&◌, ◌==◌, nat_le, List, [], ◌∷◌, length, drop, take, Option, Some, None, codes, if◌then◌else◌}
 use Rattle.std.specs.List.{list_any}
 use Rattle.std.specs.Str.{bytes_eq}
 use Rattle.lcc_text.specs.declared.class.Class.TheVariants.{Digit}
@@ -24,7 +24,7 @@ starts_named (b ∷ bs) = b == 34 && list_any (λ a. a == 34) bs
 abbrev pub number_named : List ℕ → List ℕ → Option ℕ
 number_named digits after =
     if (nat_le 1 (length digits) && nat_le (length digits) 9) && starts_named (spaces after)
-      then Some (value_behind 10 0 digits) else None
+    then Some (value_behind 10 0 digits) else None
 
 abbrev pub line_number : List ℕ → Option ℕ
 line_number bytes = number_named (run (in_class Digit) bytes) (behind (in_class Digit) bytes)
@@ -33,7 +33,7 @@ line_number bytes = number_named (run (in_class Digit) bytes) (behind (in_class 
 abbrev pub said_number : List ℕ → Option ℕ
 said_number bytes =
     if bytes_eq (take 4 bytes) (codes "line") && starts_with (in_lex Space) (drop 4 bytes)
-      then line_number (spaces (drop 4 bytes)) else line_number bytes
+    then line_number (spaces (drop 4 bytes)) else line_number bytes
 
 abbrev pub said_line : List ℕ → Option ℕ
 said_line bytes = said_number (spaces bytes)

@@ -1,6 +1,6 @@
 -- What may stand between tokens: blanks, comments and control lines. Each leads from its place to the place behind it.
 -- Source: C89 3.1, 3.1.9 and 3.8.4.
-use Rattle.std.specs.Prelude.{◌≤◌, ◌+◌, ◌-◌, ℕ, Bool, true, false, ◌||◌, ◌&&◌, ◌==◌, nat_le, List, [], ◌∷◌, length, take, drop, Option, Some, None, if◌then◌else◌}
+use Rattle.std.specs.Prelude.{◌≤◌, ◌+◌, ◌-◌, ℕ, true, false, ◌&&◌, ◌==◌, nat_le, List, [], ◌∷◌, length, take, drop, Option, Some, None, if◌then◌else◌}
 use Rattle.c_lexer.specs.declared.class.LexClass.TheVariants.{Space, Line}
 use Rattle.c_lexer.specs.declared.place.Place.{Place}
 use Rattle.c_lexer.specs.Classes.{in_lex}

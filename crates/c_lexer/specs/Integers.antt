@@ -69,6 +69,6 @@ abbrev pub integer_of : List ℕ → Option Class
 integer_of [] = None
 integer_of (a ∷ bs) =
     if a == 48
-      then (if starts_x bs then integer_in 16 (run (in_lex Hex) (drop 1 bs)) (behind (in_lex Hex) (drop 1 bs))
-        else integer_in 8 (run (in_lex Octal) (a ∷ bs)) (behind (in_lex Octal) (a ∷ bs)))
-      else integer_in 10 (run (in_class Digit) (a ∷ bs)) (behind (in_class Digit) (a ∷ bs))
+    then (if starts_x bs then integer_in 16 (run (in_lex Hex) (drop 1 bs)) (behind (in_lex Hex) (drop 1 bs))
+    else integer_in 8 (run (in_lex Octal) (a ∷ bs)) (behind (in_lex Octal) (a ∷ bs)))
+    else integer_in 10 (run (in_class Digit) (a ∷ bs)) (behind (in_class Digit) (a ∷ bs))

@@ -1,7 +1,7 @@
 -- What stands between the quotes of character constants and string literals: characters, each written by a byte or an
 -- escape.
 -- Source: C89 3.1.3.4 and 3.1.4.
-use Rattle.std.specs.Prelude.{◌≡◌, ◌+◌, ℕ, Bool, ◌||◌, ◌==◌, nat_le, List, [], ◌∷◌, length, take, drop, Option, Some, None, if◌then◌else◌}
+use Rattle.std.specs.Prelude.{◌+◌, ℕ, ◌||◌, ◌==◌, nat_le, List, [], ◌∷◌, length, take, drop, Option, Some, None, if◌then◌else◌}
 use Rattle.c_lexer.specs.declared.class.LexClass.TheVariants.{Octal, Hex}
 use Rattle.c_lexer.specs.declared.lex_fault.LexFaultKind.TheVariants.{BadConstant, OpenText}
 use Rattle.c_lexer.specs.declared.quoted.Quoted.{Quoted}

@@ -71,8 +71,8 @@ ReadsFrom start.Sign bytes r = r ≡ sign_or_fault (longest_sign bytes)
 abbrev pub Reads : List ℕ → Reading → Type 0
 Reads bytes r = ReadsFrom (start_of bytes) bytes r
 
--- a token has no more bytes than there are
+-- a token has at least one byte, and no more than there are
 abbrev pub IsOfLength : Reading → ℕ → Type 0
-IsOfLength (Ok (Some x)) n = x.1 ≤ n
+IsOfLength (Ok (Some x)) n = (1 ≤ x.1) × (x.1 ≤ n)
 IsOfLength (Ok None) n = Unit {0}
 IsOfLength (Err kind) n = Unit {0}

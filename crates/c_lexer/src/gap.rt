@@ -1,4 +1,4 @@
-ghost use Rattle.std.specs.Prelude.{◌≡◌, ◌+◌, ◌<◌, ℕ, None, length, IfSome};
+ghost use Rattle.std.specs.Prelude.{◌≡◌, ◌+◌, ◌<◌, ◌≤◌, ℕ, None, length, IfSome};
 ghost use Rattle.c_lexer.specs.Gaps.{behind_control, behind_comment, behind_blank, gap, IsPlace};
 ghost use Rattle.c_lexer.specs.Comments.{before_close};
 ghost use Rattle.c_lexer.specs.Chains.{Chain};
@@ -112,6 +112,7 @@ pub(crate) fn skip_gaps(source: &[u8], place: Place) -> Place
     requires { IsPlace source.now place }
     ensures skips { (n : ℕ) × Chain (gap source.now) n place result }
     ensures ends { gap source.now result ≡ None }
+    ensures further { place.offset ≤ result.offset }
     ensures place { IsPlace source.now result }
 {
     let mut here = place;

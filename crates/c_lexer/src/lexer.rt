@@ -1,4 +1,4 @@
-ghost use Rattle.std.specs.Prelude.{◌≡◌, ◌≤◌, length, IfOk, IfErr, IfSome, IfNone};
+ghost use Rattle.std.specs.Prelude.{◌≡◌, ◌<◌, ◌≤◌, length, IfOk, IfErr, IfSome, IfNone};
 ghost use Rattle.c_lexer.specs.Tokens.{first_place, Cuts};
 
 use crate::gap::skip_gaps;
@@ -49,7 +49,8 @@ impl<'a> Lexer<'a> {
         ensures cuts { Cuts self.old.source self.old.place result self.new.place }
         ensures fault_again { IfErr result (λ fault. self.new ≡ self.old) }
         ensures end_again { IfOk result (λ token. IfNone token (self.new ≡ self.old)) }
-        ensures within { IfOk result (λ token. IfSome token (λ t. t.end ≤ length self.old.source)) }
+        ensures within { IfOk result (λ token. IfSome token (λ t. (t.start < t.end) × (t.end ≤ length self.old.source))) }
+        ensures further { IfOk result (λ token. IfSome token (λ t. (self.old.place.offset < self.new.place.offset) × (self.new.place.offset ≤ length self.old.source))) }
     {
         let here = skip_gaps(self.source, self.place);
         match read(&self.source[here.offset..]) {

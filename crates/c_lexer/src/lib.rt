@@ -15,6 +15,7 @@ mod place;
 mod quoted;
 mod read;
 mod run;
+mod scanning;
 mod sign;
 mod start;
 #[cfg(test)]
@@ -25,4 +26,5 @@ pub use laws::{one_cut, one_list};
 pub use lex_fault::{LexFault, LexFaultKind};
 pub use lexer::Lexer;
 pub use place::Place;
+pub use scanning::scan;
 pub use token::Token;

@@ -1,5 +1,9 @@
 ghost use Rattle.std.specs.Prelude.{◌≡◌, ◌≤◌, ◌<◌, length, MatchOption, IfOk};
 ghost use Rattle.c_lexer.specs.declared.start.Start.TheVariants.{Word, Constant, Character, Text, Sign};
+ghost use Rattle.lcc_text.specs.declared.class.Class.TheVariants.{Name as NameBytes};
+ghost use Rattle.lcc_text.specs.Classes.{in_class, StartsIn};
+ghost use Rattle.c_lexer.specs.declared.class.LexClass.TheVariants.{Constant as ConstantBytes};
+ghost use Rattle.c_lexer.specs.Classes.{in_lex};
 ghost use Rattle.c_lexer.specs.Readings.{word_of, number_of, sign_or_fault, ReadsFrom, Reads, IsOfLength};
 
 use crate::class::LexClass;
@@ -17,6 +21,7 @@ type Reading = Result<Option<(Class, usize)>, LexFaultKind>;
 
 /// The name or the keyword at the front.
 fn word(bytes: &[u8]) -> Reading
+    requires { StartsIn (in_class NameBytes) bytes.now }
     ensures reads { ReadsFrom Word bytes.now result }
     ensures within { IsOfLength result (length bytes.now) }
 {
@@ -30,6 +35,7 @@ fn word(bytes: &[u8]) -> Reading
 
 /// The number at the front.
 fn number(bytes: &[u8]) -> Reading
+    requires { StartsIn (in_lex ConstantBytes) bytes.now }
     ensures reads { ReadsFrom Constant bytes.now result }
     ensures within { IsOfLength result (length bytes.now) }
 {
@@ -78,6 +84,7 @@ fn sign(bytes: &[u8]) -> Reading
 }
 
 /// The token at the front, if any byte is left.
+#[tactic(auto, using(crate::proofs::Starts::starts_word, crate::proofs::Starts::starts_number))]
 pub(crate) fn read(bytes: &[u8]) -> Reading
     requires { length bytes.now ≤ 16777216 }
     ensures reads { Reads bytes.now result }

@@ -4,10 +4,11 @@ use super::*;
 use c_ast::{Class, IntKind, keyword_text, sign_text};
 use std::test::Fail;
 
-/// The only token or fault of the source.
-fn only(source: &[u8]) -> Result<Option<Class>, LexFaultKind>
-    requires { length source.now ≤ 16777216 }
-{
+/// The first token or fault of the source; nothing of one that is too long.
+fn only(source: &[u8]) -> Result<Option<Class>, LexFaultKind> {
+    if source.len() > 16_777_216 {
+        return Ok(None);
+    }
     let mut lexer = Lexer::new(source);
     match lexer.next() {
         Ok(Some(token)) => Ok(Some(token.class)),
@@ -189,11 +190,26 @@ fn lines(rt: HostRuntime) -> Result<(), Fail> {
     Ok(())
 }
 
+/// A whole source.
+#[test]
+fn scans(rt: HostRuntime) -> Result<(), Fail> {
+    assert_eq!(rt; scan(b"int x;"), (3, None));
+    let fault = LexFault {
+        kind: LexFaultKind::OpenComment,
+        line: 2,
+    };
+    assert_eq!(rt; scan(b"x\n/*\n\n"), (1, Some(fault)));
+    Ok(())
+}
+
 /// Every keyword and every sign.
 #[test]
 fn keywords_and_signs(rt: HostRuntime) -> Result<(), Fail> {
     for number in 0..32u8 {
-        assert_eq!(rt; only(keyword_text(number)), Ok(Some(Class::Keyword(number))));
+        assert_eq!(rt;
+            only(keyword_text(number)),
+            Ok(Some(Class::Keyword(number)))
+        );
     }
     for number in 0..46u8 {
         assert_eq!(rt; only(sign_text(number)), Ok(Some(Class::Sign(number))));

@@ -1,4 +1,4 @@
-use Rattle.std.proofs.Common.{◌≡◌, true, drop, sym, ◌∙◌, ap}
+use Rattle.std.proofs.Common.{sym, ◌∙◌, ap}
 use Rattle.c_lexer.specs.Comments.{closes}
 use Rattle.c_lexer.proofs.Characters.{all_of}
 use Rattle.c_lexer.proofs.Comments.{first_close}

@@ -1,4 +1,4 @@
-use Rattle.std.proofs.Common.{◌≤◌, ◌≡◌, true, length, arith, sym, ◌∙◌, rules}
+use Rattle.std.proofs.Common.{◌≤◌, ◌≡◌, true, length, arith, rules}
 use Rattle.std.proofs.lemmas.Bool.Decides.{nat_tests}
 use Rattle.c_lexer.specs.ControlLines.{spaces, starts_named}
 use Rattle.c_lexer.proofs.LineNumbers.{is_named, is_low}

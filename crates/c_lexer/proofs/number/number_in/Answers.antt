@@ -1,5 +1,4 @@
-use Rattle.std.proofs.Common.{◌<◌, ◌+◌, ◌*◌, arith, rules}
-use Rattle.c_lexer.specs.Numbers.{value_behind}
+use Rattle.std.proofs.Common.{◌<◌, ◌+◌, ◌*◌, rules}
 use Rattle.c_lexer.proofs.Numbers.{past_word}
 use Rattle.c_lexer.proofs.number.number_in.Goals as goal
 
