@@ -7,3 +7,5 @@ mod LineNumbers
 mod OneCut
 mod Starts
 mod Lists
+mod Lengths
+mod Values

@@ -14,3 +14,4 @@ pub mod Gaps
 pub mod Readings
 pub mod Tokens
 pub mod LexerState
+pub mod Texts

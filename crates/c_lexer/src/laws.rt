@@ -1,7 +1,12 @@
-ghost use Rattle.std.specs.Prelude.{◌≡◌, List, ℕ, Option};
+ghost use Rattle.std.specs.Prelude.{◌≡◌, ◌≤◌, ◌++◌, List, ℕ, Bool, Option, Some, Ok, length};
 ghost use Rattle.c_lexer.specs.declared.lex_fault.LexFault.{LexFault as Fault};
 ghost use Rattle.c_lexer.specs.declared.place.Place.{Place as Places};
 ghost use Rattle.c_lexer.specs.declared.token.Token.{Token as Tokens};
+ghost use Rattle.lcc_text.specs.Classes.{AllIn};
+ghost use Rattle.c_ast.specs.Signs.{sign_of};
+ghost use Rattle.c_lexer.specs.Runs.{run};
+ghost use Rattle.c_lexer.specs.LongestSigns.{longest_sign};
+ghost use Rattle.c_lexer.specs.Characters.{Characters, Values};
 ghost use Rattle.c_lexer.specs.Tokens.{Answer, Cuts, AreTokens};
 
 /// From one place a source is cut in one way: one answer, and one place behind it.
@@ -12,4 +17,17 @@ pub fn one_cut()
 /// A source has one list of tokens, and one fault behind them or none.
 pub fn one_list()
     ensures { (source : List ℕ) (p : Places) (ts us : List Tokens) (e f : Option Fault) → AreTokens source p ts e → AreTokens source p us f → (ts ≡ us) × (e ≡ f) }
+{}
+
+/// No front that a class makes is longer than the run that is taken, and no sign is longer than
+/// the one that is taken.
+pub fn longest()
+    ensures runs { (class : ℕ → Bool) (u z : List ℕ) → AllIn class u → length u ≤ length (run class (u ++ z)) }
+    ensures signs { (u z : List ℕ) (n : ℕ) → sign_of u ≡ Some n → (x : ℕ × ℕ) × (longest_sign (u ++ z) ≡ Some x) × (length u ≤ x.1) }
+{}
+
+/// The characters of a literal have one list of values.
+pub fn one_text()
+    ensures some { (quote : ℕ) (bytes : List ℕ) (x : ℕ × ℕ) → Characters quote bytes (Ok x) → (vs : List ℕ) × Values quote bytes vs × (length vs ≡ x.0) }
+    ensures one { (quote : ℕ) (bytes vs ws : List ℕ) → Values quote bytes vs → Values quote bytes ws → vs ≡ ws }
 {}
