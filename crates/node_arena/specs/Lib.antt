@@ -1,0 +1,3 @@
+pub mod ArenaLends
+pub mod Chunks
+pub mod Values

@@ -1,0 +1,9 @@
+//! An arena: values that stay where they were put until they are given up together.
+#![tactic(auto)]
+
+mod arena;
+mod chunks;
+#[cfg(test)]
+mod tests;
+
+pub use arena::Arena;

@@ -1,0 +1,90 @@
+ghost use Rattle.std.specs.Prelude.{◌≡◌, ◌+◌, ◌<◌, length, OnOk};
+
+use crate::Arena;
+use lcc_base::Memory;
+use std::alloc::Global;
+use std::cell::Cell;
+use std::test::Fail;
+
+// Counts its drops.
+struct Counted<'a> {
+    drops: &'a Cell<u32>,
+    number: u32,
+}
+
+impl Drop for Counted<'_> {
+    fn drop(self) {
+        let Counted { drops, number: _ } = self;
+        drops.set(drops.get().wrapping_add(1));
+    }
+}
+
+#[derive(Clone, Copy)]
+struct Nothing;
+
+#[derive(Clone, Copy)]
+struct Page {
+    bytes: [u8; 4096],
+}
+
+fn fill_boxes<'a>(
+    alloc: Global,
+    arena: &mut Arena<Box<Counted<'a>>>,
+    drops: &'a Cell<u32>,
+    count: u32,
+) -> Result<(), Memory>
+    requires { length arena.old.values + count < 1000 }
+    ensures { OnOk result (length arena.new.values ≡ length arena.old.values + count) }
+{
+    for number in 0..count {
+        let value = Box::new(alloc, Counted { drops, number })?;
+        arena.push(value).map_err(|_| Memory)?;
+    }
+    Ok(())
+}
+
+#[test]
+fn boxes_go_once(rt: HostRuntime) -> Result<(), Fail> {
+    let alloc = rt.alloc();
+    let drops = Cell::new(0);
+    let mut arena = Arena::new(alloc);
+    assert_eq!(rt; (arena.len(), arena.spare()), (0, 0));
+    fill_boxes(alloc, &mut arena, &drops, 70)?;
+    let mark = arena.mark();
+    fill_boxes(alloc, &mut arena, &drops, 130)?;
+    assert_eq!(rt; arena.get(150).number, 80);
+    assert_eq!(rt; drops.get(), 0);
+    arena.release(mark);
+    assert_eq!(rt; (arena.len(), drops.get()), (70, 130));
+    let spare = arena.spare();
+    assert!(rt; spare >= 130);
+    fill_boxes(alloc, &mut arena, &drops, 130)?;
+    assert_eq!(rt; arena.spare().saturating_add(130), spare);
+    arena.get_mut(3).number = 777;
+    let numbers = [arena.get(0).number, arena.get(3).number, arena.get(199).number];
+    assert_eq!(rt; numbers, [0, 777, 129]);
+    arena.release(0);
+    fill_boxes(alloc, &mut arena, &drops, 10)?;
+    assert_eq!(rt; drops.get(), 330);
+    drop(arena);
+    assert_eq!(rt; drops.get(), 340);
+    Ok(())
+}
+
+#[test]
+fn values_of_no_size_and_of_a_page(rt: HostRuntime) -> Result<(), Fail> {
+    let mut none = Arena::new(rt.alloc());
+    let mut pages = Arena::new(rt.alloc());
+    none.reserve(40)?;
+    pages.reserve(3)?;
+    assert_eq!(rt; (none.spare(), pages.spare()), (40, 3));
+    for number in 0..100u8 {
+        none.push(Nothing).map_err(|_| Memory)?;
+        pages.push(Page { bytes: [number; 4096] }).map_err(|_| Memory)?;
+    }
+    assert_eq!(rt; (none.len(), pages.len()), (100, 100));
+    assert_eq!(rt; (pages.get(2).bytes[4095], pages.get(99).bytes[0]), (2, 99));
+    none.release(0);
+    assert!(rt; none.spare() >= 100);
+    Ok(())
+}
