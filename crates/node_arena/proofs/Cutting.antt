@@ -1,5 +1,5 @@
 -- Chunks that are cut back to their first values.
-use Rattle.std.proofs.Common.{◌≡◌, ℕ, zero, suc, ◌+◌, ◌-◌, ◌<◌, ◌≤◌, ◌⊎◌, List, [], ◌∷◌, ◌++◌, length, take, drop, get_or, min, Bool, length-append, append-nil, true, false, cond, ltb, refl, sym, ◌∙◌, ap, ap₂, subst, arith, inl, inr, vec_len, vec_capacity}
+use Rattle.std.proofs.Common.{◌≡◌, ℕ, zero, suc, ◌+◌, ◌-◌, ◌<◌, ◌≤◌, ◌⊎◌, List, [], ◌∷◌, ◌++◌, length, take, drop, get_or, Bool, length-append, append-nil, true, false, cond, ltb, refl, sym, ◌∙◌, ap, ap₂, subst, arith, inl, inr, vec_len, vec_capacity}
 use Rattle.std.specs.Vec.{vec_items}
 use Rattle.std.specs.declared.vec.Vec.{Vec}
 use Rattle.std.specs.declared.alloc.Global.{Global}
@@ -8,8 +8,7 @@ use Rattle.std.proofs.lemmas.List.{length-take, length-take-le, length-drop, tak
 use Rattle.std.proofs.lemmas.Grind.{flat_map-append}
 use Rattle.std.proofs.lemmas.Bool.{cases_Bool, ltb-true, ltb-false, eq-eqb, ne_eqb}
 use Rattle.std.proofs.lemmas.List.Sums.{sum_by-cons, sum_by_push}
-use Rattle.node_arena.proofs.Filling.{free_filled}
-use Rattle.node_arena.specs.Chunks.{values_of, capacity_of, is_full, full_chunks, IsCut, IsFree, AreFree, AreFilled, AreChunks}
+use Rattle.node_arena.specs.Chunks.{values_of, capacity_of, is_full, full_chunks, IsCut, AreFree, AreFilled, AreChunks}
 
 -- the first values of two lists
 pub take_append : {X : Type 0} (n : ℕ) (xs ys : List X) → take n (xs ++ ys) ≡ take n xs ++ take (n - length xs) ys
@@ -36,9 +35,9 @@ module _ {T : Type 0} where
   cut_values (c ∷ cs) [] n h = absurd h
   cut_values (c ∷ cs) (d ∷ ds) n h =
       let left : n - length (vec_items d) ≡ n - length (vec_items c) =
-          omega (arith, ap length h.0, length-take n (vec_items c)) in
+      omega (arith, ap length h.0, length-take n (vec_items c)) in
       ap₂ (λ xs ys. xs ++ ys) h.0 (cut_values cs ds (n - length (vec_items d)) h.2 ∙ ap (λ j. take j (values_of cs)) left)
-        ∙ sym (take_append n (vec_items c) (values_of cs))
+      ∙ sym (take_append n (vec_items c) (values_of cs))
 
   -- each chunk can hold what it could
   pub cut_capacity : (cs ds : List (Vec T Global)) (n : ℕ) → IsCut n cs ds → capacity_of ds ≡ capacity_of cs
@@ -94,10 +93,10 @@ module _ {T : Type 0} where
       open_first d ds (omega (arith, ap length h.0, length-take n (vec_items c), c.ok.0, d.ok.0, h.1, f.0)) (free_cut cs ds (n - length (vec_items d)) h.2 f.1)
   cut_filled (c ∷ cs) (d ∷ ds) n (suc k) h f =
       elim (lt_or_le n (vec_len c)) [
-        inl less ↦ open_first d ds (omega (arith, less, ap length h.0, length-take n (vec_items c), c.ok.0, d.ok.0, h.1, f.0))
-          (none_kept cs ds (n - length (vec_items d)) k (omega (arith, less, ap length h.0, length-take n (vec_items c), c.ok.0)) h.2 f.2)
-      | inr all ↦ full_first d ds (omega (arith, all, ap length h.0, length-take n (vec_items c), c.ok.0, d.ok.0, h.1, f.0)) (omega (arith, h.1, f.1))
-          (cut_filled cs ds (n - length (vec_items d)) k h.2 f.2)
+        | inl less ↦ open_first d ds (omega (arith, less, ap length h.0, length-take n (vec_items c), c.ok.0, d.ok.0, h.1, f.0))
+            (none_kept cs ds (n - length (vec_items d)) k (omega (arith, less, ap length h.0, length-take n (vec_items c), c.ok.0)) h.2 f.2)
+        | inr all ↦ full_first d ds (omega (arith, all, ap length h.0, length-take n (vec_items c), c.ok.0, d.ok.0, h.1, f.0)) (omega (arith, h.1, f.1))
+            (cut_filled cs ds (n - length (vec_items d)) k h.2 f.2)
       ]
 
   -- the chunks before a place are cut, and those from it on are as before
@@ -111,30 +110,30 @@ module _ {T : Type 0} where
   -- one more chunk is cut
   cut_push :
       (xs ys : List (Vec T Global)) (n : ℕ) (c d : Vec T Global)
-    → IsCut n xs ys → vec_items d ≡ take (n - length (values_of ys)) (vec_items c) → vec_capacity d ≡ vec_capacity c
-    → IsCut n (xs ++ c ∷ []) (ys ++ d ∷ [])
+      → IsCut n xs ys → vec_items d ≡ take (n - length (values_of ys)) (vec_items c) → vec_capacity d ≡ vec_capacity c
+      → IsCut n (xs ++ c ∷ []) (ys ++ d ∷ [])
   cut_push [] [] n c d h is same = (is ∙ ap (λ j. take j (vec_items c)) {x = n - 0} {y = n} (omega arith), same, tt)
   cut_push [] (y ∷ ys) n c d h is same = absurd h
   cut_push (x ∷ xs) [] n c d h is same = absurd h
   cut_push (x ∷ xs) (y ∷ ys) n c d h is same =
       let left : n - length (vec_items y ++ values_of ys) ≡ n - length (vec_items y) - length (values_of ys) =
-          omega (arith, length-append (vec_items y) (values_of ys)) in
+      omega (arith, length-append (vec_items y) (values_of ys)) in
       (h.0, h.1, cut_push xs ys (n - length (vec_items y)) c d h.2 (is ∙ ap (λ j. take j (vec_items c)) left) same)
 
   pub cut_more :
       (n : ℕ) (before now : List (Vec T Global)) (place left full : ℕ) (c d : Vec T Global)
-    → CutSoFar n before now place left full → place < length now → c ≡ get_or now place c
-    → vec_items d ≡ take left (vec_items c) → vec_capacity d ≡ vec_capacity c
-    → CutSoFar n before (set now place d) (place + 1) (left - vec_len d) (full + cond (is_full d) 1 0)
+      → CutSoFar n before now place left full → place < length now → c ≡ get_or now place c
+      → vec_items d ≡ take left (vec_items c) → vec_capacity d ≡ vec_capacity c
+      → CutSoFar n before (set now place d) (place + 1) (left - vec_len d) (full + cond (is_full d) 1 0)
   cut_more n before now place left full c d h within is items same =
       let short : place < length before = omega (arith, ap length h.rest, length-drop place now, length-drop place before) in
       let here : get_or before place c ≡ c =
-          drop_read before place c ∙ ap (λ cs. get_or cs 0 c) (sym h.rest) ∙ sym (drop_read now place c) ∙ sym is in
+      drop_read before place c ∙ ap (λ cs. get_or cs 0 c) (sym h.rest) ∙ sym (drop_read now place c) ∙ sym is in
       let first : take (place + 1) before ≡ take place before ++ c ∷ [] = take_more before place c short ∙ ap (λ b. take place before ++ b ∷ []) here in
       let then : take (place + 1) (set now place d) ≡ take place now ++ d ∷ [] = take_more_set now place d within in
       let many : length (values_of (take place now ++ d ∷ [])) ≡ length (values_of (take place now)) + length (vec_items d) =
-          ap length (flat_map-append vec_items (take place now) (d ∷ [])) ∙ length-append (values_of (take place now)) (vec_items d ++ [])
-          ∙ ap (λ ys. length (values_of (take place now)) + length ys) (append-nil (vec_items d)) in
+      ap length (flat_map-append vec_items (take place now) (d ∷ [])) ∙ length-append (values_of (take place now)) (vec_items d ++ [])
+      ∙ ap (λ ys. length (values_of (take place now)) + length ys) (append-nil (vec_items d)) in
       record {
         cut = rw (first, then) (cut_push (take place before) (take place now) n c d h.cut (items ∙ ap (λ j. take j (vec_items c)) h.remains) same);
         rest = drop-set-lt (place + 1) now place d (omega arith) ∙ sym (drop-drop 1 place now) ∙ ap (λ cs. drop 1 cs) h.rest ∙ drop-drop 1 place before;
@@ -145,31 +144,31 @@ module _ {T : Type 0} where
 
   pub cut_more_full :
       (n : ℕ) (before now : List (Vec T Global)) (place left full : ℕ) (c d : Vec T Global) (m : ℕ)
-    → CutSoFar n before now place left full → place < length now → c ≡ get_or now place c
-    → vec_items d ≡ take left (vec_items c) → vec_capacity d ≡ vec_capacity c
-    → m ≡ vec_len d → vec_len d ≡ vec_capacity d
-    → CutSoFar n before (set now place d) (place + 1) (left - m) (full + 1)
+      → CutSoFar n before now place left full → place < length now → c ≡ get_or now place c
+      → vec_items d ≡ take left (vec_items c) → vec_capacity d ≡ vec_capacity c
+      → m ≡ vec_len d → vec_len d ≡ vec_capacity d
+      → CutSoFar n before (set now place d) (place + 1) (left - m) (full + 1)
   cut_more_full n before now place left full c d m h within is items same counts filled =
       rw counts (subst (λ k. CutSoFar n before (set now place d) (place + 1) (left - vec_len d) (full + k))
-        (ap (λ b. cond b 1 0) (eq-eqb (vec_len d) (vec_capacity d) filled))
-        (cut_more n before now place left full c d h within is items same))
+      (ap (λ b. cond b 1 0) (eq-eqb (vec_len d) (vec_capacity d) filled))
+      (cut_more n before now place left full c d h within is items same))
 
   pub cut_more_open :
       (n : ℕ) (before now : List (Vec T Global)) (place left full : ℕ) (c d : Vec T Global) (m : ℕ)
-    → CutSoFar n before now place left full → place < length now → c ≡ get_or now place c
-    → vec_items d ≡ take left (vec_items c) → vec_capacity d ≡ vec_capacity c
-    → m ≡ vec_len d → (vec_len d ≡ vec_capacity d → ⊥)
-    → CutSoFar n before (set now place d) (place + 1) (left - m) full
+      → CutSoFar n before now place left full → place < length now → c ≡ get_or now place c
+      → vec_items d ≡ take left (vec_items c) → vec_capacity d ≡ vec_capacity c
+      → m ≡ vec_len d → (vec_len d ≡ vec_capacity d → ⊥)
+      → CutSoFar n before (set now place d) (place + 1) (left - m) full
   cut_more_open n before now place left full c d m h within is items same counts room =
       rw counts (subst (λ k. CutSoFar n before (set now place d) (place + 1) (left - vec_len d) k)
-        (ap (λ b. full + cond b 1 0) (ne_eqb (vec_len d) (vec_capacity d) room) ∙ omega arith)
-        (cut_more n before now place left full c d h within is items same))
+      (ap (λ b. full + cond b 1 0) (ne_eqb (vec_len d) (vec_capacity d) room) ∙ omega arith)
+      (cut_more n before now place left full c d h within is items same))
 
   -- what holds of the chunks once they are cut
   pub chunks_cut :
       (cs ds : List (Vec T Global)) (current len spare mark : ℕ)
-    → AreChunks cs current len spare → IsCut mark cs ds → mark ≤ len
-    → AreChunks ds (full_chunks ds) mark (spare + (len - mark))
+      → AreChunks cs current len spare → IsCut mark cs ds → mark ≤ len
+      → AreChunks ds (full_chunks ds) mark (spare + (len - mark))
   chunks_cut cs ds current len spare mark all h within =
       let long : mark ≤ length (values_of cs) = omega (arith, all.number, within) in
       record {

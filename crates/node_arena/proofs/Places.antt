@@ -1,12 +1,11 @@
 -- Where values stand in chunks.
-use Rattle.std.proofs.Common.{◌≡◌, ℕ, zero, suc, ◌+◌, ◌-◌, ◌<◌, ◌≤◌, List, [], ◌∷◌, ◌++◌, length, get_or, take, drop, Some, None, slice_get, refl, zero-add, suc-add, add_assoc, sym, ◌∙◌, ap, subst, arith, length-append, rules, vec_len, vec_capacity}
+use Rattle.std.proofs.Common.{◌≡◌, ℕ, zero, suc, ◌+◌, ◌<◌, List, [], ◌∷◌, ◌++◌, length, get_or, take, Some, slice_get, refl, zero-add, suc-add, add_assoc, sym, ◌∙◌, ap, arith, length-append, vec_capacity}
 use Rattle.std.proofs.Math.ListN.{set}
 use Rattle.std.specs.Vec.{vec_items, with_item}
 use Rattle.std.specs.declared.vec.Vec.{Vec}
 use Rattle.std.specs.declared.alloc.Global.{Global}
 use Rattle.std.proofs.lemmas.List.{set-append_left, length-set}
-use Rattle.std.proofs.lemmas.Grind.{common_steps}
-use Rattle.node_arena.specs.Chunks.{values_of, capacity_of, IsPlace, AreFilled, AreChunks}
+use Rattle.node_arena.specs.Chunks.{values_of, IsPlace, AreChunks}
 use Rattle.node_arena.specs.declared.chunks.Place.{Place}
 use Rattle.node_arena.proofs.Filling.{filled_set}
 use Rattle.std.proofs.lemmas.Option.{slice_get_read}
@@ -32,8 +31,8 @@ module _ {T : Type 0} where
   -- an item of a chunk is a value of all chunks
   pub value_at :
       (cs : List (Vec T Global)) (i k : ℕ) (c : Vec T Global) (x : T)
-    → slice_get cs i ≡ Some c → slice_get (vec_items c) k ≡ Some x
-    → slice_get (values_of cs) (length (values_of (take i cs)) + k) ≡ Some x
+      → slice_get cs i ≡ Some c → slice_get (vec_items c) k ≡ Some x
+      → slice_get (values_of cs) (length (values_of (take i cs)) + k) ≡ Some x
   value_at [] i k c x at here = cc
   value_at (b ∷ cs) zero k c x at here =
       let same : b ≡ c = cc in
@@ -45,8 +44,8 @@ module _ {T : Type 0} where
   -- a write to an item of a chunk is a write to that value
   pub item_set :
       (cs : List (Vec T Global)) (i k : ℕ) (c d : Vec T Global) (w : T)
-    → slice_get cs i ≡ Some c → k < length (vec_items c) → vec_items d ≡ set (vec_items c) k w
-    → values_of (set cs i d) ≡ set (values_of cs) (length (values_of (take i cs)) + k) w
+      → slice_get cs i ≡ Some c → k < length (vec_items c) → vec_items d ≡ set (vec_items c) k w
+      → values_of (set cs i d) ≡ set (values_of cs) (length (values_of (take i cs)) + k) w
   item_set [] i k c d w at low is = cc
   item_set (b ∷ cs) zero k c d w at low is =
       let same : b ≡ c = cc in
@@ -59,8 +58,8 @@ module _ {T : Type 0} where
   -- what a place of an id holds is the value with the id
   pub value_is :
       (cs : List (Vec T Global)) (id : ℕ) (place : Place) (c : Vec T Global) (x : T)
-    → IsPlace cs id place → c ≡ get_or cs place.chunk c → x ≡ get_or (vec_items c) place.item x
-    → slice_get (values_of cs) id ≡ Some x
+      → IsPlace cs id place → c ≡ get_or cs place.chunk c → x ≡ get_or (vec_items c) place.item x
+      → slice_get (values_of cs) id ≡ Some x
   value_is cs id place c x h at here =
       let chunk : slice_get cs place.chunk ≡ Some c = slice_get_read cs (length cs) place.chunk c refl h.chunk at in
       let item : slice_get (vec_items c) place.item ≡ Some x = slice_get_read (vec_items c) (length (vec_items c)) place.item x refl (h.item c chunk) here in
@@ -69,17 +68,17 @@ module _ {T : Type 0} where
   -- after a write there the values are those written, and all else that holds of the chunks stays
   pub write_is :
       (cs : List (Vec T Global)) (id : ℕ) (place : Place) (c : Vec T Global) (w : T)
-    → IsPlace cs id place → c ≡ get_or cs place.chunk c
-    → values_of (set cs place.chunk (with_item c place.item w)) ≡ set (values_of cs) id w
+      → IsPlace cs id place → c ≡ get_or cs place.chunk c
+      → values_of (set cs place.chunk (with_item c place.item w)) ≡ set (values_of cs) id w
   write_is cs id place c w h at =
       let chunk : slice_get cs place.chunk ≡ Some c = slice_get_read cs (length cs) place.chunk c refl h.chunk at in
       item_set cs place.chunk place.item c (with_item c place.item w) w chunk (h.item c chunk) refl
-        ∙ ap (λ n. set (values_of cs) n w) h.number
+      ∙ ap (λ n. set (values_of cs) n w) h.number
 
   pub write_keeps :
       (cs : List (Vec T Global)) (id : ℕ) (place : Place) (c : Vec T Global) (w : T) (current len spare : ℕ)
-    → IsPlace cs id place → c ≡ get_or cs place.chunk c → AreChunks cs current len spare
-    → AreChunks (set cs place.chunk (with_item c place.item w)) current len spare
+      → IsPlace cs id place → c ≡ get_or cs place.chunk c → AreChunks cs current len spare
+      → AreChunks (set cs place.chunk (with_item c place.item w)) current len spare
   write_keeps cs id place c w current len spare h at all =
       let chunk : slice_get cs place.chunk ≡ Some c = slice_get_read cs (length cs) place.chunk c refl h.chunk at in
       record {

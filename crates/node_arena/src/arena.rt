@@ -117,6 +117,7 @@ impl<T> Arena<T> {
         ensures values { OnOk result (self.new.values ≡ self.old.values ++ value ∷ []) }
         ensures spare { OnOk result (self.old.spare ≤ self.new.spare + 1) }
         ensures succeeds { 0 < self.old.spare → IsOk result }
+        ensures full { OnErr result (self.old.spare ≡ 0) }
         ensures returned { IfErr result (λ back. back ≡ value) }
         ensures err { OnErr result (self.new ≡ self.old) }
     {

@@ -1,4 +1,4 @@
-ghost use Rattle.std.specs.Prelude.{◌≡◌, ◌+◌, ◌<◌, length, OnOk};
+ghost use Rattle.std.specs.Prelude.{◌≡◌, ◌+◌, ◌<◌, length, slice_set, OnOk};
 
 use crate::Arena;
 use lcc_base::Memory;
@@ -27,6 +27,15 @@ struct Page {
     bytes: [u8; 4096],
 }
 
+// A caller knows what the arena is after a write.
+fn write(arena: &mut Arena<u32>, id: u32, value: u32)
+    requires { id < length arena.old.values }
+    ensures values { arena.new.values ≡ slice_set arena.old.values id value }
+    ensures spare { arena.new.spare ≡ arena.old.spare }
+{
+    *arena.get_mut(id) = value;
+}
+
 fn fill_boxes<'a>(
     alloc: Global,
     arena: &mut Arena<Box<Counted<'a>>>,
@@ -38,6 +47,16 @@ fn fill_boxes<'a>(
 {
     for number in 0..count {
         let value = Box::new(alloc, Counted { drops, number })?;
+        arena.push(value).map_err(|_| Memory)?;
+    }
+    Ok(())
+}
+
+fn fill<T: Copy>(arena: &mut Arena<T>, value: T, count: u32) -> Result<(), Memory>
+    requires { length arena.old.values + count < 1000 }
+    ensures { OnOk result (length arena.new.values ≡ length arena.old.values + count) }
+{
+    for _number in 0..count {
         arena.push(value).map_err(|_| Memory)?;
     }
     Ok(())
@@ -61,7 +80,11 @@ fn boxes_go_once(rt: HostRuntime) -> Result<(), Fail> {
     fill_boxes(alloc, &mut arena, &drops, 130)?;
     assert_eq!(rt; arena.spare().saturating_add(130), spare);
     arena.get_mut(3).number = 777;
-    let numbers = [arena.get(0).number, arena.get(3).number, arena.get(199).number];
+    let numbers = [
+        arena.get(0).number,
+        arena.get(3).number,
+        arena.get(199).number,
+    ];
     assert_eq!(rt; numbers, [0, 777, 129]);
     arena.release(0);
     fill_boxes(alloc, &mut arena, &drops, 10)?;
@@ -78,13 +101,23 @@ fn values_of_no_size_and_of_a_page(rt: HostRuntime) -> Result<(), Fail> {
     none.reserve(40)?;
     pages.reserve(3)?;
     assert_eq!(rt; (none.spare(), pages.spare()), (40, 3));
-    for number in 0..100u8 {
-        none.push(Nothing).map_err(|_| Memory)?;
-        pages.push(Page { bytes: [number; 4096] }).map_err(|_| Memory)?;
-    }
+    fill(&mut none, Nothing, 100)?;
+    fill(&mut pages, Page { bytes: [1; 4096] }, 99)?;
+    fill(&mut pages, Page { bytes: [2; 4096] }, 1)?;
     assert_eq!(rt; (none.len(), pages.len()), (100, 100));
-    assert_eq!(rt; (pages.get(2).bytes[4095], pages.get(99).bytes[0]), (2, 99));
+    assert_eq!(rt; (pages.get(98).bytes[4095], pages.get(99).bytes[0]), (1, 2));
     none.release(0);
     assert!(rt; none.spare() >= 100);
+    Ok(())
+}
+
+#[test]
+fn writes_in_place(rt: HostRuntime) -> Result<(), Fail> {
+    let mut arena = Arena::new(rt.alloc());
+    arena.push(5).map_err(|_| Memory)?;
+    arena.push(6).map_err(|_| Memory)?;
+    write(&mut arena, 1, 9);
+    assert_eq!(rt; arena.reserve(usize::MAX), Err(Memory));
+    assert_eq!(rt; (*arena.get(0), *arena.get(1)), (5, 9));
     Ok(())
 }

@@ -1,4 +1,4 @@
-use Rattle.std.proofs.Common.{◌≡◌, ◌+◌, ◌≤◌, length, take}
+use Rattle.std.proofs.Common.{◌≡◌, ◌+◌, length, take}
 use Rattle.node_arena.specs.Chunks.{values_of}
 use Rattle.node_arena.proofs.chunks.place_of.Given as goal
 

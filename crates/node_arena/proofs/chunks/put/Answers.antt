@@ -1,4 +1,4 @@
-use Rattle.std.proofs.Common.{◌≡◌, ◌<◌, Some, slice_get, arith, add-one, length}
+use Rattle.std.proofs.Common.{arith, add-one}
 use Rattle.std.proofs.lemmas.Option.{slice_get_read}
 use Rattle.node_arena.proofs.Filling.{current_has_room, put_values, put_filled, put_full}
 use Rattle.node_arena.proofs.chunks.put.Goals as goal
@@ -22,4 +22,4 @@ returns-else-len-capacity-clause-values g c =
 pub returns-else-len-capacity-clause-filled : goal.returns-else-len-capacity-clause-filled
 returns-else-len-capacity-clause-filled g c =
     rw add-one (put_full _ _ _ c.requires.filled (omega (arith, c.args.chunks.now.ok.0))
-      (omega (arith, c.push_reserved.new.self.ok.1)) (omega (arith, c.push_reserved.new.self.ok.1)))
+    (omega (arith, c.push_reserved.new.self.ok.1)) (omega (arith, c.push_reserved.new.self.ok.1)))

@@ -1,4 +1,4 @@
-use Rattle.std.proofs.Common.{◌≡◌, arith}
+use Rattle.std.proofs.Common.{arith}
 use Rattle.node_arena.proofs.Filling.{chunks_push}
 use Rattle.node_arena.proofs.arena.Arena.add_chunk.Goals as goal
 
