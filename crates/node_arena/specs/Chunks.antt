@@ -21,6 +21,7 @@ module _ {T : Type 0} where
     pub item : (c : Vec T Global) → slice_get chunks place.chunk ≡ Some c → place.item < length (vec_items c)
     pub number : length (values_of (take place.chunk chunks)) + place.item ≡ id
 
+  -- whether a chunk holds all that it can
   abbrev pub is_full : Vec T Global → Bool
   is_full chunk = vec_len chunk == vec_capacity chunk
 
@@ -32,6 +33,7 @@ module _ {T : Type 0} where
   abbrev pub IsFree : Vec T Global → Type 0
   IsFree chunk = (vec_len chunk ≡ 0) × (0 < vec_capacity chunk)
 
+  -- all of them are free
   abbrev pub AreFree : List (Vec T Global) → Type 0
   AreFree [] = Unit {0}
   AreFree (chunk ∷ chunks) = IsFree chunk × AreFree chunks
