@@ -8,7 +8,7 @@ use Rattle.lburg_syntax.specs.declared.read_error.ReadError.TheVariants.{Memory,
 use Rattle.lburg_syntax.specs.Tokens.{Tok, Word, Number, Keyword, Mark, views}
 use Rattle.lburg_syntax.specs.declared.token.Token.{Token}
 use Rattle.lburg_syntax.specs.Grammar.{MNumbered, MDeclaration, Starts, Declares, terminal_tokens, declaration_tokens}
-use Rattle.lburg_syntax.specs.Stops.{next, StopsAt}
+use Rattle.lcc_text.specs.Stops.{next, StopsAt}
 use Rattle.lburg_syntax.specs.Readings.{SpellsTerminals, SpellsDeclaration, TerminalsFault, DeclarationFault}
 
 -- ---- one terminal

@@ -7,7 +7,7 @@ use Rattle.lburg_syntax.specs.declared.read_error.ReadError.TheVariants.{Memory,
 use Rattle.lburg_syntax.specs.Tokens.{Tok, Word, Number, Template, Mark}
 use Rattle.lburg_syntax.specs.NamedTree.{MNamed, Alone, tree_then}
 use Rattle.lburg_syntax.specs.Grammar.{MRule, rule_tokens, cost_tokens}
-use Rattle.lburg_syntax.specs.Stops.{next, StopsAt}
+use Rattle.lcc_text.specs.Stops.{next, StopsAt}
 use Rattle.lburg_syntax.specs.Readings.{Ends, TreeStops, TreeFault, SpellsCost, SpellsRule, CostFault, RuleFault}
 use Rattle.lburg_syntax.proofs.Trees.{then_append, more_then, same_tree, ends_next, ends_template}
 

@@ -6,7 +6,7 @@ use Rattle.lburg_syntax.specs.declared.read_error.ReadError.{ReadError}
 use Rattle.lburg_syntax.specs.declared.read_error.ReadError.TheVariants.{Memory, Stuck}
 use Rattle.lburg_syntax.specs.Tokens.{Tok, Word, Template, Mark}
 use Rattle.lburg_syntax.specs.NamedTree.{MNamed, Alone, Over, Both, tree_then}
-use Rattle.lburg_syntax.specs.Stops.{next, StopsAt}
+use Rattle.lcc_text.specs.Stops.{next, StopsAt}
 use Rattle.lburg_syntax.specs.Readings.{Ends, TreeStops, TreeFault, LineTreeFault, SpellsTree}
 
 pub then_append : (t : MNamed) (x y : List Tok) → tree_then t x ++ y ≡ tree_then t (x ++ y)

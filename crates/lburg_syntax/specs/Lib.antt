@@ -3,6 +3,5 @@ pub mod Spelling
 pub mod NamedTree
 pub mod Grammar
 pub mod Sections
-pub mod Stops
 pub mod Nesting
 pub mod Readings

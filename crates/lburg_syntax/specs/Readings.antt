@@ -9,7 +9,7 @@ use Rattle.lburg_syntax.specs.declared.syntax.SyntaxError.TheVariants as syntax
 use Rattle.lburg_syntax.specs.Tokens.{Tok, Mark}
 use Rattle.lburg_syntax.specs.NamedTree.{MNamed, Alone, Over, Both, tree_then}
 use Rattle.lburg_syntax.specs.Grammar.{MRule, MDeclaration, MNumbered, cost_tokens, rule_tokens, terminal_tokens, declaration_tokens}
-use Rattle.lburg_syntax.specs.Stops.{next, StopsAt}
+use Rattle.lcc_text.specs.Stops.{next, StopsAt}
 
 -- what stands behind a tree isn't part of it
 abbrev pub Ends : MNamed → List Tok → Type 0

@@ -2,7 +2,7 @@
 ghost use Rattle.std.specs.Prelude.{◌≡◌, ◌≢◌, ◌<◌, ◌∷◌, length, IfOk, IfErr, Some, None, []};
 ghost use Rattle.lburg_syntax.specs.declared.read_error.ReadError.TheVariants.{Stuck};
 ghost use Rattle.lburg_syntax.specs.Tokens.{Word, Mark, Template, Number, Keyword, views};
-ghost use Rattle.lburg_syntax.specs.Stops.{next};
+ghost use Rattle.lcc_text.specs.Stops.{next};
 
 use crate::read_error::ReadError;
 use crate::token::{Sign, Token};

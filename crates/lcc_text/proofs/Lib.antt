@@ -3,3 +3,4 @@ pub mod FirstLine
 pub mod Decimals
 pub mod Keys
 pub mod Places
+pub mod Stopping
