@@ -1,3 +1,4 @@
 pub mod Cutting
 pub mod Filling
 pub mod Places
+mod TwoLent

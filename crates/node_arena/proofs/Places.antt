@@ -87,3 +87,27 @@ module _ {T : Type 0} where
         room = omega (arith, sum_by-set vec_capacity cs place.chunk (with_item c place.item w) c h.chunk, ap vec_capacity at, all.room);
         fits = all.fits;
       }
+
+  -- a place within a chunk comes before all chunks behind that chunk
+  comes_before :
+      (cs : List (Vec T Global)) (i j k : ℕ) → i < j → i < length cs
+      → ((c : Vec T Global) → slice_get cs i ≡ Some c → k < length (vec_items c))
+      → length (values_of (take i cs)) + k < length (values_of (take j cs))
+  comes_before [] i j k lt in_cs item = omega arith
+  comes_before (b ∷ cs) i zero k lt in_cs item = omega arith
+  comes_before (b ∷ cs) zero (suc j) k lt in_cs item =
+      let short : k < length (vec_items b) = item b refl in
+      rw length-append (omega arith)
+  comes_before (b ∷ cs) (suc i) (suc j) k lt in_cs item =
+      let further : length (values_of (take i cs)) + k < length (values_of (take j cs)) = comes_before cs i j k (omega arith) (omega arith) item in
+      rw (length-append, length-append) (omega arith)
+
+  -- of two values in different chunks the one with the higher id is in the later chunk
+  pub later_chunk :
+      (cs : List (Vec T Global)) (lo hi : ℕ) (low high : Place)
+      → IsPlace cs lo low → IsPlace cs hi high → lo < hi → (low.chunk ≡ high.chunk → ⊥) → low.chunk < high.chunk
+  later_chunk cs lo hi low high l h lt other =
+      let not_before : high.chunk < low.chunk → ⊥ = λ before.
+      let less : length (values_of (take high.chunk cs)) + high.item < length (values_of (take low.chunk cs)) = comes_before cs high.chunk low.chunk high.item before h.chunk h.item in
+      omega (arith, less, l.number, h.number) in
+      omega (arith, not_before, other)

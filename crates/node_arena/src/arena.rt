@@ -2,6 +2,7 @@ ghost use Rattle.std.specs.Prelude.{◌≡◌, ◌+◌, ◌-◌, ◌^◌, ◌<�
 ghost use Rattle.std.specs.Borrow.{sem};
 
 use crate::chunks::{cut, place_of, put};
+use crate::elements::two;
 use lcc_base::Memory;
 use std::alloc::Global;
 use std::cmp::max;
@@ -91,6 +92,25 @@ impl<T> Arena<T> {
         let place = place_of(&self.chunks, id as usize);
         let chunk = &mut self.chunks[place.chunk];
         &mut chunk[place.item]
+    }
+
+    /// The value with the lower id, and the value with the higher id, to be changed.
+    pub fn pair(&mut self, lo: u32, hi: u32) -> (&T, &mut T)
+        requires ordered { lo < hi }
+        requires inside { hi < length self.old.values }
+        ensures* lends { sem 𝓛 (LendsValue T.row self.entry hi result.1) }
+        ensures read { slice_get self.old.values lo ≡ Some result.0.now }
+        ensures write { slice_get self.old.values hi ≡ Some result.1.now }
+    {
+        let low = place_of(&self.chunks, lo as usize);
+        let high = place_of(&self.chunks, hi as usize);
+        if low.chunk == high.chunk {
+            let chunk = &mut self.chunks[low.chunk];
+            two(chunk, low.item, high.item)
+        } else {
+            let (read, write) = two(&mut self.chunks, low.chunk, high.chunk);
+            (&read[low.item], &mut write[high.item])
+        }
     }
 
     /// Makes room, so that this many values can be pushed without asking for memory. After an error

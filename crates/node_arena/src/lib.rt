@@ -3,6 +3,7 @@
 
 mod arena;
 mod chunks;
+mod elements;
 #[cfg(test)]
 mod tests;
 
