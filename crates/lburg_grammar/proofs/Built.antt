@@ -1,5 +1,5 @@
 -- A description that is put together from its resolved parts is what the words mean.
-use Rattle.std.proofs.Common.{◌≡◌, ℕ, zero, suc, ◌+◌, ◌<◌, ◌≤◌, List, [], ◌∷◌, length, map, replicate, Some, None, refl, sym, ap, ◌∙◌, subst, inl, inr, arith}
+use Rattle.std.proofs.Common.{◌≡◌, ℕ, zero, suc, ◌+◌, ◌<◌, ◌≤◌, List, [], ◌∷◌, length, map, replicate, Option, Some, None, refl, sym, ap, ◌∙◌, subst, inl, inr, arith}
 use Rattle.std.specs.Prelude.{slice_get}
 use Rattle.std.proofs.lemmas.Option.{slice_get_within, same_Some}
 use Rattle.std.proofs.lemmas.List.{length-map}
@@ -9,6 +9,8 @@ use Rattle.lburg_syntax.specs.Grammar.{MRule}
 use Rattle.lburg_syntax.specs.Sections.{MSyntax}
 use Rattle.lburg_grammar.specs.declared.rule.Rule.{Rule}
 use Rattle.lburg_grammar.specs.declared.terminal.Terminal.{Terminal}
+use Rattle.lburg_grammar.specs.declared.range.Range.{Range}
+use Rattle.lburg_grammar.specs.Range.{IsRangeFor}
 use Rattle.lburg_grammar.specs.Pattern.{pattern_of}
 use Rattle.lburg_grammar.specs.Description.{MDescription, IsDescription, IsRuleOf, HasArity, terminal_names, terminal_numbers, RuleAt}
 use Rattle.lburg_grammar.specs.DescriptionText.{Means, declared_in, starts_in}
@@ -77,6 +79,7 @@ module _ (s : MSyntax) (d : MDescription) (b : IsBuilt s d) where
         fits = fits d x.0.tree (pattern_of r.pattern) x.2.pattern (λ op n u. uses_fit i r op n e u);
         nodes = (let h = b.small i x.0 x.1 in let k = nodes_of (terminal_names d) d.nonterminals x.0.tree (pattern_of r.pattern) x.2.pattern in omega arith);
         cost = x.2.small;
+        range = subst (λ (o : Option Range). IsRangeFor r.cost o) (sym x.2.range) tt;
       }
 
   first_left : 1 ≤ length d.nonterminals
@@ -134,6 +137,7 @@ module _ (s : MSyntax) (d : MDescription) (b : IsBuilt s d) where
             pattern = sound d x.tree (pattern_of r.0.pattern) r.2.pattern;
             template = r.2.template;
             cost = r.2.cost;
+            range = r.2.range;
           },
         )));
     is = built_is;

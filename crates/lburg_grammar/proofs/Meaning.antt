@@ -158,6 +158,7 @@ module _ (s : MSyntax) (d : MDescription) (m : Means s d) where
     template = h.template;
     cost = h.cost;
     small = c;
+    range = h.range;
   }
 
   pub means_rules : RulesFor (names_of (declared_in s.declarations)) d.nonterminals s.rules d.rules

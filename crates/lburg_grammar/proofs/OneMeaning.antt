@@ -29,6 +29,7 @@ same_rule ts ns s r q h k = record {
   pattern = same_Some (pattern_of r.pattern) (pattern_of q.pattern) (sym h.pattern ∙ k.pattern);
   template = h.template ∙ sym k.template;
   cost = same_cost s.cost r.cost q.cost h.cost k.cost;
+  range = h.range ∙ sym k.range;
 }
 
 -- an operator of a pattern has so many operands there

@@ -1,10 +1,11 @@
--- Derivations of a tree: a rule whose pattern fits, and a derivation for each nonterminal of the pattern at the
--- subtree that it meets.
+-- Derivations of a tree: a rule whose range, if it has one, contains the tree's constant, and whose pattern fits, and a
+-- derivation for each nonterminal of the pattern at the subtree that it meets.
 -- Source: A. V. Aho, M. Ganapathi and S. W. K. Tjiang, Code generation using tree matching and dynamic programming,
 -- 1989; Fraser and Hanson, A Retargetable C Compiler, chapter 14.
 use Rattle.std.specs.Prelude.{◌≡◌, ℕ, ◌+◌, ◌-◌, Option, Some, None, List, [], ◌∷◌, ◌++◌, slice_get}
 use Rattle.lburg_grammar.specs.declared.rule.Rule.{Rule}
-use Rattle.lburg_grammar.specs.Tree.{MTree}
+use Rattle.lburg_grammar.specs.Tree.{MTree, value_of}
+use Rattle.lburg_grammar.specs.Range.{IsMet}
 use Rattle.lburg_grammar.specs.Pattern.{Goal, pattern_of, goals_at}
 
 -- a rule's number, from 1, and the derivations of its pattern's nonterminals from left to right
@@ -20,7 +21,7 @@ mutual
 abbrev mutual
   pub Derives : List Rule → ℕ → MTree → MDerivation → Type 0
   Derives rules n t (Apply number parts) =
-      (i : ℕ) × (r : Rule) × (goals : List Goal) × (number ≡ i + 1) × (slice_get rules i ≡ Some r) × (r.left ≡ n) × (goals_at (pattern_of r.pattern) t ≡ Some goals) × DeriveEach rules goals parts
+      (i : ℕ) × (r : Rule) × (goals : List Goal) × (number ≡ i + 1) × (slice_get rules i ≡ Some r) × (r.left ≡ n) × IsMet r.range (value_of t) × (goals_at (pattern_of r.pattern) t ≡ Some goals) × DeriveEach rules goals parts
 
   pub DeriveEach : List Rule → List Goal → MParts → Type 0
   DeriveEach rules [] NoPart = Unit {0}
@@ -59,7 +60,7 @@ abbrev mutual
   numbers_in NoPart = []
   numbers_in (Part x xs) = numbers x ++ numbers_in xs
 
--- the nonterminals that a rule of this number leaves, with their subtrees, none where it doesn't fit
+-- the nonterminals that the pattern of a rule leaves, with their subtrees, none where it doesn't fit
 abbrev pub goals_of_rule : Option Rule → MTree → Option (List Goal)
 goals_of_rule None t = None
 goals_of_rule (Some r) t = goals_at (pattern_of r.pattern) t

@@ -3,6 +3,7 @@
 use Rattle.std.specs.Prelude.{◌≡◌, ℕ, zero, suc, ◌+◌, ◌<◌, ◌≤◌, Option, Some, None, List, length, map, slice_get, ◌⊎◌}
 use Rattle.lburg_grammar.specs.declared.rule.Rule.{Rule}
 use Rattle.lburg_grammar.specs.declared.terminal.Terminal.{Terminal}
+use Rattle.lburg_grammar.specs.Range.{IsRangeFor}
 use Rattle.lburg_grammar.specs.Pattern.{MPattern, PHole, PLeaf, POne, PTwo, pattern_of, pattern_nodes}
 
 -- Terminals in the order of their declarations; the names of nonterminals in the order of the first rules with
@@ -55,6 +56,7 @@ pub record IsRuleOf (d : MDescription) (r : Rule) : Type 0 where
   pub fits : FitsIn d (pattern_of r.pattern)
   pub nodes : pattern_nodes (pattern_of r.pattern) ≤ 16
   pub cost : r.cost ≤ 32766
+  pub range : IsRangeFor r.cost r.range
 
 -- what a description keeps
 pub record IsDescription (d : MDescription) : Type 0 where

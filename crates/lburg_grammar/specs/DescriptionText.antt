@@ -43,6 +43,7 @@ pub record RuleMeans (d : MDescription) (s : MRule) (r : Rule) : Type 0 where
   pub pattern : PatternMeans d s.tree (pattern_of r.pattern)
   pub template : r.template ≡ s.template
   pub cost : CostMeans s.cost r.cost
+  pub range : r.range ≡ None
 
 abbrev pub RulesMean : MDescription → List MRule → List Rule → Type 0
 RulesMean d [] [] = Unit {0}

@@ -57,7 +57,7 @@ value_or a (Some b) = b
 -- derivations of one nonterminal at one tree whose numbers begin alike are equal, and what follows is
 mutual
   pub same_front : (rules : List Rule) (n : ℕ) (t : MTree) (x y : MDerivation) (us vs : List ℕ) → Derives rules n t x → Derives rules n t y → numbers x ++ us ≡ numbers y ++ vs → (x ≡ y) × (us ≡ vs)
-  same_front rules n t (Apply a xs) (Apply b ys) us vs (i, r, goals, number, is, left, fits, each) (j, s, goals', number', is', left', fits', each') e =
+  same_front rules n t (Apply a xs) (Apply b ys) us vs (i, r, goals, number, is, left, met, fits, each) (j, s, goals', number', is', left', met', fits', each') e =
       let ab : a ≡ b = ap first e in
       let ij : i ≡ j = add_right_cancel 1 (sym number ∙ ab ∙ number') in
       let rs : r ≡ s = ap (value_or r) (sym is ∙ ap (slice_get rules) ij ∙ is') in
@@ -93,7 +93,7 @@ number_of v = v.0
 -- the numbers with the subtrees at which the rules are applied are the derivation's numbers
 mutual
   pub numbers_applied : (rules : List Rule) (n : ℕ) (t : MTree) (x : MDerivation) → Derives rules n t x → map number_of (applied rules t x) ≡ numbers x
-  numbers_applied rules n t (Apply number parts) (i, r, goals, e, is, left, fits, each) =
+  numbers_applied rules n t (Apply number parts) (i, r, goals, e, is, left, met, fits, each) =
       ap (λ (g : List Goal). number ∷ map number_of (applied_in rules g parts)) (goals_left rules t number i r goals e is fits) ∙ ap (λ (l : List ℕ). number ∷ l) (numbers_applied_in rules goals parts each)
 
   numbers_applied_in : (rules : List Rule) (goals : List Goal) (parts : MParts) → DeriveEach rules goals parts → map number_of (applied_in rules goals parts) ≡ numbers_in parts

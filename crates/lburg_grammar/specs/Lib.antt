@@ -1,5 +1,6 @@
 pub mod Tree
 pub mod Pattern
+pub mod Range
 pub mod Description
 pub mod DescriptionText
 pub mod TailText

@@ -40,6 +40,7 @@ pub record RuleFor (ts ns : List (List ℕ)) (s : MRule) (r : Rule) : Type 0 whe
   pub template : r.template ≡ s.template
   pub cost : CostMeans s.cost r.cost
   pub small : r.cost ≤ 32766
+  pub range : r.range ≡ None
 
 -- rule for rule
 pub record RulesFor (ts ns : List (List ℕ)) (ss : List MRule) (rs : List Rule) : Type 0 where

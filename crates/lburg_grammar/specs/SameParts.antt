@@ -9,6 +9,7 @@ pub record SameRule (r q : Rule) : Type 0 where
   pub pattern : pattern_of r.pattern ≡ pattern_of q.pattern
   pub template : r.template ≡ q.template
   pub cost : r.cost ≡ q.cost
+  pub range : r.range ≡ q.range
 
 pub record SameParts (d e : MDescription) : Type 0 where
   pub terminals : d.terminals ≡ e.terminals

@@ -59,6 +59,7 @@ fn resolved_rule<'a>(
         pattern,
         template,
         cost,
+        range: None,
     })
 }
 

@@ -6,7 +6,8 @@ use Rattle.std.proofs.lemmas.Bool.{both_ways}
 use Rattle.std.proofs.lemmas.List.Elements.{All-nil, All-cons}
 use Rattle.lburg_grammar.specs.declared.rule.Rule.{Rule}
 use Rattle.lburg_grammar.specs.declared.terminal.Terminal.{Terminal}
-use Rattle.lburg_grammar.specs.Tree.{MTree, TLeaf, TOne, TTwo}
+use Rattle.lburg_grammar.specs.Range.{IsMet}
+use Rattle.lburg_grammar.specs.Tree.{MTree, TLeaf, TOne, TTwo, value_of}
 use Rattle.lburg_grammar.specs.Pattern.{Goal, goals_at}
 use Rattle.lburg_grammar.specs.Derivation.{MDerivation, MParts, Apply, NoPart, Part, Derives, DeriveEach}
 use Rattle.lburg_grammar.specs.Description.{MDescription}
@@ -21,10 +22,11 @@ use Rattle.op_forest.specs.Nodes.{Node, Leaf, One, Two, tree_of}
 use Rattle.op_forest.specs.Signature.{takes, gives_value, has_rule}
 use Rattle.op_forest.specs.WellFormed.{HasKind, HasKinds, AreOperands, AreGood, op_of, suffix_of}
 use Rattle.vcode.specs.RuleSets.{Row, row_of}
-use Rattle.mips_rules.specs.MipsRows.{nonterminals, rows, costs, stmt, con, rc, reg, addr}
+use Rattle.mips_rules.specs.MipsRows.{nonterminals, rows, costs, ranges, stmt, con, rc, reg, addr}
 use Rattle.mips_rules.specs.MipsTerminals.{terminals}
 use Rattle.mips_rules.specs.Shipped.{IsShipped, DerivesStatements, CoversRoots}
 use Rattle.mips_rules.proofs.ListTests.{mapped_at}
+use Rattle.mips_rules.proofs.ShippedDescription.{no_range}
 
 -- the operators that have a rule
 data Ruled : Op → Suffix → Type 0 where
@@ -87,7 +89,7 @@ kind_here (Two h a b) k = k.0
 ruled_at : (t : Node) → HasKinds t → Ruled (op_of t) (suffix_of t)
 ruled_at t k = ruled (op_of t) (suffix_of t) (kind_here t k).rule
 
-module _ (rules : List Rule) (same_rows : map row_of rules ≡ rows) where
+module _ (rules : List Rule) (same_rows : map row_of rules ≡ rows) (same_ranges : map (λ r. r.range) rules ≡ ranges) where
   abbrev Derived : ℕ → MTree → Type 0
   Derived n t = (x : MDerivation) × Derives rules n t x
 
@@ -95,7 +97,8 @@ module _ (rules : List Rule) (same_rows : map row_of rules ≡ rows) where
   by_row : (i : ℕ) (row : Row) (t : MTree) (goals : List Goal) (parts : MParts) → slice_get rows i ≡ Some row → goals_at row.pattern t ≡ Some goals → DeriveEach rules goals parts → Derived row.left t
   by_row i row t goals parts at fits each =
       let r = mapped_at row_of rules i row (ap (λ l. slice_get l i) same_rows ∙ at) in
-      (Apply (i + 1) parts, (i, r.0, goals, refl, r.1, ap (λ q. q.left) r.2, ap (λ q. goals_at q.pattern t) r.2 ∙ fits, each))
+      let met = subst (λ o. IsMet o (value_of t)) (sym (no_range rules same_ranges i r.0 r.1)) tt in
+      (Apply (i + 1) parts, (i, r.0, goals, refl, r.1, ap (λ q. q.left) r.2, met, ap (λ q. goals_at q.pattern t) r.2 ∙ fits, each))
 
   register_statement : (t : MTree) → Derived reg t → Derived stmt t
   register_statement t x = by_row 0 _ t _ (Part x.0 NoPart) refl refl (x.1, tt)
@@ -208,7 +211,7 @@ module _ (rules : List Rule) (same_rows : map row_of rules ≡ rows) where
 -- the start symbol derives each tree that is no address alone and whose operators have what they need
 pub derives_statements : (d : MDescription) → IsShipped d → DerivesStatements d
 derives_statements d is t k other =
-    subst (λ n. (x : MDerivation) × Derives d.rules n (tree_of t) x) (sym is.start) (derived d.rules is.rows t k other)
+    subst (λ n. (x : MDerivation) × Derives d.rules n (tree_of t) x) (sym is.start) (derived d.rules is.rows is.ranges t k other)
 
 -- and so each root of a well-formed forest
 covers_good : (d : MDescription) → IsShipped d → (f : Forest) (ts : List Node) → AreGood f ts → All (λ t. HasNone d (tree_of t) → ⊥) ts
@@ -222,11 +225,12 @@ pub covers_roots : (d : MDescription) → IsShipped d → CoversRoots d
 covers_roots d is f good = covers_good d is f f.roots good
 
 -- the description of lists that are those of the tables
-pub is_shipped : (d : MDescription) (ts : List Terminal) (ns : List (List ℕ)) (rules : List Rule) → d ≡ record { terminals = ts; nonterminals = ns; start = stmt; rules = rules } → ts ≡ terminals → ns ≡ nonterminals → map row_of rules ≡ rows → map (λ r. r.cost) rules ≡ costs → IsShipped d
-is_shipped d ts ns rules e f g h k = record {
+pub is_shipped : (d : MDescription) (ts : List Terminal) (ns : List (List ℕ)) (rules : List Rule) → d ≡ record { terminals = ts; nonterminals = ns; start = stmt; rules = rules } → ts ≡ terminals → ns ≡ nonterminals → map row_of rules ≡ rows → map (λ r. r.cost) rules ≡ costs → map (λ r. r.range) rules ≡ ranges → IsShipped d
+is_shipped d ts ns rules e f g h k l = record {
   terminals = ap (λ x. x.terminals) e ∙ f;
   nonterminals = ap (λ x. x.nonterminals) e ∙ g;
   start = ap (λ x. x.start) e;
   rows = ap (λ x. map row_of x.rules) e ∙ h;
   costs = ap (λ x. map (λ r. r.cost) x.rules) e ∙ k;
+  ranges = ap (λ x. map (λ r. r.range) x.rules) e ∙ l;
 }

@@ -1,16 +1,18 @@
 -- The shipped tables make a description.
-use Rattle.std.specs.Prelude.{◌≡◌, ℕ, zero, suc, ◌+◌, ◌<◌, ◌≤◌, ◌==◌, ◌&&◌, ◌||◌, not, ◌⊎◌, nat_le, nat_lt, Bool, true, false, Some, is_some, List, [], ◌∷◌, map, length, slice_get, slice_index_or, refl}
+use Rattle.std.specs.Prelude.{◌≡◌, ℕ, zero, suc, ◌+◌, ◌<◌, ◌≤◌, ◌==◌, ◌&&◌, ◌||◌, not, ◌⊎◌, nat_le, nat_lt, Bool, true, false, Option, Some, None, is_some, List, [], ◌∷◌, map, length, slice_get, slice_index_or, refl}
 use Rattle.std.specs.List.{list_any, AllByRecursion}
 use Rattle.std.specs.Str.{bytes_eq}
 use Rattle.std.proofs.Common.{ap, sym, ◌∙◌, arith, subst, inl, inr, ⊎_elim}
 use Rattle.std.proofs.lemmas.List.{length-map}
 use Rattle.std.proofs.lemmas.Bool.{both_ways, and_parts, or_cases, eqb-true, leb-true, ltb-true}
 use Rattle.lburg_grammar.specs.declared.rule.Rule.{Rule}
+use Rattle.lburg_grammar.specs.declared.range.Range.{Range}
+use Rattle.lburg_grammar.specs.Range.{IsRangeFor}
 use Rattle.lburg_grammar.specs.declared.terminal.Terminal.{Terminal}
 use Rattle.lburg_grammar.specs.Pattern.{MPattern, PHole, PLeaf, POne, PTwo, pattern_of, pattern_nodes}
 use Rattle.lburg_grammar.specs.Description.{MDescription, FitsIn, Uses, RuleAt, IsDescription}
 use Rattle.vcode.specs.RuleSets.{Row, row_of}
-use Rattle.mips_rules.specs.MipsRows.{nonterminals, stmt, rows, costs}
+use Rattle.mips_rules.specs.MipsRows.{Line, lines, nonterminals, stmt, rows, costs, ranges}
 use Rattle.mips_rules.specs.MipsTerminals.{terminals}
 use Rattle.mips_rules.proofs.ListTests.{each, each_at, distinct, distinct_places, found_by, bytes_same, number_same, apart, apart_at, mapped_at, at_mapped, all_at}
 
@@ -91,7 +93,12 @@ first_at (suc (suc (suc (suc (suc n))))) h = absurd (past n h)
     past : (k : ℕ) → suc (suc (suc (suc (suc k)))) < 5 → ⊥
     past k g = omega (arith, g)
 
-module _ (rules : List Rule) (same_rows : map row_of rules ≡ rows) (same_costs : map (λ r. r.cost) rules ≡ costs) where
+-- where no rule of the table has a range, none has
+pub no_range : (rules : List Rule) → map (λ r. r.range) rules ≡ ranges → (i : ℕ) (r : Rule) → slice_get rules i ≡ Some r → r.range ≡ None
+no_range rules same i r e =
+    sym (mapped_at (λ (l : Line). let none : Option Range = None in none) lines i r.range (ap (λ l. slice_get l i) (sym same) ∙ at_mapped (λ x. x.range) rules i r e)).2
+
+module _ (rules : List Rule) (same_rows : map row_of rules ≡ rows) (same_costs : map (λ r. r.cost) rules ≡ costs) (same_ranges : map (λ r. r.range) rules ≡ ranges) where
   -- a rule of a row, and the row of a rule
   rule_at : (i : ℕ) (row : Row) → slice_get rows i ≡ Some row → (r : Rule) × (slice_get rules i ≡ Some r) × (row_of r ≡ row)
   rule_at i row e = mapped_at row_of rules i row (ap (λ l. slice_get l i) same_rows ∙ e)
@@ -193,12 +200,12 @@ module _ (rules : List Rule) (same_rows : map row_of rules ≡ rows) (same_costs
     start = omega arith;
     some_rule = omega (arith, how_many);
     rule_limit = omega (arith, how_many);
-    rules = λ i r e. let fit = fit_at i r e in record { left = fit.0; fits = fit.1; nodes = fit.2; cost = cost_at i r e };
+    rules = λ i r e. let fit = fit_at i r e in record { left = fit.0; fits = fit.1; nodes = fit.2; cost = cost_at i r e; range = subst (λ o. IsRangeFor r.cost o) (sym (no_range rules same_ranges i r e)) tt };
     ruled = rule_of;
     in_order = earlier;
   }
 
 -- the same of the lists that the tables make
-pub makes_description : (ts : List Terminal) (ns : List (List ℕ)) (rules : List Rule) → ts ≡ terminals → ns ≡ nonterminals → map row_of rules ≡ rows → map (λ r. r.cost) rules ≡ costs → IsDescription (record { terminals = ts; nonterminals = ns; start = stmt; rules = rules })
-makes_description ts ns rules e f g h =
-    subst (λ us. IsDescription (record { terminals = us; nonterminals = ns; start = stmt; rules = rules })) (sym e) (subst (λ ms. IsDescription (record { terminals = terminals; nonterminals = ms; start = stmt; rules = rules })) (sym f) (is_description rules g h))
+pub makes_description : (ts : List Terminal) (ns : List (List ℕ)) (rules : List Rule) → ts ≡ terminals → ns ≡ nonterminals → map row_of rules ≡ rows → map (λ r. r.cost) rules ≡ costs → map (λ r. r.range) rules ≡ ranges → IsDescription (record { terminals = ts; nonterminals = ns; start = stmt; rules = rules })
+makes_description ts ns rules e f g h k =
+    subst (λ us. IsDescription (record { terminals = us; nonterminals = ns; start = stmt; rules = rules })) (sym e) (subst (λ ms. IsDescription (record { terminals = terminals; nonterminals = ms; start = stmt; rules = rules })) (sym f) (is_description rules g h k))

@@ -1,7 +1,8 @@
 -- The rules of the shipped description of MIPS, a line a rule, and what each adds to the code and hands up.
 -- Source: Fraser and Hanson, A Retargetable C Compiler, chapters 14 and 16.
-use Rattle.std.specs.Prelude.{ℕ, List, [], ◌∷◌, map, codes}
+use Rattle.std.specs.Prelude.{ℕ, Option, None, List, [], ◌∷◌, map, codes}
 use Rattle.asm_text.specs.declared.instruction.BinaryOp.TheVariants.{Add, Subtract, Multiply}
+use Rattle.lburg_grammar.specs.declared.range.Range.{Range}
 use Rattle.lburg_grammar.specs.Pattern.{MPattern, PHole, PLeaf, POne, PTwo}
 use Rattle.vcode.specs.RuleSets.{Row}
 use Rattle.mips_rules.specs.declared.action.Action.{Action}
@@ -91,3 +92,7 @@ rows = map (λ l. l.row) lines
 
 abbrev pub costs : List ℕ
 costs = map (λ l. l.cost) lines
+
+-- no rule has a range
+abbrev pub ranges : List (Option Range)
+ranges = map (λ l. None) lines

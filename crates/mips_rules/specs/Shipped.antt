@@ -9,16 +9,18 @@ use Rattle.op_forest.specs.declared.op.Op.TheVariants as op
 use Rattle.op_forest.specs.Nodes.{Node, tree_of}
 use Rattle.op_forest.specs.WellFormed.{IsWellFormed, HasKinds, op_of}
 use Rattle.vcode.specs.RuleSets.{row_of}
-use Rattle.mips_rules.specs.MipsRows.{nonterminals, stmt, rows, costs}
+use Rattle.mips_rules.specs.MipsRows.{nonterminals, stmt, rows, costs, ranges}
 use Rattle.mips_rules.specs.MipsTerminals.{terminals}
 
--- the terminals, the nonterminals, the start symbol and the rules with their costs are those of the tables
+-- the terminals, the nonterminals, the start symbol and the rules with their costs are those of the tables, and no rule
+-- has a range
 pub record IsShipped (d : MDescription) : Type 0 where
   pub terminals : d.terminals ≡ terminals
   pub nonterminals : d.nonterminals ≡ nonterminals
   pub start : d.start ≡ stmt
   pub rows : map row_of d.rules ≡ rows
   pub costs : map (λ r. r.cost) d.rules ≡ costs
+  pub ranges : map (λ r. r.range) d.rules ≡ ranges
 
 -- the start symbol derives each tree that is no address alone and whose operators have what they need
 abbrev pub DerivesStatements : MDescription → Type 0

@@ -1,6 +1,7 @@
 -- What the lines of the tables stand for.
-use Rattle.std.specs.Prelude.{ℕ, List, Option}
+use Rattle.std.specs.Prelude.{ℕ, List, Option, None}
 use Rattle.std.specs.Borrow.{Bor}
+use Rattle.lburg_grammar.specs.declared.range.Range.{Range}
 use Rattle.lburg_grammar.specs.declared.terminal.Terminal.{Terminal}
 use Rattle.lburg_grammar.specs.Pattern.{MPattern, PHole, PLeaf, POne, PTwo}
 use Rattle.vcode.specs.RuleSets.{Row}
@@ -22,3 +23,7 @@ row_in line = record { left = line.left; pattern = form_pattern line.form; templ
 
 abbrev pub cost_in : RuleLine → ℕ
 cost_in line = line.cost
+
+-- no line has a range
+abbrev pub range_in : RuleLine → Option Range
+range_in line = None

@@ -1,10 +1,10 @@
 ghost use Rattle.std.specs.Prelude.{◌≡◌, ℕ, List, Option, map, IfOk};
 ghost use Rattle.lburg_grammar.specs.Pattern.{pattern_of};
 ghost use Rattle.vcode.specs.RuleSets.{row_of};
-ghost use Rattle.mips_rules.specs.MipsRows.{nonterminals, stmt, rows, costs};
+ghost use Rattle.mips_rules.specs.MipsRows.{nonterminals, stmt, rows, costs, ranges};
 ghost use Rattle.mips_rules.specs.MipsTerminals.{terminals};
 ghost use Rattle.mips_rules.specs.Shipped.{IsShipped, DerivesStatements, CoversRoots};
-ghost use Rattle.mips_rules.specs.Tables.{terminal_of, form_pattern, row_in, cost_in};
+ghost use Rattle.mips_rules.specs.Tables.{terminal_of, form_pattern, row_in, cost_in, range_in};
 
 use crate::rule_line::{Form, NONTERMINALS, RULES, RuleLine, STMT};
 use crate::terminal_line::TERMINALS;
@@ -58,6 +58,7 @@ fn pattern_in(alloc: Global, form: Form) -> Result<Pattern, Memory>
 fn rules_of(alloc: Global, lines: &[RuleLine]) -> Result<Vec<Rule>, Memory>
     ensures rows { IfOk result (λ all. map row_of all.items ≡ map row_in lines.now) }
     ensures costs { IfOk result (λ all. map (λ r. r.cost) all.items ≡ map cost_in lines.now) }
+    ensures ranges { IfOk result (λ all. map (λ r. r.range) all.items ≡ map range_in lines.now) }
 {
     let mut all = Vec::new(alloc);
     for line in lines {
@@ -66,6 +67,7 @@ fn rules_of(alloc: Global, lines: &[RuleLine]) -> Result<Vec<Rule>, Memory>
             pattern: pattern_in(alloc, line.form)?,
             template: Bytes::copied(alloc, line.template)?,
             cost: line.cost,
+            range: None,
         })?;
     }
     Ok(all)
@@ -82,6 +84,7 @@ pub fn description(alloc: Global) -> Result<Description, Memory>
     ensures start { IfOk result (λ d. d.start ≡ stmt) }
     ensures rows { IfOk result (λ d. map row_of d.rules ≡ rows) }
     ensures costs { IfOk result (λ d. map (λ r. r.cost) d.rules ≡ costs) }
+    ensures ranges { IfOk result (λ d. map (λ r. r.range) d.rules ≡ ranges) }
     ensures shipped { IfOk result (λ d. IsShipped d) }
     ensures derives { IfOk result (λ d. DerivesStatements d) }
     ensures covers { IfOk result (λ d. CoversRoots d) }

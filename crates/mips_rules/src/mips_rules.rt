@@ -1,6 +1,6 @@
 ghost use Rattle.std.specs.Prelude.{◌≡◌, map, IfOk};
 ghost use Rattle.vcode.specs.RuleSets.{row_of};
-ghost use Rattle.mips_rules.specs.MipsRows.{nonterminals, stmt, rows, costs};
+ghost use Rattle.mips_rules.specs.MipsRows.{nonterminals, stmt, rows, costs, ranges};
 ghost use Rattle.mips_rules.specs.MipsTerminals.{terminals};
 ghost use Rattle.mips_rules.specs.Shipped.{IsShipped, DerivesStatements, CoversRoots};
 
@@ -47,6 +47,7 @@ pub fn rules(alloc: Global) -> Result<MipsRules, Memory>
     ensures start { IfOk result (λ d. d.start ≡ stmt) }
     ensures rows { IfOk result (λ d. map row_of d.rules ≡ rows) }
     ensures costs { IfOk result (λ d. map (λ r. r.cost) d.rules ≡ costs) }
+    ensures ranges { IfOk result (λ d. map (λ r. r.range) d.rules ≡ ranges) }
     ensures shipped { IfOk result (λ d. IsShipped d) }
     ensures derives { IfOk result (λ d. DerivesStatements d) }
     ensures covers { IfOk result (λ d. CoversRoots d) }

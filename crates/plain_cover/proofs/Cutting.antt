@@ -3,7 +3,8 @@ use Rattle.std.proofs.Common.{◌≡◌, ℕ, zero, suc, ◌+◌, ◌<◌, ◌�
 use Rattle.std.specs.Prelude.{eqb, slice_get}
 use Rattle.std.proofs.lemmas.Bool.{eqb-true, eq-eqb, cases_lt}
 use Rattle.lburg_grammar.specs.declared.rule.Rule.{Rule}
-use Rattle.lburg_grammar.specs.Tree.{MTree}
+use Rattle.lburg_grammar.specs.Range.{IsMet}
+use Rattle.lburg_grammar.specs.Tree.{MTree, value_of}
 use Rattle.lburg_grammar.specs.Pattern.{MPattern, PHole, PLeaf, POne, PTwo, Goal, pattern_of, goals_at}
 use Rattle.lburg_grammar.specs.Derivation.{MDerivation, MParts, Apply, NoPart, Part, Derives, DeriveEach, cost, costs, count, counts}
 use Rattle.plain_cover.specs.Height.{height, tallest}
@@ -136,10 +137,11 @@ module _ (rules : List Rule) (q : ℕ) (lefts : (i : ℕ) (r : Rule) → slice_g
     number : a ≡ i + 1
     is : slice_get rules i ≡ Some r
     left : r.left ≡ n
+    met : IsMet r.range (value_of t)
     fits : goals_at (pattern_of r.pattern) t ≡ Some goals
 
   derived : (n : ℕ) (t : MTree) (a i : ℕ) (r : Rule) (goals : List Goal) (parts : MParts) → Uses n t a i r goals → DeriveEach rules goals parts → Derives rules n t (Apply a parts)
-  derived n t a i r goals parts u each = (i, r, goals, u.number, u.is, u.left, u.fits, each)
+  derived n t a i r goals parts u each = (i, r, goals, u.number, u.is, u.left, u.met, u.fits, each)
 
   n_low : (n : ℕ) (t : MTree) (a i : ℕ) (r : Rule) (goals : List Goal) → Uses n t a i r goals → n < q
   n_low n t a i r goals u = let h = lefts i r u.is in let e = u.left in omega arith
@@ -184,7 +186,7 @@ module _ (rules : List Rule) (q : ℕ) (lefts : (i : ℕ) (r : Rule) → slice_g
   walked (suc m) n t seen (Apply a parts) h d =
       ⊎_elim
       (λ e. inr (record { n = n; was_seen = e; at = Apply a parts; derives = d; cheap = omega arith; short = omega arith }))
-      (λ e. by_pattern m (walked m) n t seen a d.0 d.1 d.2 parts (pattern_of d.1.pattern) d.6 (record { number = d.3; is = d.4; left = d.5; fits = d.6 }) e (omega arith) d.7)
+      (λ e. by_pattern m (walked m) n t seen a d.0 d.1 d.2 parts (pattern_of d.1.pattern) d.7 (record { number = d.3; is = d.4; left = d.5; met = d.6; fits = d.7 }) e (omega arith) d.8)
       (two (seen n))
 
   -- each derivation has one that is no deeper than the tree's room, and no worse

@@ -1,11 +1,9 @@
 -- Derivations of one nonterminal at one tree are in order.
-use Rattle.std.proofs.Common.{◌≡◌, ℕ, ◌<◌, ◌≤◌, inl, inr, ⊎_elim, Some, List, [], ◌∷◌, ◌++◌, refl, sym, ap, ◌∙◌, arith, subst, append_assoc, append-nil}
-use Rattle.std.specs.Prelude.{slice_get}
+use Rattle.std.proofs.Common.{◌≡◌, ℕ, ◌<◌, ◌≤◌, inl, inr, ⊎_elim, List, [], ◌∷◌, ◌++◌, sym, ap, ◌∙◌, arith, append-nil}
 use Rattle.std.proofs.lemmas.Bool.{cases_lt}
 use Rattle.lburg_grammar.specs.declared.rule.Rule.{Rule}
 use Rattle.lburg_grammar.specs.Tree.{MTree}
-use Rattle.lburg_grammar.specs.Pattern.{Goal, goals_at, pattern_of}
-use Rattle.lburg_grammar.specs.Derivation.{MDerivation, MParts, Apply, NoPart, Part, Derives, DeriveEach, cost, count, numbers, numbers_in}
+use Rattle.lburg_grammar.specs.Derivation.{MDerivation, Derives, cost, count, numbers}
 use Rattle.lburg_grammar.specs.Best.{Earlier}
 use Rattle.lburg_grammar.specs.Laws.{same_front}
 use Rattle.plain_cover.specs.Told.{told}

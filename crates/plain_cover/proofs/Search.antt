@@ -1,10 +1,11 @@
 -- What each step of the search finds.
-use Rattle.std.proofs.Common.{◌≡◌, ℕ, ◌+◌, ◌-◌, ◌<◌, ◌≤◌, ◌≢◌, Option, Some, None, List, [], ◌∷◌, ◌++◌, length, refl, sym, ap, ◌∙◌, arith, subst, inl, inr, ◌⊎◌, ⊎_elim}
+use Rattle.std.proofs.Common.{◌≡◌, ℕ, ◌+◌, ◌-◌, ◌<◌, ◌≤◌, Option, Some, None, List, [], ◌∷◌, ◌++◌, length, refl, sym, ap, ◌∙◌, arith, subst, inl, inr, ◌⊎◌, ⊎_elim}
 use Rattle.std.specs.Prelude.{eqb, slice_get, if◌then◌else◌, Result, Ok, Err, IfOk}
 use Rattle.std.proofs.lemmas.Bool.{eq-eqb, cases_lt}
 use Rattle.std.proofs.lemmas.Option.{slice_get_within}
 use Rattle.lburg_grammar.specs.declared.rule.Rule.{Rule}
-use Rattle.lburg_grammar.specs.Tree.{MTree, TLeaf, TOne, TTwo, op_of, kids_of}
+use Rattle.lburg_grammar.specs.Tree.{MTree, TLeaf, TOne, TTwo, op_of, kids_of, value_of}
+use Rattle.lburg_grammar.specs.Range.{IsMet}
 use Rattle.lburg_grammar.specs.Pattern.{MPattern, PHole, PLeaf, POne, PTwo, Goal, joined, goals_at, pattern_of}
 use Rattle.lburg_grammar.specs.Derivation.{MDerivation, MParts, Apply, NoPart, Part, Derives, DeriveEach, cost_of, costs, counts, numbers_in}
 use Rattle.plain_cover.specs.declared.plain.Found.{Found}
@@ -146,11 +147,12 @@ module _ (rules : List Rule) where
     parts : MParts
     is : x ≡ Apply (i + 1) parts
     left : r.left ≡ n
+    met : IsMet r.range (value_of t)
     within : PartsWithin rules (pattern_of r.pattern) t h parts
 
   applies : (i : ℕ) (r : Rule) (n : ℕ) (t : MTree) (h : ℕ) (x : MDerivation) → slice_get rules i ≡ Some r → WithinBy rules n t (h + 1) (i + 1) x → Applies i r n t h x
   applies i r n t h (Apply a xs) at ((d, l), e) =
-      let (j, s, goals, number, is, left, fits, each) = d in
+      let (j, s, goals, number, is, left, met, fits, each) = d in
       let ij : j ≡ i = omega arith in
       let f : Some s ≡ Some r = sym is ∙ ap (slice_get rules) ij ∙ at in
       let rs : s ≡ r = cc in
@@ -158,6 +160,7 @@ module _ (rules : List Rule) where
         parts = xs;
         is = ap (λ (z : ℕ). Apply z xs) e;
         left = ap (λ (z : Rule). z.left) (sym rs) ∙ left;
+        met = subst (λ (z : Rule). IsMet z.range (value_of t)) rs met;
         within = record { goals = goals; fits = ap (λ (z : Rule). goals_at (pattern_of z.pattern) t) (sym rs) ∙ fits; each = each; low = omega arith };
       }
 
@@ -167,17 +170,17 @@ module _ (rules : List Rule) where
       let f : cost_of (slice_get rules (i + 1 - 1)) ≡ r.cost = ap (λ (k : ℕ). cost_of (slice_get rules k)) e ∙ ap cost_of at in
       ap (λ (k : ℕ). let z : Found = record { cost = k + costs rules xs; count = 1 + counts xs; numbers = (i + 1) ∷ numbers_in xs } in z) f
 
-  pub by_other : (i : ℕ) (r : Rule) (n : ℕ) (t : MTree) (h : ℕ) → slice_get rules i ≡ Some r → r.left ≢ n → IsLeastOf (told rules) (WithinBy rules n t (h + 1) (i + 1)) None
-  by_other i r n t h at other = λ x w. other (applies i r n t h x at w).left
+  pub by_other : (i : ℕ) (r : Rule) (n : ℕ) (t : MTree) (h : ℕ) → slice_get rules i ≡ Some r → ((r.left ≡ n) × IsMet r.range (value_of t) → ⊥) → IsLeastOf (told rules) (WithinBy rules n t (h + 1) (i + 1)) None
+  by_other i r n t h at other = λ x w. let a = applies i r n t h x at w in other (a.left, a.met)
 
   pub by_none : (i : ℕ) (r : Rule) (n : ℕ) (t : MTree) (h : ℕ) → slice_get rules i ≡ Some r → LeastParts (pattern_of r.pattern) t h None → IsLeastOf (told rules) (WithinBy rules n t (h + 1) (i + 1)) None
   by_none i r n t h at none = λ x w. let a = applies i r n t h x at w in none a.parts a.within
 
-  pub by_some : (i : ℕ) (r : Rule) (n : ℕ) (t : MTree) (h : ℕ) (f : Found) → slice_get rules i ≡ Some r → r.left ≡ n → LeastParts (pattern_of r.pattern) t h (Some f) → IsLeastOf (told rules) (WithinBy rules n t (h + 1) (i + 1)) (Some (told_of_rule (i + 1) r.cost f))
-  by_some i r n t h f at left (xs, w, e, others) =
+  pub by_some : (i : ℕ) (r : Rule) (n : ℕ) (t : MTree) (h : ℕ) (f : Found) → slice_get rules i ≡ Some r → r.left ≡ n → IsMet r.range (value_of t) → LeastParts (pattern_of r.pattern) t h (Some f) → IsLeastOf (told rules) (WithinBy rules n t (h + 1) (i + 1)) (Some (told_of_rule (i + 1) r.cost f))
+  by_some i r n t h f at left met (xs, w, e, others) =
       let l = w.low in (
         Apply (i + 1) xs,
-        (((i, r, w.goals, refl, at, left, w.fits, w.each), omega arith), refl),
+        (((i, r, w.goals, refl, at, left, met, w.fits, w.each), omega arith), refl),
         ap (told_of_rule (i + 1) r.cost) e ∙ sym (rule_told i r xs at),
         λ y v.
             let a = applies i r n t h y at v in
@@ -192,7 +195,7 @@ module _ (rules : List Rule) where
   within_none n t = λ x w. let h = high x in let l = w.1 in absurd (omega arith)
 
   number_low : (n : ℕ) (t : MTree) (x : MDerivation) → Derives rules n t x → (1 ≤ number_of x) × (number_of x ≤ length rules)
-  number_low n t (Apply a xs) (i, r, goals, number, is, left, fits, each) = let h = slice_get_within rules i r is in (omega arith, omega arith)
+  number_low n t (Apply a xs) (i, r, goals, number, is, left, met, fits, each) = let h = slice_get_within rules i r is in (omega arith, omega arith)
 
   pub first_none : (n : ℕ) (t : MTree) (h : ℕ) → IsLeastOf (told rules) (WithinFirst rules n t h 0) None
   first_none n t h = λ x w. let l = w.1 in let m = number_low n t x w.0.0 in absurd (omega arith)

@@ -69,7 +69,7 @@ module _ (rules : List Rule) where
 
   counted : (h : ℕ) → Counted h
   counted zero n t (Apply a xs) d l = absurd (omega arith)
-  counted (suc h) n t (Apply a xs) (i, r, goals, number, is, left, fits, each) l =
+  counted (suc h) n t (Apply a xs) (i, r, goals, number, is, left, met, fits, each) l =
       let a = pattern_counted h (counted h) (pattern_of r.pattern) t goals xs fits each (omega arith) in
       let b = nodes_pos t in
       omega arith

@@ -1,5 +1,6 @@
 ghost use Rattle.std.specs.Prelude.{◌≡◌, ℕ, ◌+◌, ◌*◌, ◌^◌, ◌<◌, ◌≤◌, ◌↔◌, IsTrue, length, IfOk, IfSome, IfNone, slice_get};
-ghost use Rattle.lburg_grammar.specs.Tree.{MTree, nodes, op_of, kids_of};
+ghost use Rattle.lburg_grammar.specs.Tree.{MTree, nodes, op_of, kids_of, value_of};
+ghost use Rattle.lburg_grammar.specs.Range.{IsMet};
 ghost use Rattle.lburg_grammar.specs.Pattern.{pattern_of, pattern_nodes};
 ghost use Rattle.lburg_grammar.specs.Derivation.{MDerivation};
 ghost use Rattle.lburg_grammar.specs.Best.{Earlier, IsBest, HasNone};
@@ -119,6 +120,14 @@ fn is_node<N: TreeNode>(tree: &N, op: u16, arity: usize) -> bool
     tree.op() == op && tree.arity() == arity
 }
 
+// Whether the rule derives the nonterminal, and its range, if it has one, contains the constant of
+// the tree's node.
+fn is_for<N: TreeNode>(rule: &Rule, nonterminal: u16, tree: &N) -> bool
+    ensures { IsTrue result ↔ ((rule.now.left ≡ nonterminal) × IsMet rule.now.range (value_of (N.tree tree.now))) }
+{
+    rule.left == nonterminal && rule.applies(tree.value())
+}
+
 // The best parts for a pattern's nonterminals, where rules are nested no deeper than this.
 #[cycle(search)]
 fn best_parts<N: TreeNode>(
@@ -182,7 +191,7 @@ fn best_by<N: TreeNode>(
     ensures { IfOk result (λ o. IsLeastOf (told rules.now) (WithinBy rules.now nonterminal (N.tree tree.now) (height + 1) (place + 1)) o) }
 {
     let rule = &rules[place];
-    if rule.left != nonterminal {
+    if !is_for(rule, nonterminal, tree) {
         return Ok(None);
     }
     match best_parts(alloc, rules, &rule.pattern, tree, height)? {

@@ -1,6 +1,6 @@
 -- The closing of a row, a cell at a time.
 use Rattle.std.proofs.Common.{◌≡◌, ◌≢◌, ℕ, zero, suc, ◌+◌, ◌<◌, ◌≤◌, ◌⊎◌, inl, inr, ⊎_elim, Option, Some, None, List, [], ◌∷◌, length, refl, sym, ap, ◌∙◌, subst, arith, length-set, true, false, get_or, Bool}
-use Rattle.std.specs.Prelude.{slice_set, cond, ◌==◌, if◌then◌else◌}
+use Rattle.std.specs.Prelude.{slice_set, ℤ, cond, ◌==◌, if◌then◌else◌}
 use Rattle.std.proofs.lemmas.Bool.Decides.{eqb_tells}
 use Rattle.std.proofs.lemmas.List.{get_or-set_other}
 use Rattle.lburg_grammar.specs.Pattern.{MPattern, PHole, PLeaf, POne, PTwo, pattern_of}
@@ -89,17 +89,17 @@ abbrev pub finish : Cell → Cell
 finish c = record { cost = c.cost; count = c.count; rule = c.rule; done = true }
 
 -- the row while it is closed: chain rules were tried on the cells that are done, and none that is not is less than one that is
-pub record Closing (rules : List Rule) (old row : List (Option Cell)) : Type 0 where
+pub record Closing (rules : List Rule) (constant : Option ℤ) (old row : List (Option Cell)) : Type 0 where
   pub same_length : length row ≡ length old
   pub lower : (n : ℕ) (b : Cell) → CellAt old n b → (c : Cell) × CellAt row n c × Leq_cells c b
-  pub made : (n : ℕ) (c : Cell) → CellAt row n c → ((b : Cell) × CellAt old n b × Same c b) ⊎ ((f : FromChain rules row n c) × (f.cell.done ≡ true))
-  pub closed : (j : ℕ) (r : Rule) (m : ℕ) (b : Cell) → IsChain rules j m r → CellAt row m b → b.done ≡ true → (c : Cell) × CellAt row r.left c × Leq_cells c (made_from b j r)
+  pub made : (n : ℕ) (c : Cell) → CellAt row n c → ((b : Cell) × CellAt old n b × Same c b) ⊎ ((f : FromChain rules constant row n c) × (f.cell.done ≡ true))
+  pub closed : (j : ℕ) (r : Rule) (m : ℕ) (b : Cell) → IsChain rules constant j m r → CellAt row m b → b.done ≡ true → (c : Cell) × CellAt row r.left c × Leq_cells c (made_from b j r)
   pub settled : (x : ℕ) (b : Cell) (n : ℕ) (c : Cell) → CellAt row x b → b.done ≡ true → CellAt row n c → c.done ≡ false → Leq b.cost b.count c.cost c.count
   pub many : (base : ℕ) → ((n : ℕ) (b : Cell) → CellAt old n b → b.count ≤ base) → (n : ℕ) (c : Cell) → CellAt row n c → c.count ≤ base + dones row
   pub cheap : AreCheap rules → IsCheap old → IsCheap row
 
-pub start : (rules : List Rule) (old : List (Option Cell)) → ((n : ℕ) (b : Cell) → CellAt old n b → b.done ≡ false) → Closing rules old old
-start rules old fresh = record {
+pub start : (rules : List Rule) (constant : Option ℤ) (old : List (Option Cell)) → ((n : ℕ) (b : Cell) → CellAt old n b → b.done ≡ false) → Closing rules constant old old
+start rules constant old fresh = record {
   same_length = refl;
   lower = λ n b at. (b, at, leq_refl b);
   made = λ n c at. inl (c, at, (refl, refl, refl));
@@ -109,8 +109,8 @@ start rules old fresh = record {
   cheap = λ _ h. h;
 }
 
-pub over : (rules : List Rule) (old row : List (Option Cell)) → Closing rules old row → LeastOpen row None → Closed rules old row
-over rules old row s all = record {
+pub over : (rules : List Rule) (constant : Option ℤ) (old row : List (Option Cell)) → Closing rules constant old row → LeastOpen row None → Closed rules constant old row
+over rules constant old row s all = record {
   same_length = s.same_length;
   lower = s.lower;
   made = λ n c at. ⊎_elim (λ l. inl l) (λ r. inr r.0) (s.made n c at);
@@ -119,7 +119,7 @@ over rules old row s all = record {
   cheap = s.cheap;
 }
 
-module _ (rules : List Rule) (old row : List (Option Cell)) (s : Closing rules old row) (m : ℕ) (c : Cell) (least : LeastOpen row (Some (m, c))) (row2 : List (Option Cell)) (sp : Spread rules m (finish c) (slice_set row m (Some (finish c))) row2 Everywhere) where
+module _ (rules : List Rule) (constant : Option ℤ) (old row : List (Option Cell)) (s : Closing rules constant old row) (m : ℕ) (c : Cell) (least : LeastOpen row (Some (m, c))) (row2 : List (Option Cell)) (sp : Spread rules constant m (finish c) (slice_set row m (Some (finish c))) row2 Everywhere) where
   abbrev row1 : List (Option Cell)
   row1 = slice_set row m (Some (finish c))
 
@@ -179,7 +179,7 @@ module _ (rules : List Rule) (old row : List (Option Cell)) (s : Closing rules o
       survives x b (kept row m x (finish c) b not_m at) d
 
   Origin : ℕ → Cell → Type 0
-  Origin n x = ((b : Cell) × CellAt old n b × Same x b) ⊎ ((f : FromChain rules row2 n x) × (f.cell.done ≡ true))
+  Origin n x = ((b : Cell) × CellAt old n b × Same x b) ⊎ ((f : FromChain rules constant row2 n x) × (f.cell.done ≡ true))
 
   moved : (n : ℕ) (a : Cell) → CellAt row n a → Origin n a
   unfolding Origin
@@ -212,11 +212,11 @@ module _ (rules : List Rule) (old row : List (Option Cell)) (s : Closing rules o
       (λ (j, r, ch, left, is, beats). inr (record { place = j; rule = r; from = m; cell = finish c; chain = ch; left = left; at = here2; same = (ap (λ (z : Cell). z.cost) is, ap (λ (z : Cell). z.count) is, ap (λ (z : Cell). z.rule) is) }, refl))
       (sp.made n x at)
 
-  closed2 : (j : ℕ) (r : Rule) (x : ℕ) (b : Cell) → IsChain rules j x r → CellAt row2 x b → b.done ≡ true → (z : Cell) × CellAt row2 r.left z × Leq_cells z (made_from b j r)
+  closed2 : (j : ℕ) (r : Rule) (x : ℕ) (b : Cell) → IsChain rules constant j x r → CellAt row2 x b → b.done ≡ true → (z : Cell) × CellAt row2 r.left z × Leq_cells z (made_from b j r)
   closed2 j r x b ch at d =
       ⊎_elim
       (λ e.
-      let F : ℕ → Type 0 = λ z. IsChain rules j z r in
+      let F : ℕ → Type 0 = λ z. IsChain rules constant j z r in
       let a = sp.closed j r tt (subst F e.0 ch) in
       let G : Cell → Type 0 = λ z. Leq_cells a.0 (made_from z j r) in
       (a.0, a.1, subst G (sym e.1) a.2))
@@ -317,10 +317,10 @@ module _ (rules : List Rule) (old row : List (Option Cell)) (s : Closing rules o
       (λ e. let f = ap (λ (y : Cell). y.count) e.1 in let g = ap (λ (y : Cell). y.cost) e.1 in omega arith)
       (λ e. s.cheap rc h n z e.1)
       (cell_after row m n (finish c) z in_row one))
-      (λ (j, r, ch, left, is, beats). let f = ap (λ (y : Cell). y.count) is in let g = ap (λ (y : Cell). y.cost) is in let k = rc j r ch.0 in omega arith)
+      (λ (j, r, ch, left, is, beats). let f = ap (λ (y : Cell). y.count) is in let g = ap (λ (y : Cell). y.cost) is in let k = rc j r ch.0.0 in omega arith)
       (sp.made n z at)
 
-  pub step : Closing rules old row2
+  pub step : Closing rules constant old row2
   unfolding Origin
   step = record {
     same_length = sp.same_length ∙ length-set row m (Some (finish c)) ∙ s.same_length;

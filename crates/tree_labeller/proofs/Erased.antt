@@ -34,7 +34,7 @@ each_join d (g ∷ gs) hs (Part x xs) ys a b = (a.0, each_join d gs hs xs ys a.1
 
 mutual
   pub derives : {d : List Rule} {n : ℕ} {t : MTree} (e : Derivation d n t) → Derives d n t (erase e)
-  derives (Uses i r is left parts) = (i, r, goals_for parts, refl, is, left, goals_fit parts, derive_each parts)
+  derives (Uses i r is left parts) = (i, r, goals_for parts, refl, is.0, left, is.1, goals_fit parts, derive_each parts)
 
   derive_each : {d : List Rule} {p : MPattern} {t : MTree} (x : Parts d p t) → DeriveEach d (goals_for x) (erase_in x)
   derive_each (AtHole e) = (derives e, tt)
@@ -62,7 +62,7 @@ rule_cost d i r is = ap (λ j. cost_of (slice_get d j)) (place i) ∙ ap cost_of
 
 mutual
   pub cost_kept : {d : List Rule} {n : ℕ} {t : MTree} (e : Derivation d n t) → cost d (erase e) ≡ cost_i e
-  cost_kept {d} (Uses i r is left parts) = let a = costs_kept parts in let b = rule_cost d i r is in omega arith
+  cost_kept {d} (Uses i r is left parts) = let a = costs_kept parts in let b = rule_cost d i r is.0 in omega arith
 
   costs_kept : {d : List Rule} {p : MPattern} {t : MTree} (x : Parts d p t) → costs d (erase_in x) ≡ costs_i x
   costs_kept (AtHole e) = let a = cost_kept e in omega arith
@@ -110,7 +110,7 @@ goals_there d i r t goals is fit = ap (λ j. goals_in (goals_of_rule (slice_get 
 mutual
   pub applied_kept : {d : List Rule} {n : ℕ} {t : MTree} (e : Derivation d n t) → applied d t (erase e) ≡ visits e
   applied_kept {d} {n} {t} (Uses i r is left parts) =
-      ap (λ gs. (i + 1, t) ∷ applied_in d gs (erase_in parts)) (goals_there d i r t (goals_for parts) is (goals_fit parts))
+      ap (λ gs. (i + 1, t) ∷ applied_in d gs (erase_in parts)) (goals_there d i r t (goals_for parts) is.0 (goals_fit parts))
       ∙ ap (λ z. (i + 1, t) ∷ z) (applied_in_kept parts)
 
   applied_in_kept : {d : List Rule} {p : MPattern} {t : MTree} (x : Parts d p t) → applied_in d (goals_for x) (erase_in x) ≡ visits_in x
@@ -190,10 +190,10 @@ fitted d (PTwo op p q) (TTwo op' v t u) gs parts e a =
 -- each derivation is one of an indexed one
 mutual
   pub indexed : (d : List Rule) (x : MDerivation) (n : ℕ) (t : MTree) → Derives d n t x → (e : Derivation d n t) × (erase e ≡ x)
-  indexed d (Apply number parts) n t (i, r, goals, num, is, left, fit, each) =
+  indexed d (Apply number parts) n t (i, r, goals, num, is, left, met, fit, each) =
       let a = indexed_each d parts goals each in
       let (y, same) = fitted d (pattern_of r.pattern) t goals parts fit a in
-      (Uses i r is left y, ap (λ z. Apply (i + 1) z) same ∙ ap (λ z. Apply z parts) (sym num))
+      (Uses i r (is, met) left y, ap (λ z. Apply (i + 1) z) same ∙ ap (λ z. Apply z parts) (sym num))
 
   indexed_each : (d : List Rule) (parts : MParts) (goals : List Goal) → DeriveEach d goals parts → Indexed d goals parts
   indexed_each d NoPart [] a = tt

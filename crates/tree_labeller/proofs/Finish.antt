@@ -9,10 +9,12 @@ use Rattle.tree_labeller.specs.declared.cells.Row.{Row}
 use Rattle.lburg_grammar.specs.declared.rule.Rule.{Rule}
 use Rattle.lburg_grammar.specs.declared.pattern.Pattern.{Pattern}
 use Rattle.lburg_grammar.specs.declared.pattern.Pattern.{Nonterminal, Leaf, Unary', Binary'}
+use Rattle.tree_labeller.specs.Offers.{Offers}
 use Rattle.tree_labeller.specs.Row.{CellAt, Leq3, Relaxed, Taken, Left, Closed, AreCheap, IsCheap, Everywhere, Among}
-use Rattle.lburg_grammar.specs.Tree.{MTree, TLeaf, TOne, TTwo, nodes, kids_of}
+use Rattle.lburg_grammar.specs.Tree.{MTree, TLeaf, TOne, TTwo, nodes, kids_of, value_of}
+use Rattle.lburg_grammar.specs.Range.{IsMet}
 use Rattle.lburg_grammar.specs.Pattern.{MPattern, PHole, PLeaf, POne, PTwo, pattern_of}
-use Rattle.tree_labeller.specs.Labelled.{key_of, add, nothing_used, cells_of, end_of, cell, total, area, Sound, Labelled, KidsLabelled, base_total, made_by, Started, Filled}
+use Rattle.tree_labeller.specs.Labelled.{key_of, add, nothing_used, cells_of, end_of, cell, total, area, Sound, Labelled, KidsLabelled, base_total, IsRuleTotal, made_by, Started, Filled}
 use Rattle.tree_labeller.proofs.Totals.{cell_of, fitted, added, nodes_pos, sound_of}
 use Rattle.tree_labeller.proofs.Rows.{Leq_cells, leq_trans, leq_refl, stored, write_lowers, cell_after, among_more, among_all}
 
@@ -167,7 +169,7 @@ module _ (rows : List Row) (d : List Rule) (w at : ℕ) (t : MTree) (cells0 : Li
       let f = base_bounded rows d w (pattern_of r.pattern) t at k kids tot in
       let g = ap (λ (z : Cell). z.count) eq in
       let h = ap (λ (z : Cell). z.cost) eq in
-      let m = cheap j r is in
+      let m = cheap j r is.0 in
       omega arith
 
   pub bound_fresh : (n : ℕ) (b : Cell) → CellAt cells0 n b → b.done ≡ false
@@ -182,7 +184,7 @@ other_row (x ∷ xs) (suc at) row zero ne = refl
 other_row (x ∷ xs) (suc at) row (suc i) ne = other_row xs at row i (λ e. ne (ap suc e))
 
 module _ (rows rows' : List Row) (d : List Rule) (w at : ℕ) (t : MTree) (cells0 cells : List (Option Cell)) (row : Row)
-    (kids : KidsLabelled rows d w at t) (started : Started rows d at t cells0 Everywhere) (closed : Closed d cells0 cells)
+    (kids : KidsLabelled rows d w at t) (started : Started rows d at t cells0 Everywhere) (closed : Closed d (value_of t) cells0 cells)
     (here : slice_get rows' at ≡ Some row) (is_cells : row.cells.items ≡ cells) (is_end : row.end ≡ at + nodes t)
     (others : (i : ℕ) → i ≢ at → slice_get rows' i ≡ slice_get rows i) (same : length rows' ≡ length rows)
     (cheap : AreCheap d) (wide : length cells0 ≡ w) where
@@ -192,7 +194,7 @@ module _ (rows rows' : List Row) (d : List Rule) (w at : ℕ) (t : MTree) (cells
   own_cell : (n : ℕ) → cell rows' at n ≡ slice_index_or cells n None
   own_cell n = ap (λ (o : Option Row). slice_index_or (cells_of o) n None) here ∙ ap (λ (l : List (Option Cell)). slice_index_or l n None) is_cells
 
-  made : (n : ℕ) (c : Cell) → cell rows' at n ≡ Some c → (i : ℕ) × (r : Rule) × (k : Key) × (slice_get d i ≡ Some r) × (r.left ≡ n) × (total rows' (pattern_of r.pattern) t at ≡ Some k) × (c.rule ≡ i + 1) × (c.cost ≡ r.cost + k.cost) × (c.count ≡ 1 + k.count)
+  made : (n : ℕ) (c : Cell) → cell rows' at n ≡ Some c → (i : ℕ) × (r : Rule) × (k : Key) × Offers d (value_of t) i r × (r.left ≡ n) × (total rows' (pattern_of r.pattern) t at ≡ Some k) × (c.rule ≡ i + 1) × (c.cost ≡ r.cost + k.cost) × (c.count ≡ 1 + k.count)
   made n c e =
       ⊎_elim
       (λ (b, atb, alike).
@@ -209,13 +211,13 @@ module _ (rows rows' : List Row) (d : List Rule) (w at : ℕ) (t : MTree) (cells
       (f.place, f.rule, key, f.chain.0, f.left, tot, same.2, omega arith, omega arith))
       (closed.made n c (sym (own_cell n) ∙ e))
 
-  from_base : (i : ℕ) (r : Rule) (k : Key) → slice_get d i ≡ Some r → base_total rows' (pattern_of r.pattern) t at ≡ Some k → (c : Cell) × (cell rows' at r.left ≡ Some c) × Leq3 c.cost c.count c.rule (r.cost + k.cost) (1 + k.count) (i + 1)
+  from_base : (i : ℕ) (r : Rule) (k : Key) → Offers d (value_of t) i r → base_total rows' (pattern_of r.pattern) t at ≡ Some k → (c : Cell) × (cell rows' at r.left ≡ Some c) × Leq3 c.cost c.count c.rule (r.cost + k.cost) (1 + k.count) (i + 1)
   from_base i r k is tot =
       let a = started.closed i r k tt is (sym (base_agree rows rows' (pattern_of r.pattern) t at agree) ∙ tot) in
       let b = closed.lower r.left a.0 a.1 in
       (b.0, own_cell r.left ∙ b.1, (omega arith, λ e. omega arith, λ e f. omega arith))
 
-  least : (q : Pattern) (i : ℕ) (r : Rule) (k : Key) → r.pattern ≡ q → slice_get d i ≡ Some r → total rows' (pattern_of q) t at ≡ Some k → (c : Cell) × (cell rows' at r.left ≡ Some c) × Leq3 c.cost c.count c.rule (r.cost + k.cost) (1 + k.count) (i + 1)
+  least : (q : Pattern) (i : ℕ) (r : Rule) (k : Key) → r.pattern ≡ q → Offers d (value_of t) i r → total rows' (pattern_of q) t at ≡ Some k → (c : Cell) × (cell rows' at r.left ≡ Some c) × Leq3 c.cost c.count c.rule (r.cost + k.cost) (1 + k.count) (i + 1)
   least (Nonterminal m) i r k p is tot =
       let a = cell_of (cell rows' at m) k tot in
       let b = closed.closed i r m a.0 (is, p) (sym (own_cell m) ∙ a.1) in
@@ -246,28 +248,32 @@ module _ (rows : List Row) (d : List Rule) (places : List ℕ) (at : ℕ) (t : M
   pub started_all : (cells : List (Option Cell)) → ((j : ℕ) (r : Rule) (k : Key) → slice_get d j ≡ Some r → base_total rows (pattern_of r.pattern) t at ≡ Some k → (x : ℕ) × (slice_get places x ≡ Some j)) → Started rows d at t cells (Among places (length places)) → Started rows d at t cells Everywhere
   started_all cells all s = record {
     made = s.made;
-    closed = λ j r k _ is tot. let a = all j r k is tot in s.closed j r k (among_all places j a.0 a.1) is tot;
+    closed = λ j r k _ is tot. let a = all j r k is.0 tot in s.closed j r k (among_all places j a.0 a.1) is tot;
   }
 
   same_rule : (j i : ℕ) (q r : Rule) → j ≡ i → slice_get d j ≡ Some q → slice_get d i ≡ Some r → q ≡ r
   same_rule j i q r e a b = let f = ap (slice_get d) e in let k : Some q ≡ Some r = cc in cc
 
-  pub started_skip : (cells : List (Option Cell)) (x i : ℕ) (r : Rule) → Started rows d at t cells (Among places x) → slice_get places x ≡ Some i → slice_get d i ≡ Some r → base_total rows (pattern_of r.pattern) t at ≡ None → Started rows d at t cells (Among places (x + 1))
+  pub started_skip : (cells : List (Option Cell)) (x i : ℕ) (r : Rule) → Started rows d at t cells (Among places x) → slice_get places x ≡ Some i → slice_get d i ≡ Some r → IsRuleTotal rows r t at None → Started rows d at t cells (Among places (x + 1))
   started_skip cells x i r s here is nothing = record {
     made = s.made;
     closed = λ j q k among isq tot.
         ⊎_elim
         (λ l. s.closed j q k l isq tot)
-        (λ e. let f = same_rule j i q r e isq is in let F : Rule → Type 0 = λ y. base_total rows (pattern_of y.pattern) t at ≡ Some k in let h = subst F f tot in cc)
+        (λ e.
+        let f = same_rule j i q r e isq.0 is in
+        let F : Rule → Type 0 = λ y. base_total rows (pattern_of y.pattern) t at ≡ Some k in
+        let G : Rule → Type 0 = λ y. IsMet y.range (value_of t) in
+        absurd (nothing k (subst G f isq.1) (subst F f tot)))
         (among_more places x i j here among);
   }
 
-  closed_on : (cells cells' : List (Option Cell)) (x i : ℕ) (r : Rule) (k : Key) → Started rows d at t cells (Among places x) → slice_get places x ≡ Some i → slice_get d i ≡ Some r → base_total rows (pattern_of r.pattern) t at ≡ Some k → ((n : ℕ) (b : Cell) → CellAt cells n b → (y : Cell) × CellAt cells' n y × Leq_cells y b) → ((y : Cell) × CellAt cells' r.left y × Leq_cells y (made_by k i r)) → (j : ℕ) (q : Rule) (k' : Key) → Among places (x + 1) j → slice_get d j ≡ Some q → base_total rows (pattern_of q.pattern) t at ≡ Some k' → (y : Cell) × CellAt cells' q.left y × Leq_cells y (made_by k' j q)
+  closed_on : (cells cells' : List (Option Cell)) (x i : ℕ) (r : Rule) (k : Key) → Started rows d at t cells (Among places x) → slice_get places x ≡ Some i → Offers d (value_of t) i r → base_total rows (pattern_of r.pattern) t at ≡ Some k → ((n : ℕ) (b : Cell) → CellAt cells n b → (y : Cell) × CellAt cells' n y × Leq_cells y b) → ((y : Cell) × CellAt cells' r.left y × Leq_cells y (made_by k i r)) → (j : ℕ) (q : Rule) (k' : Key) → Among places (x + 1) j → Offers d (value_of t) j q → base_total rows (pattern_of q.pattern) t at ≡ Some k' → (y : Cell) × CellAt cells' q.left y × Leq_cells y (made_by k' j q)
   closed_on cells cells' x i r k s here is tot low now j q k' among isq totq =
       ⊎_elim
       (λ l. let a = s.closed j q k' l isq totq in let b = low q.left a.0 a.1 in (b.0, b.1, leq_trans b.0 a.0 (made_by k' j q) b.2 a.2))
       (λ e.
-      let f = same_rule j i q r e isq is in
+      let f = same_rule j i q r e isq.0 is.0 in
       let F : Rule → Type 0 = λ y. base_total rows (pattern_of y.pattern) t at ≡ Some k' in
       let h = subst F f totq in
       let kk : k ≡ k' = cc in
@@ -278,7 +284,7 @@ module _ (rows : List Row) (d : List Rule) (places : List ℕ) (at : ℕ) (t : M
       subst G3 (sym f) (subst G2 (sym e) (subst G1 kk now)))
       (among_more places x i j here among)
 
-  pub started_take : (cells : List (Option Cell)) (x i : ℕ) (r : Rule) (k : Key) (cells' : List (Option Cell)) → Started rows d at t cells (Among places x) → slice_get places x ≡ Some i → slice_get d i ≡ Some r → base_total rows (pattern_of r.pattern) t at ≡ Some k → r.left < length cells → Relaxed cells r.left (made_by k i r) cells' → Started rows d at t cells' (Among places (x + 1))
+  pub started_take : (cells : List (Option Cell)) (x i : ℕ) (r : Rule) (k : Key) (cells' : List (Option Cell)) → Started rows d at t cells (Among places x) → slice_get places x ≡ Some i → Offers d (value_of t) i r → base_total rows (pattern_of r.pattern) t at ≡ Some k → r.left < length cells → Relaxed cells r.left (made_by k i r) cells' → Started rows d at t cells' (Among places (x + 1))
   started_take cells x i r k cells' s here is tot h (Left b atb le) = record {
     made = s.made;
     closed = closed_on cells cells x i r k s here is tot (λ n b at. (b, at, leq_refl b)) (b, atb, le);

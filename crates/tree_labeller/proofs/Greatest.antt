@@ -77,7 +77,7 @@ module _ (rows : List Row) (d : List Rule) (w : ℕ) where
         (λ lt. inr (ByRules e1 e2 (inl lt)))
         (λ ge.
         let ij : i ≡ j = omega arith in
-        let rs : r ≡ s = (let g : Some r ≡ Some s = sym is ∙ ap (slice_get d) ij ∙ is' in cc) in
+        let rs : r ≡ s = (let g : Some r ≡ Some s = sym is.0 ∙ ap (slice_get d) ij ∙ is'.0 in cc) in
         headed (j + 1) (i + 1) s.cost r.cost _ _ _ _ _ _ (omega arith) (ap (λ (z : Rule). z.cost) (sym rs)) (best_in x y (ap (λ (z : Rule). pattern_of z.pattern) rs) te at fair rest))
         (cases_lt (j + 1) (i + 1)))
 

@@ -17,3 +17,4 @@ pub mod Taken
 pub mod Values
 pub mod Listed
 pub mod Kept
+pub mod TwoRules

@@ -1,10 +1,11 @@
 -- Rows of cells.
 use Rattle.std.proofs.Common.{◌≡◌, ◌≢◌, ℕ, zero, suc, ◌+◌, ◌<◌, ◌≤◌, ◌⊎◌, inl, inr, ⊎_elim, Option, Some, None, List, [], ◌∷◌, length, sym, ap, ◌∙◌, subst, arith, length-set}
-use Rattle.std.specs.Prelude.{slice_get, slice_set}
+use Rattle.std.specs.Prelude.{slice_get, slice_set, ℤ}
 use Rattle.std.proofs.lemmas.Bool.{cases_lt}
 use Rattle.std.proofs.lemmas.Option.{slice_get_within}
 use Rattle.std.proofs.lemmas.Bool.Decides.{eqb_tells}
 use Rattle.std.proofs.lemmas.List.{get_or-set_same, get_or-set_other}
+use Rattle.lburg_grammar.specs.Range.{IsMet}
 use Rattle.tree_labeller.specs.declared.cells.Cell.{Cell}
 use Rattle.lburg_grammar.specs.declared.rule.Rule.{Rule}
 use Rattle.tree_labeller.specs.Row.{CellAt, Relaxed, Taken, Left, Leq3, LeastOpen, LeastUpto, IsChain, made_from, Beats, Spread, Among, Everywhere}
@@ -77,9 +78,9 @@ among_none places j (x, lt, at) = absurd (omega arith)
 pub among_all : (places : List ℕ) (j k : ℕ) → slice_get places k ≡ Some j → Among places (length places) j
 among_all places j k at = (k, slice_get_within places k j at, at)
 
-module _ (rules : List Rule) (places : List ℕ) (m : ℕ) (from : Cell) (old : List (Option Cell)) where
+module _ (rules : List Rule) (constant : Option ℤ) (places : List ℕ) (m : ℕ) (from : Cell) (old : List (Option Cell)) where
   -- all of them are all that there are
-  pub spread_all : (row : List (Option Cell)) → ((j : ℕ) (r : Rule) → IsChain rules j m r → (k : ℕ) × (slice_get places k ≡ Some j)) → Spread rules m from old row (Among places (length places)) → Spread rules m from old row Everywhere
+  pub spread_all : (row : List (Option Cell)) → ((j : ℕ) (r : Rule) → IsChain rules constant j m r → (k : ℕ) × (slice_get places k ≡ Some j)) → Spread rules constant m from old row (Among places (length places)) → Spread rules constant m from old row Everywhere
   spread_all row all s = record {
     same_length = s.same_length;
     lower = s.lower;
@@ -88,10 +89,10 @@ module _ (rules : List Rule) (places : List ℕ) (m : ℕ) (from : Cell) (old : 
   }
 
   -- the rule at its place is one
-  one_rule : (j i : ℕ) (q r : Rule) → j ≡ i → IsChain rules j m q → IsChain rules i m r → q ≡ r
-  one_rule j i q r e a b = let f = ap (slice_get rules) e in let g = a.0 in let h = b.0 in let k : Some q ≡ Some r = cc in cc
+  one_rule : (j i : ℕ) (q r : Rule) → j ≡ i → IsChain rules constant j m q → IsChain rules constant i m r → q ≡ r
+  one_rule j i q r e a b = let f = ap (slice_get rules) e in let g = a.0.0 in let h = b.0.0 in let k : Some q ≡ Some r = cc in cc
 
-  closed_on : (row row' : List (Option Cell)) (k i : ℕ) (r : Rule) → Spread rules m from old row (Among places k) → slice_get places k ≡ Some i → IsChain rules i m r → ((n : ℕ) (b : Cell) → CellAt row n b → (x : Cell) × CellAt row' n x × Leq_cells x b) → ((x : Cell) × CellAt row' r.left x × Leq_cells x (made_from from i r)) → (j : ℕ) (q : Rule) → Among places (k + 1) j → IsChain rules j m q → (x : Cell) × CellAt row' q.left x × Leq_cells x (made_from from j q)
+  closed_on : (row row' : List (Option Cell)) (k i : ℕ) (r : Rule) → Spread rules constant m from old row (Among places k) → slice_get places k ≡ Some i → IsChain rules constant i m r → ((n : ℕ) (b : Cell) → CellAt row n b → (x : Cell) × CellAt row' n x × Leq_cells x b) → ((x : Cell) × CellAt row' r.left x × Leq_cells x (made_from from i r)) → (j : ℕ) (q : Rule) → Among places (k + 1) j → IsChain rules constant j m q → (x : Cell) × CellAt row' q.left x × Leq_cells x (made_from from j q)
   closed_on row row' k i r s here ch low now j q among chq =
       ⊎_elim
       (λ l. let a = s.closed j q l chq in let b = low q.left a.0 a.1 in (b.0, b.1, leq_trans b.0 a.0 (made_from from j q) b.2 a.2))
@@ -103,7 +104,24 @@ module _ (rules : List Rule) (places : List ℕ) (m : ℕ) (from : Cell) (old : 
       subst H (sym f) (subst G (sym e) now))
       (among_more places k i j here among)
 
-  pub spread_chain : (row : List (Option Cell)) (k i : ℕ) (r : Rule) (row' : List (Option Cell)) → Spread rules m from old row (Among places k) → slice_get places k ≡ Some i → IsChain rules i m r → r.left < length row → Relaxed row r.left (made_from from i r) row' → Spread rules m from old row' (Among places (k + 1))
+  -- a rule that doesn't apply makes nothing
+  pub spread_skip : (row : List (Option Cell)) (k i : ℕ) (r : Rule) → Spread rules constant m from old row (Among places k) → slice_get places k ≡ Some i → slice_get rules i ≡ Some r → (IsMet r.range constant → ⊥) → Spread rules constant m from old row (Among places (k + 1))
+  spread_skip row k i r s here is unmet = record {
+    same_length = s.same_length;
+    lower = s.lower;
+    made = s.made;
+    closed = λ j q among ch.
+        ⊎_elim
+        (λ l. s.closed j q l ch)
+        (λ e.
+        let at = ch.0.0 in
+        let there = ap (slice_get rules) e in
+        let f : q ≡ r = (let g : Some q ≡ Some r = cc in cc) in
+        absurd (unmet (subst (λ (z : Rule). IsMet z.range constant) f ch.0.1)))
+        (among_more places k i j here among);
+  }
+
+  pub spread_chain : (row : List (Option Cell)) (k i : ℕ) (r : Rule) (row' : List (Option Cell)) → Spread rules constant m from old row (Among places k) → slice_get places k ≡ Some i → IsChain rules constant i m r → r.left < length row → Relaxed row r.left (made_from from i r) row' → Spread rules constant m from old row' (Among places (k + 1))
   spread_chain row k i r row' s here ch h (Left b at le) = record {
     same_length = s.same_length;
     lower = s.lower;

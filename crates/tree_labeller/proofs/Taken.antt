@@ -6,7 +6,9 @@ use Rattle.tree_labeller.specs.declared.cells.Cell.{Cell}
 use Rattle.tree_labeller.specs.declared.cells.Key.{Key}
 use Rattle.tree_labeller.specs.declared.cells.Row.{Row}
 use Rattle.lburg_grammar.specs.declared.rule.Rule.{Rule}
-use Rattle.lburg_grammar.specs.Tree.{MTree, TLeaf, TOne, TTwo, nodes, kids_of}
+use Rattle.lburg_grammar.specs.Tree.{MTree, TLeaf, TOne, TTwo, nodes, kids_of, value_of}
+use Rattle.lburg_grammar.specs.Range.{IsMet}
+use Rattle.tree_labeller.specs.Offers.{Offers}
 use Rattle.lburg_grammar.specs.Pattern.{MPattern, PHole, PLeaf, POne, PTwo, pattern_of}
 use Rattle.tree_labeller.specs.Indexed.{Derivation, Parts, Uses, AtHole, AtLeaf, AtOne, AtTwo, costs, counts}
 use Rattle.tree_labeller.specs.Labelled.{key_of, add, nothing_used, cell, total, Labelled}
@@ -33,7 +35,7 @@ module _ (rows : List Row) (d : List Rule) where
 
   -- the rule of this number with these parts is a derivation that follows the cells
   abbrev pub Follower : (n : ℕ) (t : MTree) (at number : ℕ) (r : Rule) → Parts d (pattern_of r.pattern) t → Type 0
-  Follower n t at number r x = (i : ℕ) × (is : slice_get d i ≡ Some r) × (left : r.left ≡ n) × (number ≡ i + 1) × Follows rows d (Uses i r is left x) at
+  Follower n t at number r x = (i : ℕ) × (is : Offers d (value_of t) i r) × (left : r.left ≡ n) × (number ≡ i + 1) × Follows rows d (Uses i r is left x) at
 
   pub follower : (w n : ℕ) (t : MTree) (at number : ℕ) (r : Rule) (x : Parts d (pattern_of r.pattern) t) → Labelled rows d w at t → cell rows at n ≢ None → Chosen rows d n t at number → slice_get d (number - 1) ≡ Some r → Some (record { cost = costs x; count = counts x }) ≡ total rows (pattern_of r.pattern) t at → FollowIn rows d x at → Follower n t at number r x
   follower w n t at number r x l some ch is tot fol = by_cell (cell rows at n) refl
@@ -45,6 +47,7 @@ module _ (rows : List Row) (d : List Rule) where
           let num = ch.is_rule c e in
           let j : number - 1 ≡ i = omega arith in
           let f = ap (slice_get d) j in
+          let there = isq.0 in
           let qr : q ≡ r = (let g : Some q ≡ Some r = cc in cc) in
           let F : Rule → Type 0 = λ z. total rows (pattern_of z.pattern) t at ≡ Some k in
           let h = subst F qr totq in
@@ -53,7 +56,7 @@ module _ (rows : List Row) (d : List Rule) where
           let k2 = ap (λ (z : Key). z.count) ks in
           let rc = ap (λ (z : Rule). z.cost) qr in
           let rl = ap (λ (z : Rule). z.left) qr in
-          let isr : slice_get d i ≡ Some r = isq ∙ ap Some qr in
+          let isr : Offers d (value_of t) i r = (isq.0 ∙ ap Some qr, subst (λ (z : Rule). IsMet z.range (value_of t)) qr isq.1) in
           let ni : number ≡ i + 1 = omega arith in
           (i, isr, sym rl ∙ left, ni, (c, e, rule, omega arith, omega arith, fol))
 

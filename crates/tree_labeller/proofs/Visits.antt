@@ -25,7 +25,8 @@ some_not_none o x e f = cc
 pub chosen_of : (rows : List Row) (d : List Rule) (w n : ℕ) (t : MTree) (at : ℕ) (c : Cell) → Labelled rows d w at t → cell rows at n ≡ Some c → Chosen rows d n t at c.rule
 chosen_of rows d w n t at c l e =
     let (i, r, k, is, left, tot, rule, of, many) = (sound_of rows d w at t l).fair.made n c e in
-    let inside = slice_get_within d i r is in
+    let there = is.0 in
+    let inside = slice_get_within d i r there in
     let same : (q : Rule) → slice_get d (c.rule - 1) ≡ Some q → r ≡ q = λ q eq. (let j : c.rule - 1 ≡ i = omega arith in let f = ap (slice_get d) j in let g : Some r ≡ Some q = cc in cc) in
     record {
       first = omega arith;
@@ -34,7 +35,7 @@ chosen_of rows d w n t at c l e =
       fits = λ q eq. (let P : Rule → Type 0 = λ z. total rows (pattern_of z.pattern) t at ≢ None in subst P (same q eq) (some_not_none _ k tot));
       smaller = λ q eq. (
           let P : Rule → Type 0 = λ z. key_count (total rows (pattern_of z.pattern) t at) * biggest d + pattern_size (pattern_of z.pattern) < cell_count (cell rows at n) * biggest d in
-          let small = size_below d i r is in
+          let small = size_below d i r there in
           let kc = ap key_count tot in
           let cn = ap cell_count e in
           let B = biggest d in

@@ -1,15 +1,16 @@
 -- Derivations as families over the nonterminal and the tree, for proofs by recursion on both.
-use Rattle.std.specs.Prelude.{◌≡◌, ℕ, ◌+◌, ◌<◌, ◌⊎◌, Option, Some, ℤ, List, [], ◌∷◌, ◌++◌, slice_get}
+use Rattle.std.specs.Prelude.{◌≡◌, ℕ, ◌+◌, ◌<◌, ◌⊎◌, Option, ℤ, List, [], ◌∷◌, ◌++◌}
 use Rattle.lburg_grammar.specs.Best.{Earlier}
-use Rattle.lburg_grammar.specs.Tree.{MTree, TLeaf, TOne, TTwo}
+use Rattle.lburg_grammar.specs.Tree.{MTree, TLeaf, TOne, TTwo, value_of}
 use Rattle.lburg_grammar.specs.Pattern.{MPattern, PHole, PLeaf, POne, PTwo, pattern_of}
 use Rattle.lburg_grammar.specs.declared.rule.Rule.{Rule}
+use Rattle.tree_labeller.specs.Offers.{Offers}
 use Rattle.lburg_grammar.specs.Derivation.{MDerivation, MParts, Apply, NoPart, Part}
 
 mutual
-  -- a derivation of the nonterminal n at the tree t: a rule, and parts for its pattern
+  -- a derivation of the nonterminal n at the tree t: a rule that applies, and parts for its pattern
   pub data Derivation (d : List Rule) : ℕ → MTree → Type 0 where
-    Uses : {n : ℕ} {t : MTree} (i : ℕ) (r : Rule) → slice_get d i ≡ Some r → r.left ≡ n → Parts d (pattern_of r.pattern) t → Derivation d n t
+    Uses : {n : ℕ} {t : MTree} (i : ℕ) (r : Rule) → Offers d (value_of t) i r → r.left ≡ n → Parts d (pattern_of r.pattern) t → Derivation d n t
 
   -- the pattern fits the tree, with a derivation of each of its nonterminals at the subtree that it meets
   pub data Parts (d : List Rule) : MPattern → MTree → Type 0 where

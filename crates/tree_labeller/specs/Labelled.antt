@@ -4,8 +4,10 @@ use Rattle.tree_labeller.specs.declared.cells.Cell.{Cell}
 use Rattle.tree_labeller.specs.declared.cells.Key.{Key}
 use Rattle.tree_labeller.specs.declared.cells.Row.{Row}
 use Rattle.lburg_grammar.specs.declared.rule.Rule.{Rule}
+use Rattle.tree_labeller.specs.Offers.{Offers}
 use Rattle.tree_labeller.specs.Row.{Leq3, CellAt, Closed, Everywhere}
-use Rattle.lburg_grammar.specs.Tree.{MTree, TLeaf, TOne, TTwo, nodes}
+use Rattle.lburg_grammar.specs.Range.{IsMet}
+use Rattle.lburg_grammar.specs.Tree.{MTree, TLeaf, TOne, TTwo, nodes, value_of}
 use Rattle.lburg_grammar.specs.Pattern.{MPattern, PHole, PLeaf, POne, PTwo, pattern_of}
 
 abbrev pub key_of : Option Cell → Option Key
@@ -51,10 +53,10 @@ area w (TLeaf op v) = w
 area w (TOne op v a) = area w a + w
 area w (TTwo op v a b) = area w a + area w b + w
 
--- each cell comes of a rule, and no rule gives less than the cell
+-- each cell comes of a rule that applies, and no rule that applies gives less than the cell
 pub record FairRow (rows : List Row) (d : List Rule) (at : ℕ) (t : MTree) : Type 0 where
-  pub made : (n : ℕ) (c : Cell) → cell rows at n ≡ Some c → (i : ℕ) × (r : Rule) × (k : Key) × (slice_get d i ≡ Some r) × (r.left ≡ n) × (total rows (pattern_of r.pattern) t at ≡ Some k) × (c.rule ≡ i + 1) × (c.cost ≡ r.cost + k.cost) × (c.count ≡ 1 + k.count)
-  pub closed : (i : ℕ) (r : Rule) (k : Key) → slice_get d i ≡ Some r → total rows (pattern_of r.pattern) t at ≡ Some k → (c : Cell) × (cell rows at r.left ≡ Some c) × Leq3 c.cost c.count c.rule (r.cost + k.cost) (1 + k.count) (i + 1)
+  pub made : (n : ℕ) (c : Cell) → cell rows at n ≡ Some c → (i : ℕ) × (r : Rule) × (k : Key) × Offers d (value_of t) i r × (r.left ≡ n) × (total rows (pattern_of r.pattern) t at ≡ Some k) × (c.rule ≡ i + 1) × (c.cost ≡ r.cost + k.cost) × (c.count ≡ 1 + k.count)
+  pub closed : (i : ℕ) (r : Rule) (k : Key) → Offers d (value_of t) i r → total rows (pattern_of r.pattern) t at ≡ Some k → (c : Cell) × (cell rows at r.left ≡ Some c) × Leq3 c.cost c.count c.rule (r.cost + k.cost) (1 + k.count) (i + 1)
 
 -- what holds of one row
 pub record Sound (rows : List Row) (d : List Rule) (w : ℕ) (at : ℕ) (t : MTree) : Type 0 where
@@ -92,14 +94,19 @@ base_total rows (PLeaf op) t at = total rows (PLeaf op) t at
 base_total rows (POne op p) t at = total rows (POne op p) t at
 base_total rows (PTwo op p q) t at = total rows (PTwo op p q) t at
 
+-- the total of a rule's pattern that is no nonterminal alone, where the rule applies
+abbrev pub IsRuleTotal : List Row → Rule → MTree → ℕ → Option Key → Type 0
+IsRuleTotal rows r t at None = (k : Key) → IsMet r.range (value_of t) → base_total rows (pattern_of r.pattern) t at ≡ Some k → ⊥
+IsRuleTotal rows r t at (Some k) = IsMet r.range (value_of t) × (base_total rows (pattern_of r.pattern) t at ≡ Some k)
+
 abbrev pub made_by : Key → ℕ → Rule → Cell
 made_by k j r = record { cost = k.cost + r.cost; count = k.count + 1; rule = j + 1; done = false }
 
 -- the rules of these places were tried, but for the chain rules
 pub record Started (rows : List Row) (d : List Rule) (at : ℕ) (t : MTree) (cells : List (Option Cell)) (tried : ℕ → Type 0) : Type 0 where
-  pub made : (n : ℕ) (c : Cell) → CellAt cells n c → (j : ℕ) × (r : Rule) × (k : Key) × (slice_get d j ≡ Some r) × (r.left ≡ n) × (base_total rows (pattern_of r.pattern) t at ≡ Some k) × (c ≡ made_by k j r)
-  pub closed : (j : ℕ) (r : Rule) (k : Key) → tried j → slice_get d j ≡ Some r → base_total rows (pattern_of r.pattern) t at ≡ Some k → let new = made_by k j r in (c : Cell) × CellAt cells r.left c × Leq3 c.cost c.count c.rule new.cost new.count new.rule
+  pub made : (n : ℕ) (c : Cell) → CellAt cells n c → (j : ℕ) × (r : Rule) × (k : Key) × Offers d (value_of t) j r × (r.left ≡ n) × (base_total rows (pattern_of r.pattern) t at ≡ Some k) × (c ≡ made_by k j r)
+  pub closed : (j : ℕ) (r : Rule) (k : Key) → tried j → Offers d (value_of t) j r → base_total rows (pattern_of r.pattern) t at ≡ Some k → let new = made_by k j r in (c : Cell) × CellAt cells r.left c × Leq3 c.cost c.count c.rule new.cost new.count new.rule
 
 -- all rules were tried
 abbrev pub Filled : List Row → List Rule → ℕ → MTree → ℕ → List (Option Cell) → Type 0
-Filled rows d at t w cells = (cells0 : List (Option Cell)) × Started rows d at t cells0 Everywhere × Closed d cells0 cells × (length cells0 ≡ w)
+Filled rows d at t w cells = (cells0 : List (Option Cell)) × Started rows d at t cells0 Everywhere × Closed d (value_of t) cells0 cells × (length cells0 ≡ w)

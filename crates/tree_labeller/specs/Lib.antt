@@ -1,3 +1,4 @@
+pub mod Offers
 pub mod Row
 pub mod Indexed
 pub mod Labelled

@@ -1,8 +1,10 @@
 -- Rows of cells, and their closing under the chain rules.
-use Rattle.std.specs.Prelude.{◌≡◌, ℕ, ◌+◌, ◌*◌, ◌<◌, ◌≤◌, ◌⊎◌, true, false, Option, Some, None, List, [], ◌∷◌, length, slice_get, slice_set, slice_index_or, cond}
+use Rattle.std.specs.Prelude.{◌≡◌, ℕ, ◌+◌, ◌*◌, ◌<◌, ◌≤◌, ◌⊎◌, true, false, ℤ, Option, Some, None, List, [], ◌∷◌, length, slice_get, slice_set, slice_index_or, cond}
 use Rattle.tree_labeller.specs.declared.cells.Cell.{Cell}
 use Rattle.lburg_grammar.specs.declared.pattern.Pattern.{Nonterminal}
 use Rattle.lburg_grammar.specs.declared.rule.Rule.{Rule}
+use Rattle.lburg_grammar.specs.Range.{IsMet}
+use Rattle.tree_labeller.specs.Offers.{Offers}
 
 abbrev pub Leq : ℕ → ℕ → ℕ → ℕ → Type 0
 Leq k m k' m' = (k ≤ k') × (k ≡ k' → m ≤ m')
@@ -24,13 +26,18 @@ abbrev pub LeastOpen : List (Option Cell) → Option (ℕ × Cell) → Type 0
 LeastOpen row None = (m : ℕ) (b : Cell) → CellAt row m b → b.done ≡ true
 LeastOpen row (Some (n, c)) = CellAt row n c × (c.done ≡ false) × ((m : ℕ) (b : Cell) → CellAt row m b → b.done ≡ false → Leq c.cost c.count b.cost b.count)
 
--- the rule of this place is a chain rule from m
-abbrev pub IsChain : List Rule → ℕ → ℕ → Rule → Type 0
-IsChain rules i m r = (slice_get rules i ≡ Some r) × (r.pattern ≡ Nonterminal m)
+-- the rule of this place is a chain rule from m, and applies at a node with this constant
+abbrev pub IsChain : List Rule → Option ℤ → ℕ → ℕ → Rule → Type 0
+IsChain rules constant i m r = Offers rules constant i r × (r.pattern ≡ Nonterminal m)
 
 -- what the rule of place i makes of a cell
 abbrev pub made_from : Cell → ℕ → Rule → Cell
 made_from from i r = record { cost = from.cost + r.cost; count = from.count + 1; rule = i + 1; done = false }
+
+-- what comes of trying the rule of place i on a cell at a node with this constant, none where it doesn't apply there
+abbrev pub IsMade : Option ℤ → Cell → ℕ → Rule → Option Cell → Type 0
+IsMade constant from i r None = IsMet r.range constant → ⊥
+IsMade constant from i r (Some new) = IsMet r.range constant × (new ≡ made_from from i r)
 
 abbrev pub Beats : List (Option Cell) → ℕ → Cell → Type 0
 Beats row n new = (b : Cell) → CellAt row n b → Leq3 b.cost b.count b.rule new.cost new.count new.rule → ⊥
@@ -43,12 +50,12 @@ Everywhere i = Unit {0}
 abbrev pub Among : List ℕ → ℕ → ℕ → Type 0
 Among places k i = (j : ℕ) × (j < k) × (slice_get places j ≡ Some i)
 
--- the rules of these places were tried on the cell of m
-pub record Spread (rules : List Rule) (m : ℕ) (from : Cell) (old row : List (Option Cell)) (tried : ℕ → Type 0) : Type 0 where
+-- the rules of these places were tried on the cell of m, at a node with this constant
+pub record Spread (rules : List Rule) (constant : Option ℤ) (m : ℕ) (from : Cell) (old row : List (Option Cell)) (tried : ℕ → Type 0) : Type 0 where
   pub same_length : length row ≡ length old
   pub lower : (n : ℕ) (b : Cell) → CellAt old n b → (c : Cell) × CellAt row n c × Leq3 c.cost c.count c.rule b.cost b.count b.rule
-  pub made : (n : ℕ) (c : Cell) → CellAt row n c → CellAt old n c ⊎ ((j : ℕ) × (r : Rule) × IsChain rules j m r × (r.left ≡ n) × (c ≡ made_from from j r) × Beats old n c)
-  pub closed : (j : ℕ) (r : Rule) → tried j → IsChain rules j m r → let new = made_from from j r in (c : Cell) × CellAt row r.left c × Leq3 c.cost c.count c.rule new.cost new.count new.rule
+  pub made : (n : ℕ) (c : Cell) → CellAt row n c → CellAt old n c ⊎ ((j : ℕ) × (r : Rule) × IsChain rules constant j m r × (r.left ≡ n) × (c ≡ made_from from j r) × Beats old n c)
+  pub closed : (j : ℕ) (r : Rule) → tried j → IsChain rules constant j m r → let new = made_from from j r in (c : Cell) × CellAt row r.left c × Leq3 c.cost c.count c.rule new.cost new.count new.rule
 
 -- an open cell that is less than what was found, which is what comes back
 abbrev pub IsBetter : List (Option Cell) → ℕ → Option (ℕ × Cell) → Option Cell → Type 0
@@ -74,13 +81,13 @@ dones (x ∷ xs) = done_weight x + dones xs
 abbrev pub Same : Cell → Cell → Type 0
 Same a b = (a.cost ≡ b.cost) × (a.count ≡ b.count) × (a.rule ≡ b.rule)
 
--- a chain rule makes the cell n of a cell of the row
-pub record FromChain (rules : List Rule) (row : List (Option Cell)) (n : ℕ) (c : Cell) : Type 0 where
+-- a chain rule that applies at a node with this constant makes the cell n of a cell of the row
+pub record FromChain (rules : List Rule) (constant : Option ℤ) (row : List (Option Cell)) (n : ℕ) (c : Cell) : Type 0 where
   pub place : ℕ
   pub rule : Rule
   pub from : ℕ
   pub cell : Cell
-  pub chain : IsChain rules place from rule
+  pub chain : IsChain rules constant place from rule
   pub left : rule.left ≡ n
   pub at : CellAt row from cell
   pub same : Same c (made_from cell place rule)
@@ -92,11 +99,11 @@ AreCheap rules = (i : ℕ) (r : Rule) → slice_get rules i ≡ Some r → r.cos
 abbrev pub IsCheap : List (Option Cell) → Type 0
 IsCheap row = (n : ℕ) (c : Cell) → CellAt row n c → c.cost ≤ 32768 * c.count
 
--- the row, with the chain rules' cells: none is larger than it was, each is an old one or comes of a chain rule, and no chain rule makes a smaller one
-pub record Closed (rules : List Rule) (old row : List (Option Cell)) : Type 0 where
+-- the row of a node with this constant, with the cells of the chain rules that apply there: none is larger than it was, each is an old one or comes of a chain rule, and no chain rule makes a smaller one
+pub record Closed (rules : List Rule) (constant : Option ℤ) (old row : List (Option Cell)) : Type 0 where
   pub same_length : length row ≡ length old
   pub lower : (n : ℕ) (b : Cell) → CellAt old n b → (c : Cell) × CellAt row n c × Leq3 c.cost c.count c.rule b.cost b.count b.rule
-  pub made : (n : ℕ) (c : Cell) → CellAt row n c → ((b : Cell) × CellAt old n b × Same c b) ⊎ FromChain rules row n c
-  pub closed : (j : ℕ) (r : Rule) (m : ℕ) (b : Cell) → IsChain rules j m r → CellAt row m b → let new = made_from b j r in (c : Cell) × CellAt row r.left c × Leq3 c.cost c.count c.rule new.cost new.count new.rule
+  pub made : (n : ℕ) (c : Cell) → CellAt row n c → ((b : Cell) × CellAt old n b × Same c b) ⊎ FromChain rules constant row n c
+  pub closed : (j : ℕ) (r : Rule) (m : ℕ) (b : Cell) → IsChain rules constant j m r → CellAt row m b → let new = made_from b j r in (c : Cell) × CellAt row r.left c × Leq3 c.cost c.count c.rule new.cost new.count new.rule
   pub many : (base : ℕ) → ((n : ℕ) (b : Cell) → CellAt old n b → b.count ≤ base) → (n : ℕ) (c : Cell) → CellAt row n c → c.count ≤ base + length old
   pub cheap : AreCheap rules → IsCheap old → IsCheap row

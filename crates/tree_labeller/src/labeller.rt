@@ -13,9 +13,9 @@ ghost use Rattle.tree_labeller.specs.MCells.{HasRoom, room};
 ghost use Rattle.tree_labeller.specs.IsLabelled.{IsLabelled};
 
 use crate::cells::{Cell, Cells, Row};
-use crate::closing::{close_row, relax};
+use crate::closing::{NodeRules, close_row, relax};
 use crate::labels::Labels;
-use crate::matching::base_total_at;
+use crate::matching::rule_total_at;
 use crate::places::Index;
 use crate::tables::Tables;
 use lburg_grammar::{Rule, TreeNode};
@@ -67,7 +67,7 @@ fn start_row<N: TreeNode, L: Ledger>(
         let place = places[k];
         let rule = &rules[place as usize];
         steps.tick();
-        if let Some(key) = base_total_at(labels, &rule.pattern, tree, at) {
+        if let Some(key) = rule_total_at(labels, rule, tree, at) {
             relax(
                 cells,
                 rule.left as usize,
@@ -101,7 +101,12 @@ fn fill_row<N: TreeNode, L: Ledger>(
     ensures steps { steps.new ≡ steps.old + row_tries (op_of (N.tree tree.now)) cells.new labels.now.rules.now }
 {
     start_row(index, labels, tree, at, cells, steps);
-    close_row(labels.rules, index, cells, steps);
+    let node = NodeRules {
+        rules: labels.rules,
+        index,
+        constant: tree.value(),
+    };
+    close_row(&node, cells, steps);
 }
 
 // Adds a node's own row to those of its subtrees.

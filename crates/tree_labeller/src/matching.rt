@@ -1,11 +1,11 @@
 ghost use Rattle.std.specs.Prelude.{◌≡◌, ℕ, ◌+◌, ◌*◌, ◌^◌, ◌<◌, ◌≤◌, length, IfSome};
 ghost use Rattle.lburg_grammar.specs.Tree.{MTree, nodes, kids_of};
 ghost use Rattle.lburg_grammar.specs.Pattern.{pattern_of};
-ghost use Rattle.tree_labeller.specs.Labelled.{base_total, KidsLabelled, total, area, Ready, Labelled, cell, key_of};
+ghost use Rattle.tree_labeller.specs.Labelled.{base_total, IsRuleTotal, KidsLabelled, total, area, Ready, Labelled, cell, key_of};
 
 use crate::cells::Key;
 use crate::labels::Labels;
-use lburg_grammar::{Pattern, TreeNode};
+use lburg_grammar::{Pattern, Rule, TreeNode};
 
 // What a cell tells of its cost and count.
 fn key_at(labels: &Labels, at: usize, n: usize) -> Option<Key>
@@ -63,8 +63,8 @@ fn total_at<N: TreeNode>(labels: &Labels, pattern: &Pattern, tree: &N, at: usize
     }
 }
 
-/// The same, with none for a chain rule's pattern.
-pub fn base_total_at<N: TreeNode>(
+// The same, with none for a chain rule's pattern.
+fn base_total_at<N: TreeNode>(
     labels: &Labels,
     pattern: &Pattern,
     tree: &N,
@@ -81,5 +81,21 @@ pub fn base_total_at<N: TreeNode>(
         Pattern::Leaf(_) => total_at(labels, pattern, tree, at),
         Pattern::Unary(_, _) => total_at(labels, pattern, tree, at),
         Pattern::Binary(_, _, _) => total_at(labels, pattern, tree, at),
+    }
+}
+
+/// The same for a rule's pattern, with none where the rule's range does not contain the constant of
+/// the node.
+pub fn rule_total_at<N: TreeNode>(labels: &Labels, rule: &Rule, tree: &N, at: usize) -> Option<Key>
+    requires small { area (labels.now.width + 1) (N.tree tree.now) ≤ 2 ^ 46 }
+    requires room { at + nodes (N.tree tree.now) ≤ length labels.now.rows.now }
+    requires kids { KidsLabelled labels.now.rows.now labels.now.rules.now labels.now.width at (N.tree tree.now) }
+    ensures value { IsRuleTotal labels.now.rows.now rule.now (N.tree tree.now) at result }
+    ensures bounded { IfSome result (λ k. (k.count ≤ area (labels.now.width + 1) (N.tree tree.now)) × (k.cost ≤ 32768 * k.count)) }
+{
+    if rule.applies(tree.value()) {
+        base_total_at(labels, &rule.pattern, tree, at)
+    } else {
+        None
     }
 }

@@ -9,6 +9,8 @@ use std::alloc::Global;
 use std::marker::{Brand, Model};
 use std::sync::ledger::{Blank, Ledger};
 
+mod ranges;
+
 // The book's example, with the shortest names.
 const TEXT: &[u8] = b"%start stmt
 %term ASGNI=1 ADDRLP=2 CNSTI=3 ADDI=4 INDIRI=5

@@ -59,14 +59,14 @@ here rows r n t d is h =
     let p : number - 1 ≡ o.0 = omega (arith, e) in
     let at : slice_get rows (number - 1) ≡ Some o.1 = ap (λ i. slice_get rows i) p ∙ o.4 in
     let same : o.1 ≡ r = sym (get_or_from_slice_get rows (number - 1) o.1 r at) ∙ sym is in
-    let m = meetings_of (pattern_of o.1.pattern) t o.2 o.6 in
+    let m = meetings_of (pattern_of o.1.pattern) t o.2 o.7 in
     let fits : leaves_at (pattern_of r.pattern) t ≡ Some m.0 = ap (λ (w : Rule). leaves_at (pattern_of w.pattern) t) (sym same) ∙ m.1 in
     let are : meetings_at (pattern_of r.pattern) t ≡ m.0 = meetings_are (leaves_at (pattern_of r.pattern) t) m.0 fits in
     record {
       number_is = omega (arith, e);
       row = at ∙ ap Some same;
       fits = fits ∙ ap Some (sym are);
-      each = subst (λ ms. DeriveEach rows (map turned ms) (parts_of (xs_of d))) (sym are) (subst (λ gs. DeriveEach rows gs (parts_of (xs_of d))) m.2 o.7);
+      each = subst (λ ms. DeriveEach rows (map turned ms) (parts_of (xs_of d))) (sym are) (subst (λ gs. DeriveEach rows gs (parts_of (xs_of d))) m.2 o.8);
     }
 
 some_of : {A : Type 0} (o : Option A) (x : A) → o ≡ Some x → IsSome o

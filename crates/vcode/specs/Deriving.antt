@@ -62,4 +62,4 @@ module _ {I P : Type 0} (rules : Rules I P) (rows : List Rule) (are : map row_of
       let s : p ≡ i = omega (arith, e, f) in
       let w : slice_get rules.rows i ≡ Some (row_of r) = row_is rows rules.rows i r are d.4 in
       let v : slice_get rules.rows i ≡ Some row = subst (λ k. slice_get rules.rows k ≡ Some row) s a.row_is in
-      applied_row rows row n t parts r d.2 (same_Some row (row_of r) (sym v ∙ w)) d.5 d.6 d.7
+      applied_row rows row n t parts r d.2 (same_Some row (row_of r) (sym v ∙ w)) d.5 d.7 d.8

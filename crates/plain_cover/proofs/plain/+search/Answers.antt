@@ -1,13 +1,15 @@
-use Rattle.std.proofs.Common.{◌≡◌, ℕ, ◌+◌, length, Option, Some, None, refl, sym, ap, ◌∙◌, subst, arith}
+use Rattle.std.proofs.Common.{◌≡◌, ℕ, ◌+◌, length, Option, Some, None, IsTrue, false, refl, sym, ap, ◌∙◌, subst, arith}
 use Rattle.std.proofs.lemmas.Option.{slice_get-get_or}
 use Rattle.lburg_grammar.specs.declared.pattern.Pattern.{Pattern}
+use Rattle.lburg_grammar.specs.Range.{IsMet}
+use Rattle.lburg_grammar.specs.Tree.{value_of}
 use Rattle.lburg_grammar.specs.Pattern.{PHole, PLeaf, POne, PTwo, pattern_of}
 use Rattle.plain_cover.specs.declared.plain.Found.{Found}
 use Rattle.plain_cover.specs.Told.{told, told_of_parts, told_of_none, told_of_both}
 use Rattle.plain_cover.specs.IsLeastOf.{IsLeastOf}
 use Rattle.plain_cover.specs.Within.{Within, WithinFirst, WithinBy, PartsWithin}
 use Rattle.plain_cover.proofs.Small.{small, first_kid_small, second_kid_small}
-use Rattle.plain_cover.proofs.Search.{answered, by_shape, hole, leaf, one, two_no_first, two_no_second, two_both, by_none, by_some, within_none, first_all}
+use Rattle.plain_cover.proofs.Search.{answered, by_shape, hole, leaf, one, two_no_first, two_no_second, two_both, by_other, by_none, by_some, within_none, first_all}
 use Rattle.plain_cover.proofs.plain.+search.Goals as goal
 
 pub best_by-rule_found-requires-clause-cost : goal.best_by-rule_found-requires-clause-cost
@@ -29,6 +31,14 @@ best_by-rule_found-requires-clause-count g t c =
     let h = small rules c.requires.rules (pattern_of r.pattern) tree c.args.height c.in-Some.parts c.requires.height c.requires.tree (subst P c.in-Some.is c.in_ok-best_parts.ensures) in
     omega (arith, h.1)
 
+pub best_by-returns-then-not-is_for : goal.best_by-returns-then-not-is_for
+best_by-returns-then-not-is_for g t c =
+    let tree = g.N.TreeNode.tree c.args.tree.now in
+    let r = c.index-rules-place.result in
+    let rules = c.args.rules.now in
+    let at = slice_get-get_or rules c.args.place r c.requires.place ∙ ap Some (sym c.index-rules-place.is) in
+    by_other rules c.args.place r c.args.nonterminal tree c.args.height at (λ here. let no : IsTrue false = c.if-not-is_for.ensures.1 here in cc)
+
 pub best_by-returns-in-None : goal.best_by-returns-in-None
 best_by-returns-in-None g t c =
     let tree = g.N.TreeNode.tree c.args.tree.now in
@@ -46,8 +56,8 @@ best_by-returns-in_ok-rule_found-in-Some g t c =
     let P : Option Found → Type 0 = IsLeastOf (told_of_parts rules) (PartsWithin rules (pattern_of r.pattern) tree c.args.height) in
     let at = slice_get-get_or rules c.args.place r c.requires.place ∙ ap Some (sym c.index-rules-place.is) in
     let Q : Found → Type 0 = λ f. IsLeastOf (told rules) (WithinBy rules c.args.nonterminal tree (c.args.height + 1) (c.args.place + 1)) (Some f) in
-    let left : r.left ≡ c.args.nonterminal = omega arith in
-    subst Q (sym c.in_ok-rule_found-in-Some.ensures) (by_some rules c.args.place r c.args.nonterminal tree c.args.height c.in-Some.parts at left (subst P c.in-Some.is c.in_ok-best_parts.ensures))
+    let here : (r.left ≡ c.args.nonterminal) × IsMet r.range (value_of tree) = c.if-not-is_for.ensures.0 refl in
+    subst Q (sym c.in_ok-rule_found-in-Some.ensures) (by_some rules c.args.place r c.args.nonterminal tree c.args.height c.in-Some.parts at here.0 here.1 (subst P c.in-Some.is c.in_ok-best_parts.ensures))
 
 pub best_parts-returns-in_default : goal.best_parts-returns-in_default
 best_parts-returns-in_default g t c =

@@ -26,29 +26,29 @@ spread-requires-clause-short g c =
 
 pub loop-m-smaller : goal.loop-m-smaller
 loop-m-smaller g c =
-    let p = progress c.args.rules.now c.args.row.now c.loop-m.row c.loop-m.invariant.closing c.in-Some.m c.in-Some.cell c.in-Some.ensures c.spread.new.row c.spread.ensures.spread in
+    let p = progress c.args.node.now.rules.now c.args.node.now.constant c.args.row.now c.loop-m.row c.loop-m.invariant.closing c.in-Some.m c.in-Some.cell c.in-Some.ensures c.spread.new.row c.spread.ensures.spread in
     let goal_is : length c.spread.new.row - dones c.spread.new.row < length c.loop-m.row - dones c.loop-m.row = omega (arith, p.0, p.1, p.2) in
     goal_is
 
 pub loop-m-init : goal.loop-m-init
 loop-m-init g c =
     let row = c.args.row.now in
-    let none = none_done row c.requires.fresh c.args.rules.now in
-    record { closing = start c.args.rules.now row c.requires.fresh; steps = omega arith }
+    let none = none_done row c.requires.fresh c.args.node.now.rules.now in
+    record { closing = start c.args.node.now.rules.now c.args.node.now.constant row c.requires.fresh; steps = omega arith }
 
 pub loop-m-preserved : goal.loop-m-preserved
 loop-m-preserved g c =
     let inv = c.loop-m.invariant in
-    let more = more_done c.args.rules.now c.args.row.now c.loop-m.row inv.closing c.in-Some.m c.in-Some.cell c.in-Some.ensures c.spread.new.row c.spread.ensures.spread c.args.rules.now in
+    let more = more_done c.args.node.now.rules.now c.args.node.now.constant c.args.row.now c.loop-m.row inv.closing c.in-Some.m c.in-Some.cell c.in-Some.ensures c.spread.new.row c.spread.ensures.spread c.args.node.now.rules.now in
     record {
-      closing = step c.args.rules.now c.args.row.now c.loop-m.row inv.closing c.in-Some.m c.in-Some.cell c.in-Some.ensures c.spread.new.row c.spread.ensures.spread;
+      closing = step c.args.node.now.rules.now c.args.node.now.constant c.args.row.now c.loop-m.row inv.closing c.in-Some.m c.in-Some.cell c.in-Some.ensures c.spread.new.row c.spread.ensures.spread;
       steps = omega (arith, more, inv.steps, c.spread.ensures.steps);
     }
 
 pub returns-clause-closed : goal.returns-clause-closed
-returns-clause-closed g c = over c.args.rules.now c.args.row.now c.loop-m.row c.loop-m.invariant.closing c.in_default.ensures
+returns-clause-closed g c = over c.args.node.now.rules.now c.args.node.now.constant c.args.row.now c.loop-m.row c.loop-m.invariant.closing c.in_default.ensures
 
 pub returns-clause-steps : goal.returns-clause-steps
 returns-clause-steps g c =
-    let all = all_done c.loop-m.row c.in_default.ensures c.args.rules.now in
+    let all = all_done c.loop-m.row c.in_default.ensures c.args.node.now.rules.now in
     omega (arith, all, c.loop-m.invariant.steps)

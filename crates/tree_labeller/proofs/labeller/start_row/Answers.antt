@@ -6,7 +6,8 @@ use Rattle.lburg_grammar.specs.Tree.{op_of}
 use Rattle.tree_labeller.specs.declared.cells.Cell.{Cell}
 use Rattle.tree_labeller.specs.declared.places.Root.TheVariants.{Operator}
 use Rattle.tree_labeller.specs.Row.{Among}
-use Rattle.tree_labeller.specs.Labelled.{Started}
+use Rattle.tree_labeller.specs.declared.cells.Key.{Key}
+use Rattle.tree_labeller.specs.Labelled.{IsRuleTotal, Started}
 use Rattle.tree_labeller.proofs.Finish.{started_skip, started_take, started_all}
 use Rattle.tree_labeller.proofs.Roots.{rule_there, operator_of}
 use Rattle.tree_labeller.proofs.labeller.start_row.Goals.{in-Some, in_default}
@@ -26,11 +27,14 @@ loop-k-preserved g c =
     let there = rule_there rules _ places k place rule c.with_operator-places.ensures here c.index-rules-place.is in
     let F : List (Option Cell) → Type 0 = λ x. Started rows rules at tree x (Among places (k + 1)) in
     let inv = c.loop-k.invariant.0 in
-    let tells = c.base_total_at.ensures.value in
+    let Tells : Option Key → Type 0 = λ o. IsRuleTotal rows rule tree at o in
+    let tells : Tells c.rule_total_at.result = c.rule_total_at.ensures.value in
     let h : rule.left < length c.loop-k.cells = (let l = c.requires.are.lefts place rule there.0 in let e = c.loop-k.auto.cells in let f = c.requires.wide in let j = c.clear_row.auto.cells in omega arith) in (
-      elim c.match-base_total_at.branch [
-        | in-Some w ↦ subst F (sym w.cells-is) (started_take rows rules places at tree c.loop-k.cells k place rule w.in-Some.key w.relax.new.row inv here there.0 (sym tells ∙ w.in-Some.is) h w.relax.ensures)
-        | in_default w ↦ subst F (sym w.cells-is) (started_skip rows rules places at tree c.loop-k.cells k place rule inv here there.0 (sym tells ∙ w.in_default.is))
+      elim c.match-rule_total_at.branch [
+        | in-Some w ↦
+            let total = subst Tells w.in-Some.is tells in
+            subst F (sym w.cells-is) (started_take rows rules places at tree c.loop-k.cells k place rule w.in-Some.key w.relax.new.row inv here (there.0, total.0) total.1 h w.relax.ensures)
+        | in_default w ↦ subst F (sym w.cells-is) (started_skip rows rules places at tree c.loop-k.cells k place rule inv here there.0 (subst Tells w.in_default.is tells))
       ],
       omega arith,
     )
