@@ -28,3 +28,4 @@ pub mod Nested
 pub mod Reached
 pub mod Lowered
 pub mod Units
+pub mod UnitOfMain
