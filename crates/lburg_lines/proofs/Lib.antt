@@ -1,0 +1,11 @@
+pub mod FirstBytes
+pub mod Next
+pub mod Blanks
+pub mod Once
+pub mod Places
+pub mod Shapes
+pub mod Trees
+pub mod Rules
+pub mod Declarations
+pub mod Lines
+pub mod Texts
