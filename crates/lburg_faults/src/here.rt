@@ -1,0 +1,9 @@
+use lburg_lines::Section;
+
+/// A line of a text, with the whole text and its number.
+#[derive(Clone, Copy)]
+pub(crate) struct Here<'a> {
+    pub(crate) text: &'a [u8],
+    pub(crate) section: Section,
+    pub(crate) number: u32,
+}
