@@ -1,0 +1,11 @@
+pub mod Trees
+pub mod Moves
+pub mod Fine
+pub mod Contexts
+pub mod Lifts
+pub mod Operands
+pub mod Heads
+pub mod Parts
+pub mod Whole
+pub mod Names
+pub mod Tails

@@ -1,0 +1,12 @@
+pub mod TailTree
+pub mod Counts
+pub mod Setting
+pub mod BadTree
+pub mod UnknownOp
+pub mod WrongArity
+pub mod TooLarge
+pub mod TooHigh
+pub mod Rows
+pub mod FirstFault
+pub mod TailText
+pub mod Reading

@@ -1,0 +1,15 @@
+//! The trees of a description's tail, or its first fault with its line.
+#![tactic(auto)]
+
+mod row;
+mod stop;
+mod tail;
+mod tree_fault;
+mod tree_reader;
+
+pub use row::Row;
+pub use tail::read_trees;
+pub use tree_fault::TreeFault;
+
+#[cfg(test)]
+mod tests;

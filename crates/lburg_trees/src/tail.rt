@@ -1,0 +1,130 @@
+//! The trees of a description's tail.
+ghost use Rattle.std.specs.Prelude.{◌≡◌, ◌≤◌, ◌⊎◌, ◌+◌, ◌++◌, List, ℕ, length, map, IfOk, IfErr, OnOk};
+ghost use Rattle.lcc_text.specs.Lines.{lines_of};
+ghost use Rattle.lcc_text.specs.Names.{bytes_of};
+ghost use Rattle.lburg_grammar.specs.Tree.{MTree};
+ghost use Rattle.lburg_grammar.specs.Description.{AreDistinct, terminal_names};
+ghost use Rattle.lburg_trees.specs.FirstFault.{IsTailOf, FirstFault};
+ghost use Rattle.lburg_trees.specs.TailText.{IsLineOf, AreTrees, IsTail};
+ghost use Rattle.lburg_trees.specs.Reading.{IsFineLine, LineFails, AreFine, FailsAt};
+
+use crate::stop::Stop;
+use crate::tree_fault::TreeFault;
+use crate::tree_reader::line_tree;
+use indexmap::IndexSet;
+use lburg_grammar::{Description, Terminal, TextTree};
+use lburg_lines::{Section, line_tokens, one_spelling, one_text, tokens};
+use lcc_base::Items;
+use lcc_text::{next_line, place};
+use std::alloc::{AllocError, Global};
+
+/// The tail of a text, and how many lines stand before it.
+#[derive(Clone, Copy)]
+struct Tail<'a> {
+    text: &'a [u8],
+    before: u32,
+}
+
+/// The tail of the text: empty where it has none.
+fn tail_of<'a>(alloc: Global, text: &'a [u8]) -> Result<Tail<'a>, AllocError>
+    requires { length text.now ≤ 16777216 }
+    ensures is { IfOk result (λ t. IsTailOf text.now t.before (lines_of t.text.now)) }
+    ensures within { IfOk result (λ t. t.before + length t.text.now ≤ 16777216) }
+{
+    let mut section = Section::Head;
+    let mut rest = text;
+    let mut before = 0;
+    while let Some((line, behind)) = next_line(rest) {
+        if section == Section::Tail {
+            return Ok(Tail { text: rest, before });
+        }
+        let found = line_tokens(alloc, section, line)?;
+        section = section.behind(&found);
+        rest = behind;
+        before += 1;
+    }
+    Ok(Tail { text: rest, before })
+}
+
+/// The names of the terminals, in order.
+fn names_of<'a>(alloc: Global, terminals: &'a [Terminal]) -> Result<IndexSet<&'a [u8]>, TreeFault>
+    requires { AreDistinct (map (λ t. t.name) terminals.now) }
+    ensures names { IfOk result (λ names. bytes_of names ≡ map (λ t. t.name) terminals.now) }
+    ensures memory { IfErr result (λ e. e ≡ TreeFault.Memory) }
+{
+    let mut names = IndexSet::new(alloc);
+    for terminal in terminals {
+        place(&mut names, terminal.name.as_slice())?;
+    }
+    Ok(names)
+}
+
+/// Adds the tree of a line that isn't blank.
+fn add_line<'a>(
+    alloc: Global,
+    d: &Description,
+    names: &IndexSet<&'a [u8]>,
+    trees: &mut Items<TextTree>,
+    line: &'a [u8],
+) -> Result<(), Stop>
+    requires { bytes_of names.now ≡ terminal_names d.now }
+    ensures found { OnOk result ((here : List MTree) × IsLineOf d.now line.now here × (trees.new ≡ trees.old ++ here)) }
+    ensures fine { IfOk result (λ _. IsFineLine d.now line.now) }
+    ensures fault { IfErr result (λ s. LineFails d.now line.now s) }
+{
+    let found = tokens(alloc, line)?;
+    if let Some(tree) = line_tree(alloc, d, names, &found)? {
+        trees.push(tree)?;
+    }
+    Ok(())
+}
+
+/// The trees of the tail.
+fn trees_in<'a>(
+    alloc: Global,
+    d: &Description,
+    names: &IndexSet<&'a [u8]>,
+    tail: Tail<'a>,
+) -> Result<Items<TextTree>, TreeFault>
+    requires names { bytes_of names.now ≡ terminal_names d.now }
+    requires within { tail.before + length tail.text.now ≤ 16777216 }
+    ensures found { IfOk result (λ trees. AreTrees d.now (lines_of tail.entry.text.now) trees) }
+    ensures fine { IfOk result (λ _. AreFine d.now (lines_of tail.entry.text.now) (length (lines_of tail.entry.text.now))) }
+    ensures fault { IfErr result (λ f. (f ≡ TreeFault.Memory) ⊎ FailsAt d.now tail.entry.before (lines_of tail.entry.text.now) f) }
+{
+    let mut trees = Items::new(alloc);
+    let mut rest = tail.text;
+    let mut number = tail.before;
+    while let Some((line, behind)) = next_line(rest) {
+        number += 1;
+        match add_line(alloc, d, names, &mut trees, line) {
+            Ok(()) => {}
+            Err(stop) => return Err(stop.told(number)),
+        }
+        rest = behind;
+    }
+    Ok(trees)
+}
+
+/// The trees of the text's tail, one a line; without a tail none. Otherwise the tail's first fault: the first in the
+/// text, within a line the first from the left, at one place the first of `TreeFault`'s order. The description is
+/// that of the text before its tail.
+pub fn read_trees(alloc: Global, d: &Description, text: &[u8]) -> Result<Items<TextTree>, TreeFault>
+    requires { length text.now ≤ 16777216 }
+    // They are the tail's trees.
+    ensures found { IfOk result (λ trees. IsTail d.now trees text.now) }
+    // A tail spells one list of trees.
+    ensures one { (trees : List MTree) → IsTail d.now trees text.now → IfOk result (λ r. r ≡ trees) }
+    // No fault stands in what is read.
+    ensures fine { IfOk result (λ _. (f : _) → FirstFault d.now text.now f → ⊥) }
+    // A fault is the first.
+    ensures fault { IfErr result (λ f. (f ≡ TreeFault.Memory) ⊎ FirstFault d.now text.now f) }
+    // Trees of the description are read, unless memory ran out.
+    ensures only { (trees : List MTree) → IsTail d.now trees text.now → IfErr result (λ e. e ≡ TreeFault.Memory) }
+{
+    let names = names_of(alloc, d.terminals())?;
+    let tail = tail_of(alloc, text)?;
+    one_spelling();
+    one_text();
+    trees_in(alloc, d, &names, tail)
+}
