@@ -1,0 +1,2 @@
+pub mod DescriptionText
+pub mod Places
