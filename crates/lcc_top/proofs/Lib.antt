@@ -4,10 +4,13 @@ pub mod SomeWords
 pub mod Printed
 pub mod CoverLines
 pub mod Tails
+pub mod CommandLaws
 pub mod Causes
 pub mod Running
-pub mod RunOf
+pub mod RunEndings
+pub mod Simulated
 pub mod Answered
+pub mod Faults
+pub mod Headlines
 pub mod Assembled
 pub mod FirstRuns
-pub mod Compiling

@@ -13,9 +13,11 @@ use Rattle.asm_text.specs.declared.running.Step.TheVariants as answer
 use Rattle.mips_machine.specs.State.{Cpu, MMachine}
 use Rattle.mips_machine.specs.Stepped.{IsStepped, Scene, scene, step_of}
 use Rattle.lcc_top.specs.declared.outcome.Outcome.TheVariants as outcome
+use Rattle.lcc_top.specs.declared.outcome.End.TheVariants as ends
 use Rattle.asm_text.specs.Runs.{MStep, Goes, Ends, IsStuck, IsOut, Run, Place, Going, Ended, Stuck, StackOut, IsGoing, after, onward, run_from}
 use Rattle.mips_machine.specs.StepTable.{step}
-use Rattle.lcc_top.specs.Simulation.{IsAt, StopsIn, HasRun}
+use Rattle.lcc_top.specs.Simulation.{IsAt, StopsIn}
+use Rattle.lcc_top.specs.Work.{HasRun}
 
 abbrev pub run_at : List ℕ → Place Cpu → Run Cpu
 run_at printed place = record { printed = printed; place = place }
@@ -124,14 +126,14 @@ stops p order start i printed cpu place at after =
     record { some = omega arith; before = subst IsOn (sym at ∙ ap (λ (k : ℕ). run_from (step p order) start k) j) tt; after = ap (λ (r : Run Cpu). r.place) after }
 
 -- a step that ends a run: from then on the run is at this place, and the output has taken what it printed before
-pub over : (p : Program) (order : Order) (start : Run Cpu) (i steps : ℕ) (old mid new : Option (List ℕ)) (f g : ℕ) (m n : MMachine) (input more : Input) (s : MStep Cpu) (place : Place Cpu) → (IsGoing place → ⊥) → ((printed : List ℕ) → after printed [] s ≡ run_at printed place) → i < steps → Running p order start i old mid m input → (step_of m input ≡ s) × (scene n more new g ≡ scene m input mid f) → IsAt (λ k. run_from (step p order) start k) steps old new place × StopsIn (λ k. run_from (step p order) start k) (i + 1) place
+pub over : (p : Program) (order : Order) (start : Run Cpu) (i steps : ℕ) (old mid new : Option (List ℕ)) (f g : ℕ) (m n : MMachine) (input more : Input) (s : MStep Cpu) (place : Place Cpu) → (IsGoing place → ⊥) → ((printed : List ℕ) → after printed [] s ≡ run_at printed place) → i < steps → Running p order start i old mid m input → (step_of m input ≡ s) × (scene n more new g ≡ scene m input mid f) → (text : List ℕ) × (IsAt (λ k. run_from (step p order) start k) steps text place × StopsIn (λ k. run_from (step p order) start k) (i + 1) place) × Appends old new text
 over p order start i steps old mid new f g m n input more s place ends to within h (stepped, same) =
     let (printed, at, took) = h.going in
     let is = this_step p order m input s h.program h.order_is h.no_input stepped in
     let here = behind p order start i printed m.cpu s at is ∙ to printed in
     let k : (steps - (i + 1)) + (i + 1) ≡ steps = omega (arith, within) in
     let last = stays p order start (i + 1) (steps - (i + 1)) printed place ends here in
-    (record { printed = printed; is = ap (λ (j : ℕ). run_from (step p order) start j) (sym k) ∙ last; written = same_taken m n input more mid new old f g printed same took }, stops p order start i printed m.cpu place at here)
+    (printed, (ap (λ (j : ℕ). run_from (step p order) start j) (sym k) ∙ last, stops p order start i printed m.cpu place at here), same_taken m n input more mid new old f g printed same took)
 
 later_rose : (e f g : ℕ) → e ≤ f → Rose f g → Rose e g
 later_rose e f g later rose = grind (arith)
@@ -140,9 +142,9 @@ pub failed : (p : Program) (order : Order) (start : Run Cpu) (i steps : ℕ) (ol
 failed p order start i steps old mid new e f g m n input more within later h fails =
     let (printed, at, took) = h.going in
     let on : GoesOn (run_from (step p order) start) i old new m.cpu = (printed, at, Appends-kept old mid new printed took fails.output) in
-    (later_rose e f g later fails.cause, printed_part p order start i steps old new m.cpu (omega (arith, within)) on)
+    (printed_part p order start i steps old new m.cpu (omega (arith, within)) on, later_rose e f g later fails.cause)
 
-pub out_of_steps : (p : Program) (order : Order) (start : Run Cpu) (i steps : ℕ) (old new : Option (List ℕ)) (e g : ℕ) (m : MMachine) (input : Input) → i ≡ steps → Running p order start i old new m input → HasRun (λ k. run_from (step p order) start k) steps old new e g (outcome.OutOfSteps steps)
+pub out_of_steps : (p : Program) (order : Order) (start : Run Cpu) (i steps : ℕ) (old new : Option (List ℕ)) (e g : ℕ) (m : MMachine) (input : Input) → i ≡ steps → Running p order start i old new m input → HasRun (λ k. run_from (step p order) start k) steps old new e g (outcome.Done (ends.OutOfSteps steps))
 out_of_steps p order start i steps old new e g m input same h =
     let (printed, at, took) = h.going in
-    (refl, (Going m.cpu [], tt, record { printed = printed; is = ap (λ (j : ℕ). run_from (step p order) start j) (sym same) ∙ at; written = took }))
+    (printed, (refl, (Going m.cpu [], tt, ap (λ (j : ℕ). run_from (step p order) start j) (sym same) ∙ at)), took)

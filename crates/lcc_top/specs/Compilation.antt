@@ -1,5 +1,5 @@
 -- What `rcc` makes of the bytes of its input: the text of the assembly of the input's program.
-use Rattle.std.specs.Prelude.{◌≤◌, ℕ, ◌+◌, ◌*◌, List, length}
+use Rattle.std.specs.Prelude.{◌≡◌, ◌≤◌, ℕ, ◌+◌, ◌*◌, [], ◌∷◌, List, codes, length}
 use Rattle.asm_text.specs.declared.program.Program.{Program}
 use Rattle.asm_text.specs.AssemblyText.{IsText}
 use Rattle.asm_text.specs.RunsAs.{RunsAs}
@@ -11,6 +11,15 @@ use Rattle.first_form.specs.Meaning.{output, status}
 use Rattle.first_forest.specs.FirstForest.{unit_of}
 use Rattle.mips_target.specs.UnitAssembly.{IsUnitAssembly}
 use Rattle.lcc_top.specs.Room.{room_of, most_instructions}
+use Rattle.lcc_top.specs.declared.outcome.End.{End}
+use Rattle.lcc_top.specs.declared.outcome.End.TheVariants as ends
+use Rattle.lcc_top.specs.declared.outcome.Refusal.{Refusal}
+use Rattle.lcc_top.specs.declared.outcome.Refusal.TheVariants as refusal
+use Rattle.lcc_top.specs.Behaviour.{Behaviour}
+
+-- rcc --target mipseb
+abbrev pub AreRcc : List (List ℕ) → Type 0
+AreRcc words = words ≡ codes "rcc" ∷ (codes "--target" ∷ (codes "mipseb" ∷ []))
 
 -- The assembly is made for the program: its functions are the templates of the best derivations of the roots of the
 -- program's unit, each within its bounds. On each input and each stack of the machine, in the unit's order of bytes, its
@@ -37,3 +46,14 @@ pub record IsCompilation (input text : List ℕ) : Type 0 where
 -- the input is no program's text
 abbrev pub IsBadProgram : List ℕ → Type 0
 IsBadProgram input = (p : MProgram) → IsFirst input p → ⊥
+
+abbrev pub WritesRcc : List ℕ → End → List ℕ → Type 0
+WritesRcc input ends.Finished text = IsCompilation input text
+WritesRcc input end text = ⊥
+
+abbrev pub RefusesRcc : List ℕ → Refusal → Type 0
+RefusesRcc input refusal.BadText = IsBadProgram input
+RefusesRcc input why = ⊥
+
+abbrev pub rcc_behaviour : Behaviour
+rcc_behaviour = record { AreWords = AreRcc; Writes = WritesRcc; Refuses = RefusesRcc }

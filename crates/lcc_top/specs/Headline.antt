@@ -7,14 +7,10 @@ use Rattle.std.specs.declared.option.Option.{Option}
 use Rattle.std.specs.Io.KnownBytes.{Appends}
 use Rattle.lcc_top.specs.declared.status.Status.{Status}
 use Rattle.lcc_top.specs.declared.status.Status.TheVariants as status
-use Rattle.lcc_base.specs.declared.order.Order.TheVariants.{Big}
-use Rattle.asm_text.specs.declared.program.Program.{Program}
-use Rattle.asm_text.specs.AssemblyText.{IsAssembly}
-use Rattle.mips_machine.specs.Run.{HasMain, mrun}
-use Rattle.lcc_top.specs.declared.outcome.Outcome.{Outcome}
-use Rattle.lcc_top.specs.Outcome.{status_of, line_of}
+use Rattle.lcc_top.specs.declared.outcome.End.{End}
+use Rattle.lcc_top.specs.Outcome.{end_status, end_line}
 use Rattle.lcc_top.specs.Cover.{IsCover}
-use Rattle.lcc_top.specs.Simulation.{IsOutcome}
+use Rattle.lcc_top.specs.Simulation.{IsSimulation}
 use Rattle.lcc_top.specs.Compilation.{IsCompilation}
 
 -- the status and the report where so many trees have no derivation
@@ -41,18 +37,12 @@ IsRunStatus s = ⊥
 -- The headline of `simrun`: the input is a program's text, and output, status and report are those of its run, of
 -- 10,000,000 steps in big-endian order with a stack of 1,048,576 bytes and no input.
 pub record RunHeadline (input : List ℕ) (taken taken_after report report_after : Option (List ℕ)) (answer : Status) : Type 0 where
-  pub program : Program
-  pub is_assembly : IsAssembly input program
-  pub main : ℕ
-  pub has_main : HasMain program main
-  pub stack : ℕ
-  pub stack_is : stack ≡ 1048576
-  pub steps : ℕ
-  pub steps_is : steps ≡ 10000000
-  pub outcome : Outcome
-  pub ran : IsOutcome (λ n. mrun program Big stack main [] n) steps taken taken_after outcome
-  pub answered : answer ≡ status_of outcome
-  pub reported : Appends report report_after (line_of outcome)
+  pub end : End
+  pub text : List ℕ
+  pub simulation : IsSimulation input end text
+  pub written : Appends taken taken_after text
+  pub answered : answer ≡ end_status end
+  pub reported : Appends report report_after (end_line end)
 
 -- The headline of `rcc`: the input is the text of a program of the first form, and the bytes taken are the text of an
 -- assembly that is made by best derivations, keeps its bounds, and does what the program does.

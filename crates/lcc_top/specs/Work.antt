@@ -1,59 +1,46 @@
--- What the work on an input did, apart from reading it.
-use Rattle.std.specs.Prelude.{ℕ, ◌≡◌, ◌<◌, List, []}
+-- What the work on an input did to the output, apart from reading the input. The states are what the output had taken
+-- before and after, and its counts of faults.
+use Rattle.std.specs.Prelude.{ℕ, ◌≡◌, List}
 use Rattle.std.specs.declared.option.Option.{Option}
 use Rattle.std.specs.Io.KnownBytes.{Appends, Keeps}
-use Rattle.lcc_base.specs.declared.order.Order.TheVariants.{Big}
 use Rattle.lcc_base.specs.Faults.{Rose}
 use Rattle.lcc_base.specs.Taken.{TookPrefix}
 use Rattle.asm_text.specs.declared.program.Program.{Program}
-use Rattle.asm_text.specs.AssemblyText.{IsAssembly}
-use Rattle.mips_machine.specs.Run.{HasMain, mrun}
+use Rattle.asm_text.specs.Runs.{Run}
+use Rattle.mips_machine.specs.Run.{HasMain}
+use Rattle.lcc_top.specs.declared.outcome.End.{End}
+use Rattle.lcc_top.specs.declared.outcome.Refusal.{Refusal}
+use Rattle.lcc_top.specs.declared.outcome.Refusal.TheVariants as refusal
 use Rattle.lcc_top.specs.declared.outcome.Outcome.{Outcome}
 use Rattle.lcc_top.specs.declared.outcome.Outcome.TheVariants as outcome
 use Rattle.lcc_top.specs.declared.words.Command.{Command}
-use Rattle.lcc_top.specs.declared.words.Command.TheVariants as command
-use Rattle.lcc_top.specs.Cover.{IsCover, IsBadText}
-use Rattle.lcc_top.specs.Simulation.{IsBadAssembly, HasRun}
-use Rattle.lcc_top.specs.Compilation.{IsCompilation, IsBadProgram}
+use Rattle.lcc_top.specs.Commands.{Writes, Refuses}
+use Rattle.lcc_top.specs.Simulation.{RunEnds, RunOf}
 
--- the output took this cover text, or a first part of it where a write failed
-abbrev pub IsWritten : Option (List ℕ) → Option (List ℕ) → ℕ → ℕ → List ℕ → ℕ → Outcome → Type 0
-IsWritten taken taken_after faults faults_after text uncovered outcome.Covered = Appends taken taken_after text × (uncovered ≡ 0)
-IsWritten taken taken_after faults faults_after text uncovered (outcome.NoCover n) = Appends taken taken_after text × (uncovered ≡ n) × (0 < n)
-IsWritten taken taken_after faults faults_after text uncovered outcome.WriteFault = TookPrefix taken taken_after text × Rose faults faults_after
-IsWritten taken taken_after faults faults_after text uncovered outcome = ⊥
+-- Work that may write these texts, each with its end, or refuse for these reasons: the output took the whole text, or a
+-- first part of one where a write failed, or nothing.
+abbrev pub DidWork : (End → List ℕ → Type 0) → (Refusal → Type 0) → Option (List ℕ) → Option (List ℕ) → ℕ → ℕ → Outcome → Type 0
+DidWork writes refuses taken taken_after faults faults_after (outcome.Done end) = (text : List ℕ) × writes end text × Appends taken taken_after text
+DidWork writes refuses taken taken_after faults faults_after (outcome.Refused why) = refuses why × Keeps taken taken_after
+DidWork writes refuses taken taken_after faults faults_after outcome.WriteFault =
+    (end : End) × (text : List ℕ) × writes end text × TookPrefix taken taken_after text × Rose faults faults_after
+DidWork writes refuses taken taken_after faults faults_after outcome.Memory = Keeps taken taken_after
+DidWork writes refuses taken taken_after faults faults_after o = ⊥
 
--- the input's cover was written so, or there is none and the output took nothing
-abbrev pub IsDone : Option (List ℕ) → Option (List ℕ) → ℕ → ℕ → List ℕ → Outcome → Type 0
-IsDone taken taken_after faults faults_after input outcome.BadText = IsBadText input × Keeps taken taken_after
-IsDone taken taken_after faults faults_after input outcome.Memory = Keeps taken taken_after
-IsDone taken taken_after faults faults_after input outcome =
-    (text : List ℕ) × (uncovered : ℕ) × IsCover input text uncovered × IsWritten taken taken_after faults faults_after text uncovered outcome
+-- a command's work on an input
+abbrev pub IsWorked : Command → List ℕ → Option (List ℕ) → Option (List ℕ) → ℕ → ℕ → Outcome → Type 0
+IsWorked c input = DidWork (Writes c input) (Refuses c input)
 
--- what a program's run did
-abbrev pub RunOf : Program → Option (List ℕ) → Option (List ℕ) → ℕ → ℕ → Outcome → Type 0
-RunOf p taken taken_after faults faults_after outcome.NoMain = ((main : ℕ) → HasMain p main → ⊥) × Keeps taken taken_after
-RunOf p taken taken_after faults faults_after outcome.Memory = Keeps taken taken_after
-RunOf p taken taken_after faults faults_after outcome =
-    (main stack steps : ℕ) × HasMain p main × (stack ≡ 1048576) × (steps ≡ 10000000) × HasRun (λ n. mrun p Big stack main [] n) steps taken taken_after faults faults_after outcome
+-- why a program isn't run
+abbrev pub IsNotRun : Program → Refusal → Type 0
+IsNotRun p why = (why ≡ refusal.NoMain) × ((main : ℕ) → HasMain p main → ⊥)
 
--- the input's one program ran so, or there is none and the output took nothing
-abbrev pub IsSimulated : Option (List ℕ) → Option (List ℕ) → ℕ → ℕ → List ℕ → Outcome → Type 0
-IsSimulated taken taken_after faults faults_after input outcome.BadText = IsBadAssembly input × Keeps taken taken_after
-IsSimulated taken taken_after faults faults_after input outcome.Memory = Keeps taken taken_after
-IsSimulated taken taken_after faults faults_after input outcome =
-    (p : Program) × IsAssembly input p × ((q : Program) → IsAssembly input q → p ≡ q) × RunOf p taken taken_after faults faults_after outcome
+-- the work on a program
+abbrev pub ProgramRan : Program → Option (List ℕ) → Option (List ℕ) → ℕ → ℕ → Outcome → Type 0
+ProgramRan p = DidWork (RunOf p) (IsNotRun p)
 
--- the input's program was compiled and its assembly's text written so, or there is none and the output took nothing
-abbrev pub IsCompiledSo : Option (List ℕ) → Option (List ℕ) → ℕ → ℕ → List ℕ → Outcome → Type 0
-IsCompiledSo taken taken_after faults faults_after input outcome.BadText = IsBadProgram input × Keeps taken taken_after
-IsCompiledSo taken taken_after faults faults_after input outcome.Memory = Keeps taken taken_after
-IsCompiledSo taken taken_after faults faults_after input outcome.Compiled = (text : List ℕ) × IsCompilation input text × Appends taken taken_after text
-IsCompiledSo taken taken_after faults faults_after input outcome.WriteFault =
-    (text : List ℕ) × IsCompilation input text × TookPrefix taken taken_after text × Rose faults faults_after
-IsCompiledSo taken taken_after faults faults_after input outcome = ⊥
-
-abbrev pub IsDoneBy : Command → Option (List ℕ) → Option (List ℕ) → ℕ → ℕ → List ℕ → Outcome → Type 0
-IsDoneBy command.Cover = IsDone
-IsDoneBy command.Simrun = IsSimulated
-IsDoneBy command.Rcc = IsCompiledSo
+-- a run of so many steps, which takes no memory
+abbrev pub HasRun : {S : Type 0} → (ℕ → Run S) → ℕ → Option (List ℕ) → Option (List ℕ) → ℕ → ℕ → Outcome → Type 0
+HasRun run steps taken taken_after faults faults_after (outcome.Done end) = (text : List ℕ) × RunEnds run steps text end × Appends taken taken_after text
+HasRun run steps taken taken_after faults faults_after outcome.WriteFault = TookPrefix taken taken_after (run steps).printed × Rose faults faults_after
+HasRun run steps taken taken_after faults faults_after o = ⊥

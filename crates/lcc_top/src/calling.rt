@@ -1,27 +1,22 @@
 ghost use Rattle.std.specs.Prelude.{◌≡◌, ◌<◌, ◌≤◌, ◌⊎◌, ℕ, List, Some, map, string_bytes, length};
-ghost use Rattle.lcc_base.specs.Faults.{Rose};
 ghost use Rattle.std.specs.Io.KnownBytes.{Keeps};
-ghost use Rattle.lburg_grammar.specs.Tree.{MTree};
-ghost use Rattle.lburg_grammar.specs.Description.{MDescription};
-ghost use Rattle.lburg_grammar.specs.DescriptionText.{IsText};
-ghost use Rattle.lburg_grammar.specs.TailText.{IsTail};
-ghost use Rattle.asm_text.specs.declared.program.Program.{Program};
-ghost use Rattle.asm_text.specs.AssemblyText.{IsAssembly};
-ghost use Rattle.mips_machine.specs.Run.{HasMain};
-ghost use Rattle.lcc_top.specs.Words.{AreCover, AreSimrun, AreRcc, AreAccepted};
-ghost use Rattle.lcc_top.specs.Cover.{IsBadText};
-ghost use Rattle.lcc_top.specs.Simulation.{IsIdle};
-ghost use Rattle.lcc_top.specs.Compilation.{IsBadProgram};
-ghost use Rattle.first_form.specs.FirstProgram.{MProgram};
-ghost use Rattle.first_form.specs.FirstForm.{IsFirst};
-ghost use Rattle.lcc_top.specs.Call.{Call, IsCaused, IsReported, IsFree, NoFault};
-ghost use Rattle.lcc_top.specs.Headline.{CoverHeadline, IsRunStatus, RunHeadline, CompilerHeadline};
+ghost use Rattle.lcc_base.specs.Faults.{Rose};
+ghost use Rattle.lcc_top.specs.declared.words.Command.{Command};
+ghost use Rattle.lcc_top.specs.declared.outcome.Refusal.{Refusal};
 ghost use Rattle.lcc_top.specs.declared.outcome.Outcome.{Outcome};
+ghost use Rattle.lcc_top.specs.Cover.{AreCover};
+ghost use Rattle.lcc_top.specs.Simulation.{AreSimrun};
+ghost use Rattle.lcc_top.specs.Compilation.{AreRcc};
+ghost use Rattle.lcc_top.specs.Commands.{AreWordsOf, Refuses, Accepts, AreAccepted};
+ghost use Rattle.lcc_top.specs.Call.{Call, IsCaused, IsReported, IsFree, NoFault};
+ghost use Rattle.lcc_top.specs.Answers.{IsEndStatus, HasDone, IsTold};
+ghost use Rattle.lcc_top.specs.Headline.{CoverHeadline, IsRunStatus, RunHeadline, CompilerHeadline};
 
 use crate::outcome::status;
 use crate::report::write_line;
 use crate::status::Status;
 use crate::work::run;
+use lburg_text::{one_description, one_fault, one_tree_fault};
 use lcc_base::{Failed, Sink, Source};
 use std::alloc::Global;
 
@@ -53,54 +48,64 @@ pub fn top<S: Source, K: Sink, E: Sink>(
       taken_after = K.taken output.new;
       write_faults = K.faults output.old;
       write_faults_after = K.faults output.new;
-    } in (outcome : Outcome) × IsCaused call outcome × IsReported (E.taken report.old) (E.taken report.new) (E.faults report.old) (E.faults report.new) outcome result }
+    } in (outcome : Outcome) × IsCaused call outcome
+        × IsReported (E.taken report.old) (E.taken report.new) (E.faults report.old) (E.faults report.new) outcome result }
+
+    // Where the status tells that the command's work is done, it is: the output took the text that the
+    // command writes for what the input had left, where that is told.
+    ensures done { (c : Command) (bytes : List ℕ) → AreWordsOf c (map string_bytes words.now) → S.left input.old ≡ Some bytes
+        → IsEndStatus result
+        → HasDone c bytes (K.taken output.old) (K.taken output.new) (E.taken report.old) (E.taken report.new) result }
 
     // The headline of `lburg cover`, where the input tells what it had left.
-    ensures cover_headline { (bytes : List ℕ) → AreCover (map string_bytes words.now) → S.left input.old ≡ Some bytes → (result ≡ Status.Ok) ⊎ (result ≡ Status.NoCover)
+    ensures cover_headline { (bytes : List ℕ) → AreCover (map string_bytes words.now) → S.left input.old ≡ Some bytes
+        → (result ≡ Status.Ok) ⊎ (result ≡ Status.NoCover)
         → CoverHeadline bytes (K.taken output.old) (K.taken output.new) (E.taken report.old) (E.taken report.new) result }
 
     // The headline of `simrun`, where the input tells what it had left.
-    ensures simrun_headline { (bytes : List ℕ) → AreSimrun (map string_bytes words.now) → S.left input.old ≡ Some bytes → IsRunStatus result
+    ensures simrun_headline { (bytes : List ℕ) → AreSimrun (map string_bytes words.now) → S.left input.old ≡ Some bytes
+        → IsRunStatus result
         → RunHeadline bytes (K.taken output.old) (K.taken output.new) (E.taken report.old) (E.taken report.new) result }
 
     // The headline of `rcc`, where the input tells what it had left.
-    ensures compiler_headline { (bytes : List ℕ) → AreRcc (map string_bytes words.now) → S.left input.old ≡ Some bytes → result ≡ Status.Ok
-        → CompilerHeadline bytes (K.taken output.old) (K.taken output.new) }
+    ensures compiler_headline { (bytes : List ℕ) → AreRcc (map string_bytes words.now) → S.left input.old ≡ Some bytes
+        → result ≡ Status.Ok → CompilerHeadline bytes (K.taken output.old) (K.taken output.new) }
 
     // Only a rising count of faults gives an answer of reading or writing, and a fault of the input
     // gives no other.
     ensures read_fault { result ≡ Status.ReadFault → Rose (S.faults input.old) (S.faults input.new) }
-    ensures unbroken { S.faults input.old < S.faults input.new → (result ≡ Status.ReadFault) ⊎ (result ≡ Status.WriteFault) }
-    ensures write_fault { result ≡ Status.WriteFault → Rose (K.faults output.old) (K.faults output.new) ⊎ Rose (E.faults report.old) (E.faults report.new) }
+    ensures unbroken { S.faults input.old < S.faults input.new
+        → (result ≡ Status.ReadFault) ⊎ (result ≡ Status.WriteFault) }
+    ensures write_fault { result ≡ Status.WriteFault
+        → Rose (K.faults output.old) (K.faults output.new) ⊎ Rose (E.faults report.old) (E.faults report.new) }
 
     // The other refusals come wherever they have to, unless memory was wanted or a write failed.
     // Words that are no command leave the input as it was.
     ensures wrong_words { (AreAccepted (map string_bytes words.now) → ⊥) → (result ≡ Status.Usage) ⊎ IsFree result }
-    ensures unread { (AreAccepted (map string_bytes words.now) → ⊥) → Keeps (S.left input.old) (S.left input.new) × (S.faults input.new ≡ S.faults input.old) }
-    ensures too_long { (bytes : List ℕ) → AreAccepted (map string_bytes words.now) → S.left input.old ≡ Some bytes → 16777216 < length bytes
-        → NoFault (S.faults input.old) (S.faults input.new) → (result ≡ Status.InputTooLong) ⊎ IsFree result }
-    ensures bad_text { (bytes : List ℕ) → AreCover (map string_bytes words.now) → S.left input.old ≡ Some bytes → length bytes ≤ 16777216
-        → IsBadText bytes → NoFault (S.faults input.old) (S.faults input.new) → (result ≡ Status.BadText) ⊎ IsFree result }
-    ensures bad_assembly { (bytes : List ℕ) → AreSimrun (map string_bytes words.now) → S.left input.old ≡ Some bytes → length bytes ≤ 16777216
-        → IsIdle bytes → NoFault (S.faults input.old) (S.faults input.new) → (result ≡ Status.BadText) ⊎ IsFree result }
+    ensures unread { (AreAccepted (map string_bytes words.now) → ⊥)
+        → Keeps (S.left input.old) (S.left input.new) × (S.faults input.new ≡ S.faults input.old) }
+    ensures too_long { (bytes : List ℕ) → AreAccepted (map string_bytes words.now) → S.left input.old ≡ Some bytes
+        → 16777216 < length bytes → NoFault (S.faults input.old) (S.faults input.new)
+        → (result ≡ Status.InputTooLong) ⊎ IsFree result }
 
-    ensures bad_program { (bytes : List ℕ) → AreRcc (map string_bytes words.now) → S.left input.old ≡ Some bytes → length bytes ≤ 16777216
-        → IsBadProgram bytes → NoFault (S.faults input.old) (S.faults input.new) → (result ≡ Status.BadText) ⊎ IsFree result }
+    // A refused input: nothing is written, and the refusal is told by its status and its line.
+    ensures refused { (c : Command) (bytes : List ℕ) (why : Refusal) → AreWordsOf c (map string_bytes words.now)
+        → S.left input.old ≡ Some bytes → length bytes ≤ 16777216 → Refuses c bytes why
+        → NoFault (S.faults input.old) (S.faults input.new)
+        → Keeps (K.taken output.old) (K.taken output.new)
+        × (IsTold why (E.taken report.old) (E.taken report.new) result ⊎ IsFree result) }
 
-    // What is accepted is covered, run or compiled, unless memory was wanted or a stream failed.
-    ensures complete { (bytes : List ℕ) (d : MDescription) (trees : List MTree) → AreCover (map string_bytes words.now)
-        → S.left input.old ≡ Some bytes → length bytes ≤ 16777216 → IsText d bytes → IsTail d trees bytes
-        → NoFault (S.faults input.old) (S.faults input.new) → NoFault (K.faults output.old) (K.faults output.new) → NoFault (E.faults report.old) (E.faults report.new)
-        → (result ≡ Status.Ok) ⊎ (result ≡ Status.NoCover) ⊎ (result ≡ Status.Memory) }
-    ensures complete_run { (bytes : List ℕ) (p : Program) (main : ℕ) → AreSimrun (map string_bytes words.now)
-        → S.left input.old ≡ Some bytes → length bytes ≤ 16777216 → IsAssembly bytes p → HasMain p main
-        → NoFault (S.faults input.old) (S.faults input.new) → NoFault (K.faults output.old) (K.faults output.new) → NoFault (E.faults report.old) (E.faults report.new)
-        → IsRunStatus result ⊎ (result ≡ Status.Memory) }
-    ensures complete_compile { (bytes : List ℕ) (p : MProgram) → AreRcc (map string_bytes words.now)
-        → S.left input.old ≡ Some bytes → length bytes ≤ 16777216 → IsFirst bytes p
-        → NoFault (S.faults input.old) (S.faults input.new) → NoFault (K.faults output.old) (K.faults output.new) → NoFault (E.faults report.old) (E.faults report.new)
-        → (result ≡ Status.Ok) ⊎ (result ≡ Status.Memory) }
+    // An accepted input: the command's work is done, unless memory was wanted or a stream failed.
+    ensures complete { (c : Command) (bytes : List ℕ) → AreWordsOf c (map string_bytes words.now)
+        → S.left input.old ≡ Some bytes → length bytes ≤ 16777216 → Accepts c bytes
+        → NoFault (S.faults input.old) (S.faults input.new) → NoFault (K.faults output.old) (K.faults output.new)
+        → NoFault (E.faults report.old) (E.faults report.new)
+        → HasDone c bytes (K.taken output.old) (K.taken output.new) (E.taken report.old) (E.taken report.new) result
+        ⊎ (result ≡ Status.Memory) }
 {
+    one_fault();
+    one_description();
+    one_tree_fault();
     let outcome = run(alloc, words, input, output);
     match write_line(report, outcome) {
         Ok(()) => status(outcome),

@@ -1,21 +1,26 @@
-ghost use Rattle.std.specs.Prelude.{◌≡◌, ◌+◌, ◌<◌, ◌≤◌, ◌^◌, ◌*◌, ◌-◌, ℕ, List, All, true, false, if◌then◌else◌, length, IfOk, IfErr, IsErrOf};
-ghost use Rattle.lburg_grammar.specs.Tree.{MTree, nodes};
-ghost use Rattle.lburg_grammar.specs.Description.{MDescription};
-ghost use Rattle.lburg_grammar.specs.DescriptionText.{IsText};
-ghost use Rattle.lburg_grammar.specs.TailText.{IsTail};
-ghost use Rattle.lburg_grammar.specs.CoverText.{IsCoverText, no_cover_line, cost_line};
-ghost use Rattle.lburg_grammar.specs.Derivation.{MDerivation, cost, numbers};
-ghost use Rattle.lburg_grammar.specs.Best.{IsBest, HasNone};
+ghost use Rattle.std.specs.Prelude.{◌≡◌, ◌+◌, ◌<◌, ◌≤◌, ◌-◌, All, length, IfOk, IfErr, IsErrOf};
+ghost use Rattle.lburg_grammar.specs.Tree.{nodes};
+ghost use Rattle.lburg_grammar.specs.CoverText.{IsCoverText, no_cover_line};
+ghost use Rattle.lburg_grammar.specs.Derivation.{MDerivation, cost};
+ghost use Rattle.lburg_grammar.specs.Best.{IsBest};
+ghost use Rattle.lburg_text.specs.DescriptionText.{IsText};
 ghost use Rattle.tree_labeller.specs.IsLabelled.{IsLabelled};
 ghost use Rattle.tree_labeller.specs.MCells.{room, HasRoom};
 ghost use Rattle.lcc_top.specs.Printing.{Adds, AddsNumber, AddsLine};
-ghost use Rattle.lcc_top.specs.Cover.{IsCover, IsBadText};
-ghost use Rattle.lcc_top.specs.declared.input_fault.InputFault.TheVariants.{Memory};
+ghost use Rattle.lcc_top.specs.Cover.{IsCover, CoverEnds, RefusesTail, RefusesCover};
+ghost use Rattle.lcc_top.specs.Work.{IsWorked};
+ghost use Rattle.lcc_top.specs.declared.cover_fault.CoverFault.TheVariants.{Refused, Memory};
+ghost use Rattle.lcc_top.specs.declared.outcome.Refusal.{Refusal as Refusals};
 
-use crate::input_fault::InputFault;
+use crate::cover_fault::CoverFault;
+use crate::outcome::{End, Outcome};
 use crate::printer::Printer;
-use lburg_grammar::{Description, TextTree, TreeNode, read, read_trees};
-use lcc_base::{Bytes, Steps};
+use crate::words::Command;
+use crate::writing::write_text;
+use lburg_grammar::{Description, TextTree, TreeNode};
+use lburg_text::read;
+use lburg_trees::read_trees;
+use lcc_base::{Bytes, Sink, Steps};
 use std::alloc::Global;
 use std::marker::Brand;
 use std::sync::ledger::{Blank, Ledger};
@@ -101,7 +106,7 @@ fn cover_trees<L: Ledger>(
     trees: &[TextTree],
     cells: &mut Cells,
     steps: &mut Steps<L>,
-) -> Result<Cover, InputFault>
+) -> Result<Cover, CoverFault>
     requires nodes { All (λ t. nodes t ≤ room cells.old) trees.now }
     requires nonterminals { length tables.now.nonterminals ≤ cells.old.nonterminals }
     ensures found { IfOk result (λ c. IsCoverText tables.now trees.now c.text c.uncovered) }
@@ -116,7 +121,7 @@ fn cover_trees<L: Ledger>(
     }
     let Printer { text, is_refused } = printer;
     if is_refused {
-        return Err(InputFault::Memory);
+        return Err(CoverFault::Memory);
     }
     Ok(Cover { text, uncovered })
 }
@@ -127,7 +132,7 @@ fn cover_all<L: Ledger>(
     blank: Blank,
     description: &Description,
     trees: &[TextTree],
-) -> Result<Cover, InputFault>
+) -> Result<Cover, CoverFault>
     requires name { blank.name ≡ L.name }
     requires parts { blank.parts ≡ L.parts }
     requires some { 0 < blank.parts }
@@ -143,20 +148,46 @@ fn cover_all<L: Ledger>(
 }
 
 /// The cover of the trees in the tail of a description's text.
-fn cover_tail(alloc: Global, description: &Description, input: &[u8]) -> Result<Cover, InputFault>
-    requires { IsText description.now input.now }
+fn cover_tail(alloc: Global, description: &Description, input: &[u8]) -> Result<Cover, CoverFault>
+    requires text { IsText description.now input.now }
+    requires within { length input.now ≤ 16777216 }
     ensures found { IfOk result (λ c. IsCover input.now c.text c.uncovered) }
-    ensures bad { IsErrOf result InputFault.BadText → (trees : List MTree) → IsTail description.now trees input.now → ⊥ }
+    ensures refused { (why : Refusals) → IsErrOf result (Refused why) → RefusesTail description.now input.now why }
 {
     let trees = read_trees(alloc, description, input)?;
     cover_all::<Brand>(alloc, Blank::new(1), description, trees.as_slice())
 }
 
 /// The cover that a description's text with a tail of trees asks for.
-pub(crate) fn cover_text(alloc: Global, input: &[u8]) -> Result<Cover, InputFault>
+pub(crate) fn cover_text(alloc: Global, input: &[u8]) -> Result<Cover, CoverFault>
+    requires { length input.now ≤ 16777216 }
     ensures found { IfOk result (λ c. IsCover input.now c.text c.uncovered) }
-    ensures bad { IsErrOf result InputFault.BadText → IsBadText input.now }
+    ensures refused { (why : Refusals) → IsErrOf result (Refused why) → RefusesCover input.now why }
 {
     let description = read(alloc, input)?;
     cover_tail(alloc, &description, input)
+}
+
+/// How a cover ends in which so many trees have no derivation.
+fn end_of(uncovered: u64) -> End
+    ensures { CoverEnds uncovered result }
+{
+    if uncovered == 0 {
+        End::Finished
+    } else {
+        End::NoCover(uncovered)
+    }
+}
+
+/// Writes the cover that the input asks for.
+pub(crate) fn cover_input<K: Sink>(alloc: Global, input: &[u8], output: &mut K) -> Outcome
+    requires { length input.now ≤ 16777216 }
+    ensures worked { IsWorked Command.Cover input.now (K.taken output.old) (K.taken output.new) (K.faults output.old) (K.faults output.new) result }
+    ensures later { K.faults output.old ≤ K.faults output.new }
+{
+    match cover_text(alloc, input) {
+        Ok(cover) => write_text(cover.text.as_slice(), end_of(cover.uncovered), output),
+        Err(CoverFault::Refused(why)) => Outcome::Refused(why),
+        Err(CoverFault::Memory) => Outcome::Memory,
+    }
 }

@@ -1,10 +1,9 @@
 ghost use Rattle.std.specs.Prelude.{◌≡◌};
-ghost use Rattle.lcc_top.specs.InputFaults.{of_description, of_trees, of_program, of_assembly};
+ghost use Rattle.lcc_top.specs.InputFaults.{of_program, of_assembly};
 ghost use Rattle.lcc_top.specs.declared.input_fault.InputFault.TheVariants as fault;
 
 use asm_text::AsmFault;
 use first_form::FirstFault;
-use lburg_grammar::{DescFault, TreeFault};
 use lcc_base::Memory;
 use thiserror::Error;
 
@@ -24,28 +23,6 @@ impl From<Memory> for InputFault {
 
     fn from(_: Memory) -> Self {
         InputFault::Memory
-    }
-}
-
-impl From<DescFault> for InputFault {
-    ghost from_gives = { λ why e. e ≡ of_description why };
-
-    fn from(why: DescFault) -> Self {
-        match why {
-            DescFault::BadText => InputFault::BadText,
-            DescFault::Memory => InputFault::Memory,
-        }
-    }
-}
-
-impl From<TreeFault> for InputFault {
-    ghost from_gives = { λ why e. e ≡ of_trees why };
-
-    fn from(why: TreeFault) -> Self {
-        match why {
-            TreeFault::BadText => InputFault::BadText,
-            TreeFault::Memory => InputFault::Memory,
-        }
     }
 }
 

@@ -3,6 +3,8 @@
 
 mod calling;
 mod cover;
+mod cover_fault;
+mod fault_name;
 mod input_fault;
 mod outcome;
 mod printer;
@@ -12,6 +14,7 @@ mod simulate;
 mod status;
 mod words;
 mod work;
+mod writing;
 
 pub use calling::top;
 pub use status::Status;

@@ -1,16 +1,16 @@
 ghost use Rattle.std.specs.Prelude.{◌≡◌};
-ghost use Rattle.lcc_top.specs.Outcome.{status_of};
+ghost use Rattle.lcc_top.specs.Outcome.{end_status, refusal_status, status_of};
 
+use crate::fault_name::FaultName;
 use crate::status::Status;
 use asm_text::StuckCause;
+use lcc_base::Which;
 
-/// How a command ended, with what its line on the report tells.
+/// How a command's work on its input ended, with what its line on the report tells.
 #[derive(Clone, Copy, Debug, PartialEq, Eq)]
-pub(crate) enum Outcome {
-    /// Each tree has a line with its derivation.
-    Covered,
-    /// The program was compiled.
-    Compiled,
+pub(crate) enum End {
+    /// All is done, and there is nothing to report.
+    Finished,
     /// So many trees have no derivation.
     NoCover(u64),
     /// The run has ended with this status.
@@ -21,8 +21,28 @@ pub(crate) enum Outcome {
     StackOut(u32, u32),
     /// The run was still going after so many steps.
     OutOfSteps(u32),
+}
+
+/// Why a command refuses its input.
+#[derive(Clone, Copy, Debug, PartialEq, Eq)]
+pub(crate) enum Refusal {
+    /// The input isn't of the command's form.
+    BadText,
     /// No code label is `main`.
     NoMain,
+    /// A line of the input has a fault.
+    Fault { line: u32, name: FaultName },
+    /// A line of the input passes a limit.
+    Limit { line: u32, which: Which },
+}
+
+/// How a call ended.
+#[derive(Clone, Copy, Debug, PartialEq, Eq)]
+pub(crate) enum Outcome {
+    /// The command has done its work on the input.
+    Done(End),
+    /// The command refuses its input.
+    Refused(Refusal),
     /// The words are no command.
     Usage,
     /// A read of the input failed.
@@ -33,8 +53,32 @@ pub(crate) enum Outcome {
     Memory,
     /// The input is too long.
     InputTooLong,
-    /// The input isn't of the command's form.
-    BadText,
+}
+
+/// The status of work that ended so.
+fn status_of_end(end: End) -> Status
+    ensures { result ≡ end_status end }
+{
+    match end {
+        End::Finished => Status::Ok,
+        End::NoCover(_) => Status::NoCover,
+        End::Exited(_) => Status::Ok,
+        End::Stuck(_, _, _) => Status::Stuck,
+        End::StackOut(_, _) => Status::StackOut,
+        End::OutOfSteps(_) => Status::OutOfSteps,
+    }
+}
+
+/// The status of a refusal.
+fn status_of_refusal(refusal: Refusal) -> Status
+    ensures { result ≡ refusal_status refusal }
+{
+    match refusal {
+        Refusal::BadText => Status::BadText,
+        Refusal::NoMain => Status::BadText,
+        Refusal::Fault { line: _, name: _ } => Status::BadText,
+        Refusal::Limit { line: _, which: _ } => Status::Limit,
+    }
 }
 
 /// The status of an outcome.
@@ -42,19 +86,12 @@ pub(crate) fn status(outcome: Outcome) -> Status
     ensures { result ≡ status_of outcome }
 {
     match outcome {
-        Outcome::Covered => Status::Ok,
-        Outcome::Compiled => Status::Ok,
-        Outcome::NoCover(_) => Status::NoCover,
-        Outcome::Exited(_) => Status::Ok,
-        Outcome::Stuck(_, _, _) => Status::Stuck,
-        Outcome::StackOut(_, _) => Status::StackOut,
-        Outcome::OutOfSteps(_) => Status::OutOfSteps,
-        Outcome::NoMain => Status::BadText,
+        Outcome::Done(end) => status_of_end(end),
+        Outcome::Refused(refusal) => status_of_refusal(refusal),
         Outcome::Usage => Status::Usage,
         Outcome::ReadFault => Status::ReadFault,
         Outcome::WriteFault => Status::WriteFault,
         Outcome::Memory => Status::Memory,
         Outcome::InputTooLong => Status::InputTooLong,
-        Outcome::BadText => Status::BadText,
     }
 }

@@ -5,12 +5,16 @@ ghost use Rattle.first_form.specs.FirstProgram.{MProgram};
 ghost use Rattle.first_form.specs.FirstForm.{IsFirst};
 ghost use Rattle.first_forest.specs.FirstForest.{unit_of};
 ghost use Rattle.lcc_top.specs.Compilation.{IsCompiled, IsCompilation, IsBadProgram};
+ghost use Rattle.lcc_top.specs.Work.{IsWorked};
 
 use crate::input_fault::InputFault;
+use crate::outcome::{End, Outcome, Refusal};
+use crate::words::Command;
+use crate::writing::write_text;
 use asm_text::print;
 use first_forest::lower;
 use first_form::read;
-use lcc_base::{Bytes, Memory};
+use lcc_base::{Bytes, Memory, Sink};
 use mips_programs::programs_agree;
 use mips_target::generate;
 use op_forest::Lowered;
@@ -44,4 +48,17 @@ pub(crate) fn compile(alloc: Global, input: &[u8]) -> Result<Bytes, InputFault>
 {
     let unit = unit_of_input(alloc, input)?;
     Ok(assembly_text(alloc, unit)?)
+}
+
+/// Compiles the program that the input is the text of.
+pub(crate) fn compile_input<K: Sink>(alloc: Global, input: &[u8], output: &mut K) -> Outcome
+    requires { length input.now ≤ 16777216 }
+    ensures worked { IsWorked Command.Rcc input.now (K.taken output.old) (K.taken output.new) (K.faults output.old) (K.faults output.new) result }
+    ensures later { K.faults output.old ≤ K.faults output.new }
+{
+    match compile(alloc, input) {
+        Ok(text) => write_text(text.as_slice(), End::Finished, output),
+        Err(InputFault::BadText) => Outcome::Refused(Refusal::BadText),
+        Err(InputFault::Memory) => Outcome::Memory,
+    }
 }

@@ -1,12 +1,12 @@
-ghost use Rattle.std.specs.Prelude.{◌≡◌, ◌<◌, ◌++◌, List, ℕ, codes, decimal, OnOk, OnErr};
+ghost use Rattle.std.specs.Prelude.{◌≡◌, ◌<◌, ◌++◌, codes, decimal, OnOk, OnErr};
 ghost use Rattle.std.specs.Fmt.{signed_decimal};
 ghost use Rattle.std.specs.Io.KnownBytes.{Appends};
 ghost use Rattle.lcc_base.specs.Faults.{HasCause};
 ghost use Rattle.lcc_base.specs.Taken.{TookPrefix};
 ghost use Rattle.asm_text.specs.StuckCause.{cause_name};
-ghost use Rattle.lcc_top.specs.Outcome.{hex_digit, hex_word, line_of, place_line};
+ghost use Rattle.lcc_top.specs.Outcome.{hex_digit, hex_word, at_line, end_line, refusal_line, line_of, place_line};
 
-use crate::outcome::Outcome;
+use crate::outcome::{End, Outcome, Refusal};
 use asm_text::StuckCause;
 use itoa::Buffer;
 use lcc_base::{Failed, Sink, write_all};
@@ -98,6 +98,49 @@ fn write_stuck<E: Sink>(report: &mut E, cause: StuckCause, pc: u32, step: u32) -
     }
 }
 
+/// Writes the line of work that ended so, or nothing where it has none.
+fn write_end<E: Sink>(report: &mut E, end: End) -> Result<(), Failed>
+    ensures all { OnOk result (Appends (E.taken report.old) (E.taken report.new) (end_line end)) }
+    ensures prefix { OnErr result (TookPrefix (E.taken report.old) (E.taken report.new) (end_line end)) }
+    ensures cause { HasCause (E.faults report.old) (E.faults report.new) result }
+{
+    match end {
+        End::Finished => write_all(report, b""),
+        End::NoCover(number) => write_number(report, b"no cover: ", number),
+        End::Exited(status) => write_exit(report, status),
+        End::Stuck(cause, pc, step) => write_stuck(report, cause, pc, step),
+        End::StackOut(pc, step) => write_place(report, b"stack out", pc, step),
+        End::OutOfSteps(steps) => write_number(report, b"out of steps: ", steps as u64),
+    }
+}
+
+/// `line L: `, what the name is of, the name, and a line feed.
+fn write_at_line<E: Sink>(report: &mut E, line: u32, kind: &[u8], name: &str) -> Result<(), Failed>
+    ensures all { OnOk result (Appends (E.taken report.old) (E.taken report.new) (at_line line (kind.now ++ name.now))) }
+    ensures prefix { OnErr result (TookPrefix (E.taken report.old) (E.taken report.new) (at_line line (kind.now ++ name.now))) }
+    ensures cause { HasCause (E.faults report.old) (E.faults report.new) result }
+{
+    let mut buffer = Buffer::new();
+    match write_three(report, b"line ", buffer.format(line).as_bytes(), b": ") {
+        Err(fault) => Err(fault),
+        Ok(()) => write_three(report, kind, name.as_bytes(), b"\n"),
+    }
+}
+
+/// Writes the line of a refusal.
+fn write_refusal<E: Sink>(report: &mut E, refusal: Refusal) -> Result<(), Failed>
+    ensures all { OnOk result (Appends (E.taken report.old) (E.taken report.new) (refusal_line refusal)) }
+    ensures prefix { OnErr result (TookPrefix (E.taken report.old) (E.taken report.new) (refusal_line refusal)) }
+    ensures cause { HasCause (E.faults report.old) (E.faults report.new) result }
+{
+    match refusal {
+        Refusal::BadText => write_all(report, b"bad text\n"),
+        Refusal::NoMain => write_all(report, b"no main\n"),
+        Refusal::Fault { line, name } => write_at_line(report, line, b"", name.text()),
+        Refusal::Limit { line, which } => write_at_line(report, line, b"limit ", which.name()),
+    }
+}
+
 /// Writes the line of an outcome, or nothing where it has none.
 pub(crate) fn write_line<E: Sink>(report: &mut E, outcome: Outcome) -> Result<(), Failed>
     ensures all { OnOk result (Appends (E.taken report.old) (E.taken report.new) (line_of outcome)) }
@@ -105,17 +148,10 @@ pub(crate) fn write_line<E: Sink>(report: &mut E, outcome: Outcome) -> Result<()
     ensures cause { HasCause (E.faults report.old) (E.faults report.new) result }
 {
     match outcome {
-        Outcome::NoCover(number) => write_number(report, b"no cover: ", number),
-        Outcome::Exited(status) => write_exit(report, status),
-        Outcome::Stuck(cause, pc, step) => write_stuck(report, cause, pc, step),
-        Outcome::StackOut(pc, step) => write_place(report, b"stack out", pc, step),
-        Outcome::OutOfSteps(steps) => write_number(report, b"out of steps: ", steps as u64),
-        Outcome::NoMain => write_all(report, b"no main\n"),
+        Outcome::Done(end) => write_end(report, end),
+        Outcome::Refused(refusal) => write_refusal(report, refusal),
         Outcome::Usage => write_all(report, b"lcc: wrong words\n"),
         Outcome::InputTooLong => write_all(report, b"input too long\n"),
-        Outcome::BadText => write_all(report, b"bad text\n"),
-        Outcome::Covered => write_all(report, b""),
-        Outcome::Compiled => write_all(report, b""),
         Outcome::ReadFault => write_all(report, b""),
         Outcome::WriteFault => write_all(report, b""),
         Outcome::Memory => write_all(report, b""),

@@ -1,6 +1,8 @@
 ghost use Rattle.std.specs.Prelude.{◌≡◌, ◌↔◌, IsTrue, IfSome, IfNone, map, string_bytes};
-ghost use Rattle.lcc_top.specs.Words.{AreCover, AreSimrun, AreRcc, AreAccepted};
-ghost use Rattle.lcc_top.specs.Commands.{AreWordsOf};
+ghost use Rattle.lcc_top.specs.Cover.{AreCover};
+ghost use Rattle.lcc_top.specs.Simulation.{AreSimrun};
+ghost use Rattle.lcc_top.specs.Compilation.{AreRcc};
+ghost use Rattle.lcc_top.specs.Commands.{AreWordsOf, AreAccepted};
 
 /// What the words ask for.
 #[derive(Clone, Copy, Debug, PartialEq, Eq)]

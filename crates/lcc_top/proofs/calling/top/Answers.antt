@@ -1,62 +1,64 @@
-use Rattle.std.proofs.Common.{◌≡◌, ◌⊎◌, inl, inr, sym, ◌∙◌, subst}
+use Rattle.std.proofs.Common.{◌≡◌, ◌⊎◌, inl, inr, refl, sym, ◌∙◌, subst}
+use Rattle.lcc_top.specs.declared.words.Command.TheVariants.{Cover, Simrun, Rcc}
 use Rattle.lcc_top.specs.declared.status.Status.{Status}
 use Rattle.lcc_top.specs.declared.status.Status.TheVariants as status
 use Rattle.lcc_top.specs.Call.{IsFree}
-use Rattle.lcc_top.specs.Headline.{CoverHeadline, IsRunStatus, RunHeadline}
-use Rattle.lcc_top.proofs.Answered.{bad_or_free, covered_or_memory, ran_or_memory, cover_headline, ran_headline, input_kept, fault_of_input}
-use Rattle.lcc_top.proofs.Compiling.{compiled_or_memory, compiler_headline}
+use Rattle.lcc_top.specs.Answers.{IsEndStatus, HasDone, IsTold}
+use Rattle.lcc_top.proofs.Answered.{has_done, done_or_memory, refused_kept, told_or_free}
+use Rattle.lcc_top.proofs.CommandLaws.{CoverLaws}
+use Rattle.lcc_top.proofs.Faults.{input_kept, usage, too_long_or_free, fault_told, fault_of_input}
+use Rattle.lcc_top.proofs.Headlines.{cover_headline, run_headline, compiler_headline}
 use Rattle.lcc_top.proofs.calling.top.Goals as goal
 
+pub returns-in-Ok-clause-done : goal.returns-in-Ok-clause-done
+returns-in-Ok-clause-done g c = λ command bytes words is good.
+    (let Done : Status → Type 0 = λ s. HasDone command bytes (g.K.Sink.taken c.args.output.now) (g.K.Sink.taken c.run-outcome.new.output) (g.E.Sink.taken c.args.report.now) (g.E.Sink.taken c.write_line.new.report) s in
+    subst Done (sym c.status.ensures) (has_done command _ c.run-outcome.result bytes _ _ c.run-outcome.ensures.caused words is c.in-Ok.ensures.all (subst IsEndStatus c.status.ensures good)))
+
 pub returns-in-Ok-clause-cover_headline : goal.returns-in-Ok-clause-cover_headline
-returns-in-Ok-clause-cover_headline g c = λ bytes words is good.
-    (let Good : Status → Type 0 = λ s. (s ≡ status.Ok) ⊎ (s ≡ status.NoCover) in
-    let Headline : Status → Type 0 = λ s. CoverHeadline bytes (g.K.Sink.taken c.args.output.now) (g.K.Sink.taken c.run-outcome.new.output) (g.E.Sink.taken c.args.report.now) (g.E.Sink.taken c.write_line.new.report) s in
-    subst Headline (sym c.status.ensures) (cover_headline _ c.run-outcome.result bytes _ _ c.run-outcome.ensures.caused words is c.in-Ok.ensures.all (subst Good c.status.ensures good)))
+returns-in-Ok-clause-cover_headline g c = λ bytes words is. cover_headline bytes _ _ _ _ _ (returns-in-Ok-clause-done g c Cover bytes words is)
 
 pub returns-in-Ok-clause-simrun_headline : goal.returns-in-Ok-clause-simrun_headline
-returns-in-Ok-clause-simrun_headline g c = λ bytes words is good.
-    (let Headline : Status → Type 0 = λ s. RunHeadline bytes (g.K.Sink.taken c.args.output.now) (g.K.Sink.taken c.run-outcome.new.output) (g.E.Sink.taken c.args.report.now) (g.E.Sink.taken c.write_line.new.report) s in
-    subst Headline (sym c.status.ensures) (ran_headline _ c.run-outcome.result bytes _ _ c.run-outcome.ensures.caused words is c.in-Ok.ensures.all (subst IsRunStatus c.status.ensures good)))
-
-pub returns-in-Ok-clause-bad_text : goal.returns-in-Ok-clause-bad_text
-returns-in-Ok-clause-bad_text g c = λ bytes words is small bad fine.
-    (let Answer : Status → Type 0 = λ s. (s ≡ status.BadText) ⊎ IsFree s in
-    subst Answer (sym c.status.ensures) (bad_or_free _ c.run-outcome.result bytes c.run-outcome.ensures.caused (inl (words, bad)) is small fine))
-
-pub returns-in-Ok-clause-bad_assembly : goal.returns-in-Ok-clause-bad_assembly
-returns-in-Ok-clause-bad_assembly g c = λ bytes words is small idle fine.
-    (let Answer : Status → Type 0 = λ s. (s ≡ status.BadText) ⊎ IsFree s in
-    subst Answer (sym c.status.ensures) (bad_or_free _ c.run-outcome.result bytes c.run-outcome.ensures.caused (inr (inl (words, idle))) is small fine))
-
-pub returns-in-Ok-clause-complete : goal.returns-in-Ok-clause-complete
-returns-in-Ok-clause-complete g c = λ bytes d trees words is small text tail fine sound _.
-    (let Answer : Status → Type 0 = λ s. (s ≡ status.Ok) ⊎ (s ≡ status.NoCover) ⊎ (s ≡ status.Memory) in
-    subst Answer (sym c.status.ensures) (covered_or_memory _ c.run-outcome.result bytes d trees c.run-outcome.ensures.caused words is small text tail fine sound))
-
-pub returns-in-Ok-clause-complete_run : goal.returns-in-Ok-clause-complete_run
-returns-in-Ok-clause-complete_run g c = λ bytes p main words is small text has fine sound _.
-    (let Answer : Status → Type 0 = λ s. IsRunStatus s ⊎ (s ≡ status.Memory) in
-    subst Answer (sym c.status.ensures) (ran_or_memory _ c.run-outcome.result bytes p main c.run-outcome.ensures.caused words is small text has fine sound))
+returns-in-Ok-clause-simrun_headline g c = λ bytes words is. run_headline bytes _ _ _ _ _ (returns-in-Ok-clause-done g c Simrun bytes words is)
 
 pub returns-in-Ok-clause-compiler_headline : goal.returns-in-Ok-clause-compiler_headline
-returns-in-Ok-clause-compiler_headline g c = λ bytes words is good.
-    compiler_headline _ c.run-outcome.result bytes c.run-outcome.ensures.caused words is (sym c.status.ensures ∙ good)
+returns-in-Ok-clause-compiler_headline g c = λ bytes words is. compiler_headline bytes _ _ _ _ _ (returns-in-Ok-clause-done g c Rcc bytes words is)
 
-pub returns-in-Ok-clause-bad_program : goal.returns-in-Ok-clause-bad_program
-returns-in-Ok-clause-bad_program g c = λ bytes words is small bad fine.
-    (let Answer : Status → Type 0 = λ s. (s ≡ status.BadText) ⊎ IsFree s in
-    subst Answer (sym c.status.ensures) (bad_or_free _ c.run-outcome.result bytes c.run-outcome.ensures.caused (inr (inr (words, bad))) is small fine))
+pub returns-in-Ok-clause-complete : goal.returns-in-Ok-clause-complete
+returns-in-Ok-clause-complete g c = λ command bytes words is small accepts fine sound quiet.
+    (let Answer : Status → Type 0 = λ s. HasDone command bytes (g.K.Sink.taken c.args.output.now) (g.K.Sink.taken c.run-outcome.new.output) (g.E.Sink.taken c.args.report.now) (g.E.Sink.taken c.write_line.new.report) s ⊎ (s ≡ status.Memory) in
+    subst Answer (sym c.status.ensures) (done_or_memory command _ c.run-outcome.result bytes _ _ c.run-outcome.ensures.caused words is small accepts fine sound c.in-Ok.ensures.all))
 
-pub returns-in-Ok-clause-complete_compile : goal.returns-in-Ok-clause-complete_compile
-returns-in-Ok-clause-complete_compile g c = λ bytes p words is small text fine sound _.
-    (let Answer : Status → Type 0 = λ s. (s ≡ status.Ok) ⊎ (s ≡ status.Memory) in
-    subst Answer (sym c.status.ensures) (compiled_or_memory _ c.run-outcome.result bytes p c.run-outcome.ensures.caused words is small text fine sound))
+pub returns-in-Ok-clause-refused : goal.returns-in-Ok-clause-refused
+returns-in-Ok-clause-refused g c = λ command bytes why words is small refuses fine.
+    (let laws : CoverLaws = record { one_fault = c.one_fault.ensures.one; no_fault = c.one_fault.ensures.none; one_description = c.one_description.ensures; one_tree_fault = c.one_tree_fault.ensures.one; no_tree_fault = c.one_tree_fault.ensures.none } in
+    let Answer : Status → Type 0 = λ s. IsTold why (g.E.Sink.taken c.args.report.now) (g.E.Sink.taken c.write_line.new.report) s ⊎ IsFree s in
+    (refused_kept laws command _ c.run-outcome.result bytes why c.run-outcome.ensures.caused words is refuses, subst Answer (sym c.status.ensures) (told_or_free laws command _ c.run-outcome.result bytes why _ _ c.run-outcome.ensures.caused words is small refuses fine c.in-Ok.ensures.all)))
+
+pub returns-in-Err-clause-refused : goal.returns-in-Err-clause-refused
+returns-in-Err-clause-refused g c = λ command bytes why words is small refuses fine.
+    (let laws : CoverLaws = record { one_fault = c.one_fault.ensures.one; no_fault = c.one_fault.ensures.none; one_description = c.one_description.ensures; one_tree_fault = c.one_tree_fault.ensures.one; no_tree_fault = c.one_tree_fault.ensures.none } in
+    (refused_kept laws command _ c.run-outcome.result bytes why c.run-outcome.ensures.caused words is refuses, inr (inr refl)))
+
+pub returns-in-Ok-clause-wrong_words : goal.returns-in-Ok-clause-wrong_words
+returns-in-Ok-clause-wrong_words g c = λ none. inl (c.status.ensures ∙ usage _ c.run-outcome.result c.run-outcome.ensures.caused none)
 
 pub returns-in-Ok-clause-unread : goal.returns-in-Ok-clause-unread
 returns-in-Ok-clause-unread g c = input_kept _ c.run-outcome.result c.run-outcome.ensures.caused
 
 pub returns-in-Err-clause-unread : goal.returns-in-Err-clause-unread
 returns-in-Err-clause-unread g c = input_kept _ c.run-outcome.result c.run-outcome.ensures.caused
+
+pub returns-in-Ok-clause-too_long : goal.returns-in-Ok-clause-too_long
+returns-in-Ok-clause-too_long g c = λ bytes words is more fine.
+    (let Answer : Status → Type 0 = λ s. (s ≡ status.InputTooLong) ⊎ IsFree s in
+    subst Answer (sym c.status.ensures) (too_long_or_free _ c.run-outcome.result bytes c.run-outcome.ensures.caused words is more fine))
+
+pub returns-in-Ok-clause-read_fault : goal.returns-in-Ok-clause-read_fault
+returns-in-Ok-clause-read_fault g c = λ is. fault_told _ c.run-outcome.result status.ReadFault c.run-outcome.ensures.caused (sym c.status.ensures ∙ is) tt
+
+pub returns-in-Ok-clause-write_fault : goal.returns-in-Ok-clause-write_fault
+returns-in-Ok-clause-write_fault g c = λ is. inl (fault_told _ c.run-outcome.result status.WriteFault c.run-outcome.ensures.caused (sym c.status.ensures ∙ is) tt)
 
 pub returns-in-Ok-clause-unbroken : goal.returns-in-Ok-clause-unbroken
 returns-in-Ok-clause-unbroken g c = λ more. inl (c.status.ensures ∙ fault_of_input _ c.run-outcome.result c.run-outcome.ensures.caused more)

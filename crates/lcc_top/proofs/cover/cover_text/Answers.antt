@@ -1,16 +1,10 @@
-use Rattle.std.proofs.Common.{◌≡◌, subst}
-use Rattle.std.specs.Prelude.{IsErrAnd}
-use Rattle.lburg_grammar.specs.declared.desc_fault.DescFault.{DescFault}
-use Rattle.lcc_top.specs.InputFaults.{of_description}
-use Rattle.lcc_top.proofs.Refused.{never_bad}
-use Rattle.lcc_top.proofs.Tails.{bad_tail}
+use Rattle.std.proofs.Common.{inl, inr}
+use Rattle.lcc_top.proofs.Refused.{description_told}
 use Rattle.lcc_top.proofs.cover.cover_text.Goals as goal
 
-pub returns-clause-bad : goal.returns-clause-bad
-returns-clause-bad c = bad_tail c.cover_tail.result _ _ c.in_ok-description.ensures.one c.cover_tail.ensures.bad
+pub returns-clause-refused : goal.returns-clause-refused
+returns-clause-refused c = λ why told. inr (c.in_ok-description.description, c.in_ok-description.ensures.found, c.cover_tail.ensures.refused why told)
 
-pub returns-in_err-description-clause-bad : goal.returns-in_err-description-clause-bad
-returns-in_err-description-clause-bad c = λ bad d trees is tail.
-    (let memory = c.in_err-description.ensures.only d is in
-    let Gives : DescFault → Type 0 = λ why. IsErrAnd c.from_residual.result (λ e. e ≡ of_description why) in
-    never_bad c.from_residual.result (subst Gives memory c.from_residual.ensures.1) bad)
+pub returns-in_err-description-clause-refused : goal.returns-in_err-description-clause-refused
+returns-in_err-description-clause-refused c = λ why told.
+    inl (description_told c.from_residual.result c.args.input.now _ why c.in_err-description.ensures.fault c.from_residual.ensures.1 told)

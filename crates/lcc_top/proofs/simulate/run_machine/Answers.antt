@@ -1,4 +1,4 @@
-use Rattle.std.proofs.Common.{◌≡◌, ◌<◌, [], w32, SFits, rules, arith, refl, sym, subst}
+use Rattle.std.proofs.Common.{◌≡◌, ◌<◌, ℕ, List, [], w32, SFits, rules, arith, refl, sym, subst}
 use Rattle.std.specs.Prelude.{ℤ}
 use Rattle.std.proofs.Math.Facts.{to_z-of_z}
 use Rattle.asm_text.specs.Runs.{run_from, Going, Ended, Stuck, StackOut}
@@ -35,6 +35,6 @@ pub returns-in-Ended-clause-ran : goal.returns-in-Ended-clause-ran
 returns-in-Ended-clause-ran g c =
     let within : c.loop-i.i < c.args.steps = search rules in
     let fits : SFits w32 c.in-Ended.status = search rules in
-    let Ran : ℤ → Type 0 = λ z. IsAt (λ n. run_from (step c.args.machine.now.program c.args.machine.now.order) (record { printed = []; place = Going c.args.machine.now.cpu [] }) n) c.args.steps (g.K.Sink.taken c.args.output.now) (g.K.Sink.taken c.step.new.out) (Ended z) in
-    let (at, stops) = over _ _ _ c.loop-i.i c.args.steps _ _ _ _ _ _ _ _ _ _ (Ended c.in-Ended.status) (λ x. x) (λ l. refl) within c.loop-i.invariant.0 c.in-Ended.ensures.stepped in
-    subst Ran (sym (to_z-of_z fits)) at
+    let Ran : List ℕ → ℤ → Type 0 = λ text z. IsAt (λ n. run_from (step c.args.machine.now.program c.args.machine.now.order) (record { printed = []; place = Going c.args.machine.now.cpu [] }) n) c.args.steps text (Ended z) in
+    let (text, stopped, took) = over _ _ _ c.loop-i.i c.args.steps _ _ _ _ _ _ _ _ _ _ (Ended c.in-Ended.status) (λ x. x) (λ l. refl) within c.loop-i.invariant.0 c.in-Ended.ensures.stepped in
+    (text, subst (Ran text) (sym (to_z-of_z fits)) stopped.0, took)

@@ -1,5 +1,5 @@
-use Rattle.lcc_top.proofs.RunOf.{run_of}
-use Rattle.lcc_top.proofs.work.run_program.Goals as goal
+use Rattle.lcc_top.proofs.Simulated.{run_of}
+use Rattle.lcc_top.proofs.simulate.run_program.Goals as goal
 
 pub returns-in-Ok-clause-ran : goal.returns-in-Ok-clause-ran
 returns-in-Ok-clause-ran g c =

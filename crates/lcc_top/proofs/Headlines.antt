@@ -1,0 +1,57 @@
+-- The headlines, from what each command has done.
+use Rattle.std.proofs.Common.{◌≡◌, ℕ, ◌⊎◌, inl, inr, List, sym, subst}
+use Rattle.std.specs.declared.option.Option.{Option}
+use Rattle.std.specs.Io.KnownBytes.{Appends}
+use Rattle.lcc_top.specs.declared.words.Command.TheVariants.{Cover, Simrun, Rcc}
+use Rattle.lcc_top.specs.declared.outcome.End.{End}
+use Rattle.lcc_top.specs.declared.outcome.End.TheVariants as ends
+use Rattle.lcc_top.specs.declared.status.Status.{Status}
+use Rattle.lcc_top.specs.declared.status.Status.TheVariants as status
+use Rattle.lcc_top.specs.Outcome.{end_status, end_line}
+use Rattle.lcc_top.specs.Cover.{CoverEnds}
+use Rattle.lcc_top.specs.Compilation.{IsCompilation, WritesRcc}
+use Rattle.lcc_top.specs.Answers.{IsEndStatus, HasDone}
+use Rattle.lcc_top.specs.Headline.{IsAnswer, CoverHeadline, IsRunStatus, RunHeadline, CompilerHeadline}
+
+-- ---- lburg cover
+
+cover_end : (s : Status) → (s ≡ status.Ok) ⊎ (s ≡ status.NoCover) → IsEndStatus s
+cover_end s (inl is) = subst IsEndStatus (sym is) tt
+cover_end s (inr is) = subst IsEndStatus (sym is) tt
+
+cover_answer : (uncovered : ℕ) (end : End) (answer : Status) (report report_after : Option (List ℕ)) → CoverEnds uncovered end → answer ≡ end_status end → Appends report report_after (end_line end) → IsAnswer uncovered answer report report_after
+cover_answer uncovered ends.Finished answer report report_after none is told = inl (none, is, told)
+cover_answer uncovered (ends.NoCover n) answer report report_after (same, some) is told =
+    subst (λ k. IsAnswer k answer report report_after) (sym same) (inr (some, is, told))
+cover_answer uncovered end answer report report_after none is told = absurd none
+
+pub cover_headline : (bytes : List ℕ) (taken taken_after report report_after : Option (List ℕ)) (answer : Status) → (IsEndStatus answer → HasDone Cover bytes taken taken_after report report_after answer) → (answer ≡ status.Ok) ⊎ (answer ≡ status.NoCover) → CoverHeadline bytes taken taken_after report report_after answer
+cover_headline bytes taken taken_after report report_after answer done good =
+    let h = done (cover_end answer good) in
+    let (uncovered, cover, ends) = h.writes in
+    record { text = h.text; uncovered = uncovered; cover = cover; written = h.written; answered = cover_answer uncovered h.end answer report report_after ends h.answered h.reported }
+
+-- ---- simrun
+
+run_end : (s : Status) → IsRunStatus s → IsEndStatus s
+run_end status.Ok good = tt
+run_end status.Stuck good = tt
+run_end status.StackOut good = tt
+run_end status.OutOfSteps good = tt
+run_end s none = absurd none
+
+pub run_headline : (bytes : List ℕ) (taken taken_after report report_after : Option (List ℕ)) (answer : Status) → (IsEndStatus answer → HasDone Simrun bytes taken taken_after report report_after answer) → IsRunStatus answer → RunHeadline bytes taken taken_after report report_after answer
+run_headline bytes taken taken_after report report_after answer done good =
+    let h = done (run_end answer good) in
+    record { end = h.end; text = h.text; simulation = h.writes; written = h.written; answered = h.answered; reported = h.reported }
+
+-- ---- rcc
+
+compiled : (input text : List ℕ) (end : End) → WritesRcc input end text → IsCompilation input text
+compiled input text ends.Finished made = made
+compiled input text end none = absurd none
+
+pub compiler_headline : (bytes : List ℕ) (taken taken_after report report_after : Option (List ℕ)) (answer : Status) → (IsEndStatus answer → HasDone Rcc bytes taken taken_after report report_after answer) → answer ≡ status.Ok → CompilerHeadline bytes taken taken_after
+compiler_headline bytes taken taken_after report report_after answer done good =
+    let h = done (subst IsEndStatus (sym good) tt) in
+    record { text = h.text; compilation = compiled bytes h.text h.end h.writes; written = h.written }
