@@ -1,7 +1,6 @@
 -- Names in the order of their first uses.
-use Rattle.std.specs.Prelude.{◌≡◌, ◌<◌, ℕ, Some, List, map, slice_get}
-use Rattle.lburg_syntax.specs.Grammar.{MRule}
-use Rattle.lburg_grammar.specs.Description.{AreDistinct}
+use Rattle.std.specs.Prelude.{◌≡◌, ◌<◌, ℕ, Some, List, slice_get}
+use Rattle.lburg_model.specs.Description.{AreDistinct}
 
 -- each name that is used, once: where one stands before another, it is used before the other is
 pub record AreFirsts (uses names : List (List ℕ)) : Type 0 where
@@ -13,7 +12,3 @@ pub record AreFirsts (uses names : List (List ℕ)) : Type 0 where
 -- no name stands among both
 abbrev pub AreApart : List (List ℕ) → List (List ℕ) → Type 0
 AreApart xs ys = (i j : ℕ) (name : List ℕ) → slice_get xs i ≡ Some name → slice_get ys j ≡ Some name → ⊥
-
--- the left sides of the rules
-abbrev pub lefts_of : List MRule → List (List ℕ)
-lefts_of ss = map (λ s. s.left) ss

@@ -1,36 +1,21 @@
-//! Descriptions of machines as rules, the trees that they cover, and derivations.
+//! The texts of descriptions: a description and the trees of its tail read, each or its first fault, and a description
+//! printed. The types are those of `lburg_model`.
 #![tactic(auto)]
 
-mod arities;
-mod declared;
-mod derivation;
-mod desc_fault;
-mod description;
 mod description_text;
-mod left_sides;
-mod named_tree;
-mod pattern;
-mod range;
+mod laws;
+mod printed_text;
 mod resolve;
 mod resolved_rule;
-mod rule;
-mod tail_text;
-mod terminal;
+
+pub use description_text::read;
+pub use laws::{one_description, one_fault, one_tree_fault};
+pub use lburg_faults::DescFault;
+pub use lburg_model::{
+    Derivation, Description, Pattern, Range, Rule, Terminal, TextTree, TreeNode,
+};
+pub use lburg_trees::{TreeFault, read_trees};
+pub use printed_text::print;
+
 #[cfg(test)]
 mod tests;
-mod text_tree;
-mod tree_fault;
-mod tree_node;
-
-pub use derivation::Derivation;
-pub use desc_fault::DescFault;
-pub use description::Description;
-pub use description_text::read;
-pub use pattern::Pattern;
-pub use range::Range;
-pub use rule::Rule;
-pub use tail_text::read_trees;
-pub use terminal::Terminal;
-pub use text_tree::TextTree;
-pub use tree_fault::TreeFault;
-pub use tree_node::TreeNode;

@@ -1,71 +1,87 @@
-ghost use Rattle.std.specs.Prelude.{◌≡◌, ◌≤◌, ℕ, Some, length, map, slice_get, IfOk, IfErr};
+//! The description that lines without a fault mean.
+ghost use Rattle.std.specs.Prelude.{◌≡◌, ◌≤◌, List, ℕ, Some, length, map, option_map, option_to_list, IfOk};
 ghost use Rattle.lcc_text.specs.Names.{bytes_of};
-ghost use Rattle.lburg_syntax.specs.NamedTree.{names_in};
-ghost use Rattle.lburg_syntax.specs.Grammar.{MRule, declaration_of, rule_of};
-ghost use Rattle.lburg_grammar.specs.Description.{MDescription};
+ghost use Rattle.lburg_lines.specs.Grammar.{rule_of};
+ghost use Rattle.lburg_faults.specs.Ruling.{lefts_of};
+ghost use Rattle.lburg_faults.specs.Terminals.{Among};
+ghost use Rattle.lburg_grammar.specs.FirstUses.{AreFirsts};
+ghost use Rattle.lburg_grammar.specs.Places.{StartFor};
+ghost use Rattle.lburg_faults.specs.CheckedText.{IsChecked};
 ghost use Rattle.lburg_grammar.specs.DescriptionText.{Means};
 
-use crate::arities::arities_in;
-use crate::declared::{Declared, declared_start, declared_terminals};
-use crate::desc_fault::DescFault;
-use crate::description::Description;
-use crate::left_sides::{copied_names, left_sides, start_place};
-use crate::resolved_rule::resolved_rules;
-use crate::terminal::Terminal;
-use lburg_syntax::{Declaration, RuleLine};
-use lcc_base::{Bytes, Items, Memory};
+use crate::resolved_rule::{place_in, resolved_rules};
+use indexmap::IndexSet;
+use lburg_faults::CheckedText;
+use lburg_lines::{RuleLine, one_tree};
+use lburg_model::{Description, Terminal};
+use lcc_base::{Bytes, Memory};
+use lcc_text::place;
 use std::alloc::Global;
 
-/// How many rules a description may have.
-const MOST_RULES: usize = 4095;
-
-/// The description that the declarations and rules mean.
-pub fn resolved<'a>(
-    alloc: Global,
-    declarations: &[Declaration<'a>],
-    lines: &[RuleLine<'a>],
-) -> Result<Description, DescFault>
-    requires small { (i : ℕ) (s : MRule) → slice_get (map rule_of lines.now) i ≡ Some s → names_in s.tree ≤ 16 }
-    ensures found { IfOk result (λ d. Means (record { declarations = map declaration_of declarations.now; rules = map rule_of lines.now }) d) }
-    ensures only { (d : MDescription) → Means (record { declarations = map declaration_of declarations.now; rules = map rule_of lines.now }) d → IfErr result (λ e. e ≡ DescFault.Memory) }
+/// The left sides of the rules in the order of their first rules.
+fn left_sides<'a>(alloc: Global, rules: &[RuleLine<'a>]) -> Result<IndexSet<&'a [u8]>, Memory>
+    ensures { IfOk result (λ names. AreFirsts (lefts_of (map rule_of rules.now)) (bytes_of names)) }
 {
-    if lines.is_empty() || lines.len() > MOST_RULES {
-        return Err(DescFault::BadText);
+    let mut names = IndexSet::new(alloc);
+    for rule in rules {
+        place(&mut names, rule.left)?;
     }
-    let declared = declared_terminals(alloc, declarations)?;
-    let start = declared_start(declarations)?;
-    let nonterminals = left_sides(alloc, &declared.names, lines)?;
-    let start = start_place(&nonterminals, start)?;
-    let rules = resolved_rules(alloc, &declared.names, &nonterminals, lines)?;
-    let arities = arities_in(alloc, declared.names.len(), rules.as_slice())?;
-    let terminals = described(alloc, &declared, arities.as_slice())?;
-    let nonterminals = copied_names(alloc, &nonterminals)?;
-    Ok(Description::of_parts(terminals, nonterminals, start, rules))
+    Ok(names)
 }
 
-/// The terminals with their arities.
-fn described(
-    alloc: Global,
-    declared: &Declared,
-    arities: &[Option<u8>],
-) -> Result<Vec<Terminal>, Memory>
-    requires names { length (bytes_of declared.now.names) ≡ length arities.now }
-    requires numbers { length declared.now.numbers.keys ≡ length arities.now }
-    ensures names { IfOk result (λ ts. map (λ t. t.name) ts.items ≡ bytes_of declared.now.names) }
-    ensures numbers { IfOk result (λ ts. map (λ t. t.number) ts.items ≡ declared.now.numbers.keys) }
-    ensures arities { IfOk result (λ ts. map (λ t. t.arity) ts.items ≡ arities.now) }
+/// The place of the start symbol: the declared one, or the first left side.
+fn start_place<'a>(nonterminals: &IndexSet<&'a [u8]>, start: Option<&'a [u8]>) -> u16
+    requires few { length (bytes_of nonterminals.now) ≤ 127 }
+    requires known { (name : List ℕ) → option_map (λ n. n.now) start ≡ Some name → Among name (bytes_of nonterminals.now) }
+    ensures { StartFor (bytes_of nonterminals.now) (option_to_list (option_map (λ n. n.now) start.entry)) result }
 {
-    let numbers = declared.numbers.as_slice();
+    match start {
+        Some(name) => place_in(nonterminals, name) as u16,
+        None => 0,
+    }
+}
+
+/// The terminals with their numbers and arities.
+fn described(alloc: Global, checked: &CheckedText) -> Result<Vec<Terminal>, Memory>
+    requires numbers { length checked.now.numbers.keys ≡ length (bytes_of checked.now.terminals) }
+    requires arities { length checked.now.arities.items ≡ length (bytes_of checked.now.terminals) }
+    ensures names { IfOk result (λ ts. map (λ t. t.name) ts.items ≡ bytes_of checked.now.terminals) }
+    ensures numbers { IfOk result (λ ts. map (λ t. t.number) ts.items ≡ checked.now.numbers.keys) }
+    ensures arities { IfOk result (λ ts. map (λ t. t.arity) ts.items ≡ checked.now.arities.items) }
+{
+    let numbers = checked.numbers.as_slice();
     let mut terminals = Vec::new(alloc);
-    for (place, name) in declared.names.as_slice().iter().enumerate() {
-        let name = Bytes::copied(alloc, name)?;
-        let number = numbers[place];
-        let arity = arities[place];
+    for (place, name) in checked.terminals.as_slice().iter().enumerate() {
         terminals.push(Terminal {
-            name,
-            number,
-            arity,
+            name: Bytes::copied(alloc, name)?,
+            number: numbers[place],
+            arity: checked.arities[place],
         })?;
     }
     Ok(terminals)
+}
+
+/// Copies of the names, in order.
+fn copied_names(alloc: Global, names: &IndexSet<&[u8]>) -> Result<Vec<Bytes>, Memory>
+    ensures { IfOk result (λ copies. copies.items ≡ bytes_of names.now) }
+{
+    let mut copies = Vec::new(alloc);
+    for name in names.as_slice() {
+        copies.push(Bytes::copied(alloc, name)?)?;
+    }
+    Ok(copies)
+}
+
+/// The description that a text without a fault means.
+pub(crate) fn resolved<'a>(alloc: Global, checked: &CheckedText<'a>) -> Result<Description, Memory>
+    requires { (text : List ℕ) × IsChecked checked.now text }
+    ensures { IfOk result (λ d. (text : List ℕ) (is : IsChecked checked.now text) → Means is.written d) }
+{
+    one_tree();
+    let lefts = left_sides(alloc, &checked.rules)?;
+    let start = start_place(&lefts, checked.start);
+    let rules = resolved_rules(alloc, &checked.terminals, &lefts, &checked.rules)?;
+    let terminals = described(alloc, checked)?;
+    let nonterminals = copied_names(alloc, &lefts)?;
+    Ok(Description::of_parts(terminals, nonterminals, start, rules))
 }

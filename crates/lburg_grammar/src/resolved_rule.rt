@@ -1,151 +1,138 @@
-ghost use Rattle.std.specs.Prelude.{◌≡◌, ◌≤◌, List, ℕ, Option, None, Some, map, length, slice_get, option_map, IfOk, IfErr, OnErr, IsOk};
+//! A rule with places for names.
+ghost use Rattle.std.specs.Prelude.{◌≡◌, ◌≤◌, Some, map, length, IfOk};
 ghost use Rattle.lcc_text.specs.Names.{bytes_of, place_of};
-ghost use Rattle.lburg_syntax.specs.NamedTree.{named_of, MNamed};
-ghost use Rattle.lburg_syntax.specs.Grammar.{rule_of, MRule};
-ghost use Rattle.lburg_grammar.specs.declared.rule.Rule.{Rule as MeantRule};
-ghost use Rattle.lburg_grammar.specs.Pattern.{MPattern, pattern_of};
+ghost use Rattle.lburg_lines.specs.NamedTree.{named_of};
+ghost use Rattle.lburg_lines.specs.Grammar.{cost_of, rule_of};
+ghost use Rattle.lburg_faults.specs.Terminals.{Among};
+ghost use Rattle.lburg_model.specs.Range.{IsRangeFor};
+ghost use Rattle.lburg_model.specs.Pattern.{pattern_of as pattern_view};
 ghost use Rattle.lburg_grammar.specs.DescriptionText.{CostMeans};
-ghost use Rattle.lburg_grammar.specs.Places.{operator_of, alone_for, pattern_for, RuleFor, RulesFor};
+ghost use Rattle.lburg_grammar.specs.Places.{AreKnown, IsPrice, IsResolvable, AreResolvable, RuleFor, RulesFor, pattern_for};
 
-use crate::desc_fault::DescFault;
-use crate::pattern::Pattern;
-use crate::rule::Rule;
 use indexmap::IndexSet;
-use lburg_syntax::{NamedTree, RuleLine};
-use lcc_base::Bytes;
+use lburg_lines::{CostWritten, NamedTree, RuleLine};
+use lburg_model::{Pattern, Range, Rule};
+use lcc_base::{Bytes, Memory};
 use lcc_text::{decimal_value, find};
 use std::alloc::Global;
 
 /// The greatest cost of a rule.
 const MOST_COST: u32 = 32_766;
 
+/// A rule's cost and range.
+#[derive(Clone, Copy)]
+struct Price {
+    cost: u16,
+    range: Option<Range>,
+}
+
+/// What a cost means.
+fn price_of(cost: CostWritten) -> Price
+    requires { IsPrice (cost_of cost) }
+    ensures means { CostMeans (cost_of cost.entry) result.cost result.range }
+    ensures small { result.cost ≤ 32766 }
+    ensures range { IsRangeFor result.cost result.range }
+{
+    match cost {
+        CostWritten::Omitted => Price {
+            cost: 0,
+            range: None,
+        },
+        CostWritten::Fixed(digits) => Price {
+            cost: decimal_value(digits, MOST_COST).unwrap_or(0) as u16,
+            range: None,
+        },
+        CostWritten::Range { low, high } => Price {
+            cost: 0,
+            range: Some(Range {
+                low: low.value().unwrap_or(0),
+                high: high.value().unwrap_or(0),
+            }),
+        },
+    }
+}
+
+/// The place of a name that is among the names.
+pub(crate) fn place_in<'a>(names: &IndexSet<&'a [u8]>, name: &'a [u8]) -> usize
+    requires { Among name.now (bytes_of names.now) }
+    ensures { place_of (bytes_of names.now) name.now ≡ Some result }
+{
+    match find(names, name) {
+        Some(place) => place,
+        None => 0,
+    }
+}
+
+/// The pattern of a tree, whose names are all known.
+fn pattern_of<'a>(
+    alloc: Global,
+    terminals: &IndexSet<&'a [u8]>,
+    nonterminals: &IndexSet<&'a [u8]>,
+    tree: &NamedTree<'a>,
+) -> Result<Pattern, Memory>
+    requires few_terminals { length (bytes_of terminals.now) ≤ 1023 }
+    requires few_nonterminals { length (bytes_of nonterminals.now) ≤ 127 }
+    requires known { AreKnown (bytes_of terminals.now) (bytes_of nonterminals.now) (named_of tree.now) }
+    ensures { IfOk result (λ p. pattern_for (bytes_of terminals.now) (bytes_of nonterminals.now) (named_of tree.now) ≡ Some (pattern_view p)) }
+{
+    match tree {
+        NamedTree::Leaf(name) => match find(terminals, name) {
+            Some(place) => Ok(Pattern::Leaf(place as u16 + 1)),
+            None => Ok(Pattern::Nonterminal(place_in(nonterminals, name) as u16)),
+        },
+        NamedTree::Unary(name, a) => {
+            let op = place_in(terminals, name) as u16 + 1;
+            let a = pattern_of(alloc, terminals, nonterminals, a)?;
+            Ok(Pattern::Unary(op, Box::new(alloc, a)?))
+        }
+        NamedTree::Binary(name, a, b) => {
+            let op = place_in(terminals, name) as u16 + 1;
+            let a = pattern_of(alloc, terminals, nonterminals, a)?;
+            let b = pattern_of(alloc, terminals, nonterminals, b)?;
+            Ok(Pattern::Binary(op, Box::new(alloc, a)?, Box::new(alloc, b)?))
+        }
+    }
+}
+
+/// A rule, whose names are all known.
+fn resolved_rule<'a>(
+    alloc: Global,
+    terminals: &IndexSet<&'a [u8]>,
+    nonterminals: &IndexSet<&'a [u8]>,
+    line: &RuleLine<'a>,
+) -> Result<Rule, Memory>
+    requires few_terminals { length (bytes_of terminals.now) ≤ 1023 }
+    requires few_nonterminals { length (bytes_of nonterminals.now) ≤ 127 }
+    requires known { IsResolvable (bytes_of terminals.now) (bytes_of nonterminals.now) (rule_of line.now) }
+    ensures { IfOk result (λ r. RuleFor (bytes_of terminals.now) (bytes_of nonterminals.now) (rule_of line.now) r) }
+{
+    let pattern = pattern_of(alloc, terminals, nonterminals, &line.tree)?;
+    let template = Bytes::copied(alloc, line.template)?;
+    let price = price_of(line.cost);
+    Ok(Rule {
+        left: place_in(nonterminals, line.left) as u16,
+        pattern,
+        template,
+        cost: price.cost,
+        range: price.range,
+    })
+}
+
 /// The rules in order, with places for names.
-pub fn resolved_rules<'a>(
+pub(crate) fn resolved_rules<'a>(
     alloc: Global,
     terminals: &IndexSet<&'a [u8]>,
     nonterminals: &IndexSet<&'a [u8]>,
     lines: &[RuleLine<'a>],
-) -> Result<Vec<Rule>, DescFault>
+) -> Result<Vec<Rule>, Memory>
     requires few_terminals { length (bytes_of terminals.now) ≤ 1023 }
     requires few_nonterminals { length (bytes_of nonterminals.now) ≤ 127 }
-    ensures found { IfOk result (λ rs. RulesFor (bytes_of terminals.now) (bytes_of nonterminals.now) (map rule_of lines.now) rs.items) }
-    ensures only { (rs : List MeantRule) → RulesFor (bytes_of terminals.now) (bytes_of nonterminals.now) (map rule_of lines.now) rs → IfErr result (λ e. e ≡ DescFault.Memory) }
+    requires known { AreResolvable (bytes_of terminals.now) (bytes_of nonterminals.now) (map rule_of lines.now) }
+    ensures { IfOk result (λ rs. RulesFor (bytes_of terminals.now) (bytes_of nonterminals.now) (map rule_of lines.now) rs.items) }
 {
     let mut rules = Vec::new(alloc);
     for line in lines {
         rules.push(resolved_rule(alloc, terminals, nonterminals, line)?)?;
     }
     Ok(rules)
-}
-
-/// A rule, with places for names.
-fn resolved_rule<'a>(
-    alloc: Global,
-    terminals: &IndexSet<&'a [u8]>,
-    nonterminals: &IndexSet<&'a [u8]>,
-    line: &RuleLine<'a>,
-) -> Result<Rule, DescFault>
-    requires few_terminals { length (bytes_of terminals.now) ≤ 1023 }
-    requires few_nonterminals { length (bytes_of nonterminals.now) ≤ 127 }
-    ensures found { IfOk result (λ r. RuleFor (bytes_of terminals.now) (bytes_of nonterminals.now) (rule_of line.now) r) }
-    ensures only { (r : MeantRule) → RuleFor (bytes_of terminals.now) (bytes_of nonterminals.now) (rule_of line.now) r → IfErr result (λ e. e ≡ DescFault.Memory) }
-{
-    let left = resolved_left(nonterminals, line.left)?;
-    let pattern = resolved_pattern(alloc, terminals, nonterminals, &line.tree)?;
-    let cost = resolved_cost(line.cost)?;
-    let template = Bytes::copied(alloc, line.template)?;
-    Ok(Rule {
-        left,
-        pattern,
-        template,
-        cost,
-        range: None,
-    })
-}
-
-/// The place of a left side.
-fn resolved_left<'a>(nonterminals: &IndexSet<&'a [u8]>, name: &'a [u8]) -> Result<u16, DescFault>
-    requires { length (bytes_of nonterminals.now) ≤ 127 }
-    ensures ok { IfOk result (λ place. place_of (bytes_of nonterminals.now) name.now ≡ Some place) }
-    ensures err { OnErr result (place_of (bytes_of nonterminals.now) name.now ≡ None) }
-{
-    match find(nonterminals, name) {
-        None => Err(DescFault::BadText),
-        Some(place) => Ok(place as u16),
-    }
-}
-
-/// The number of the cost's digits, or 0.
-fn resolved_cost(cost: Option<&[u8]>) -> Result<u16, DescFault>
-    ensures ok { IfOk result (λ n. CostMeans (option_map (λ c. c.now) cost.entry) n × (n ≤ 32766)) }
-    ensures only { (n : ℕ) → CostMeans (option_map (λ c. c.now) cost.entry) n → n ≤ 32766 → IsOk result }
-{
-    match cost {
-        None => Ok(0),
-        Some(digits) => match decimal_value(digits, MOST_COST) {
-            None => Err(DescFault::BadText),
-            Some(number) => Ok(number as u16),
-        },
-    }
-}
-
-/// The pattern of a tree: a name with operands is a terminal's, a name alone a terminal's or a
-/// nonterminal's.
-fn resolved_pattern<'a>(
-    alloc: Global,
-    terminals: &IndexSet<&'a [u8]>,
-    nonterminals: &IndexSet<&'a [u8]>,
-    tree: &NamedTree<'a>,
-) -> Result<Pattern, DescFault>
-    requires few_terminals { length (bytes_of terminals.now) ≤ 1023 }
-    requires few_nonterminals { length (bytes_of nonterminals.now) ≤ 127 }
-    ensures found { IfOk result (λ p. pattern_for (bytes_of terminals.now) (bytes_of nonterminals.now) (named_of tree.now) ≡ Some (pattern_of p)) }
-    ensures only { (p : MPattern) → pattern_for (bytes_of terminals.now) (bytes_of nonterminals.now) (named_of tree.now) ≡ Some p → IfErr result (λ e. e ≡ DescFault.Memory) }
-{
-    match tree {
-        NamedTree::Leaf(name) => resolved_name(terminals, nonterminals, name),
-        NamedTree::Unary(name, a) => {
-            let op = operator(terminals, name)?;
-            let a = resolved_pattern(alloc, terminals, nonterminals, a)?;
-            Ok(Pattern::Unary(op, Box::new(alloc, a)?))
-        }
-        NamedTree::Binary(name, a, b) => {
-            let op = operator(terminals, name)?;
-            let a = resolved_pattern(alloc, terminals, nonterminals, a)?;
-            let b = resolved_pattern(alloc, terminals, nonterminals, b)?;
-            Ok(Pattern::Binary(op, Box::new(alloc, a)?, Box::new(alloc, b)?))
-        }
-    }
-}
-
-/// The pattern of a name alone.
-fn resolved_name<'a>(
-    terminals: &IndexSet<&'a [u8]>,
-    nonterminals: &IndexSet<&'a [u8]>,
-    name: &'a [u8],
-) -> Result<Pattern, DescFault>
-    requires few_terminals { length (bytes_of terminals.now) ≤ 1023 }
-    requires few_nonterminals { length (bytes_of nonterminals.now) ≤ 127 }
-    ensures ok { IfOk result (λ p. alone_for (operator_of (bytes_of terminals.now) name.now) (place_of (bytes_of nonterminals.now) name.now) ≡ Some (pattern_of p)) }
-    ensures err { OnErr result (alone_for (operator_of (bytes_of terminals.now) name.now) (place_of (bytes_of nonterminals.now) name.now) ≡ None) }
-{
-    match find(terminals, name) {
-        Some(place) => Ok(Pattern::Leaf(place as u16 + 1)),
-        None => match find(nonterminals, name) {
-            None => Err(DescFault::BadText),
-            Some(place) => Ok(Pattern::Nonterminal(place as u16)),
-        },
-    }
-}
-
-/// The operator of a terminal's name: its place from 1.
-fn operator<'a>(terminals: &IndexSet<&'a [u8]>, name: &'a [u8]) -> Result<u16, DescFault>
-    requires { length (bytes_of terminals.now) ≤ 1023 }
-    ensures ok { IfOk result (λ op. operator_of (bytes_of terminals.now) name.now ≡ Some op) }
-    ensures err { OnErr result (operator_of (bytes_of terminals.now) name.now ≡ None) }
-{
-    match find(terminals, name) {
-        None => Err(DescFault::BadText),
-        Some(place) => Ok(place as u16 + 1),
-    }
 }

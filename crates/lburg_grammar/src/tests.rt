@@ -1,7 +1,8 @@
 use super::*;
-use lcc_base::Items;
 use std::alloc::AllocError;
-use std::test::Fail;
+use std::test::*;
+
+mod tails;
 
 const EIGHT: &[u8] = b"%start stmt
 %term ASGNI=1 ADDRLP=2 CNSTI=3 ADDI=4 INDIRI=5
@@ -17,25 +18,6 @@ reg: INDIRI(addr) \"\" 1
 %%
 ASGNI(ADDRLP,ADDI(INDIRI(ADDRLP),CNSTI))
 ";
-
-/// Whether the text is a description's.
-fn is_read(rt: &HostRuntime, text: &[u8]) -> Result<bool, Fail> {
-    match read(rt.alloc(), text) {
-        Ok(_) => Ok(true),
-        Err(DescFault::BadText) => Ok(false),
-        Err(DescFault::Memory) => Err(Fail::from("memory")),
-    }
-}
-
-/// How many trees the text's tail has, if they are read.
-fn tree_count(rt: &HostRuntime, text: &[u8]) -> Result<Option<usize>, Fail> {
-    let d = read(rt.alloc(), text).ok().ok_or("a description")?;
-    match read_trees(rt.alloc(), &d, text) {
-        Ok(trees) => Ok(Some(trees.len())),
-        Err(TreeFault::BadText) => Ok(None),
-        Err(TreeFault::Memory) => Err(Fail::from("memory")),
-    }
-}
 
 #[test]
 fn eight_terminals(rt: HostRuntime) -> Result<(), Fail> {
@@ -116,147 +98,46 @@ fn eight_tree(rt: HostRuntime) -> Result<(), Fail> {
 }
 
 #[test]
-fn descriptions(rt: HostRuntime) -> Result<(), Fail> {
-    let cases = [
-        (b"%%\ns: s \"\"\n".as_slice(), true),
-        // A start symbol.
-        (b"%start t\n%%\ns: t \"\"\nt: s \"\"\n".as_slice(), true),
-        (b"%start u\n%%\ns: t \"\"\nt: s \"\"\n".as_slice(), false),
-        (b"%start A\n%term A=1\n%%\ns: A \"\"\n".as_slice(), false),
-        (b"%start s\n%start s\n%%\ns: s \"\"\n".as_slice(), false),
-        // Terminals, each with a name and a number of its own.
-        (b"%term A=1 B=2\n%%\ns: A \"\"\n".as_slice(), true),
-        (b"%term A=1 A=2\n%%\ns: A \"\"\n".as_slice(), false),
-        (b"%term A=1 B=01\n%%\ns: A \"\"\n".as_slice(), false),
-        (b"%term A=1\n%term B=1\n%%\ns: A \"\"\n".as_slice(), false),
-        (b"%term A=2147483647\n%%\ns: A \"\"\n".as_slice(), true),
-        (b"%term A=2147483648\n%%\ns: A \"\"\n".as_slice(), false),
-        // An operator has one arity.
-        (
-            b"%term A=1\n%%\ns: A(s) \"\"\ns: A(s) \"\"\n".as_slice(),
-            true,
-        ),
-        (
-            b"%term A=1\n%%\ns: A(s) \"\"\ns: A \"\"\n".as_slice(),
-            false,
-        ),
-        (b"%term A=1\n%%\ns: A(A) \"\"\n".as_slice(), false),
-        (
-            b"%term A=1\n%%\ns: A(s,s) \"\"\ns: A(s) \"\"\n".as_slice(),
-            false,
-        ),
-        // Names.
-        (b"%%\ns: t \"\"\n".as_slice(), false),
-        (b"%%\ns: t(s) \"\"\nt: s \"\"\n".as_slice(), false),
-        (b"%term A=1\n%%\ns: A \"\"\nA: s \"\"\n".as_slice(), false),
-        // Costs.
-        (b"%%\ns: s \"\" 32766\n".as_slice(), true),
-        (b"%%\ns: s \"\" 32767\n".as_slice(), false),
-        (b"%%\ns: s \"\" 00000000000000000000001\n".as_slice(), true),
-        // Rules.
-        (b"%%\n".as_slice(), false),
-        (b"s: s \"\"\n".as_slice(), false),
-        (b"".as_slice(), false),
-    ];
-    for (text, want) in cases {
-        assert_eq!(rt; is_read(&rt, text)?, want);
+fn whole_description(rt: HostRuntime) -> Result<(), Fail> {
+    let text =
+        b"%{\nany %%\n%}\n%start s\n%term A=1 B=2\n%%\ns: A(t,B) \"x\\n\" 3\nt: B \"y\" range(a,-5,7)\nt: s \"z\"\n";
+    let d = read(rt.alloc(), text).ok().ok_or("a description")?;
+    assert_eq!(rt; d.terminals().len(), 2);
+    assert_eq!(rt; d.terminals()[0].arity, Some(2));
+    assert_eq!(rt; d.nonterminals().len(), 2);
+    assert_eq!(rt; d.rules().len(), 3);
+    assert_eq!(rt; d.rules()[0].cost, 3);
+    assert_eq!(rt; d.rules()[0].template.as_slice(), b"x\\n".as_slice());
+    match d.rules()[1].range {
+        Some(range) => {
+            assert_eq!(rt; range.low, -5);
+            assert_eq!(rt; range.high, 7);
+        }
+        None => return Err(Fail::from("a range")),
     }
     Ok(())
 }
 
 #[test]
-fn tails(rt: HostRuntime) -> Result<(), Fail> {
+fn printed(rt: HostRuntime) -> Result<(), Fail> {
     let cases = [
-        (b"%term A=1 F=2\n%%\ns: F(A) \"\"\n".as_slice(), Some(0)),
-        (b"%term A=1 F=2\n%%\ns: F(A) \"\"\n%%\n".as_slice(), Some(0)),
         (
-            b"%term A=1 F=2\n%%\ns: F(A) \"\"\n%%\nA\n\nF(F(A))".as_slice(),
-            Some(2),
+            b"%term A=1 B=2\n%%\ns: A(t,B) \"x\" 3\nt: B \"y\"\nt: s \"z\" 1\n".as_slice(),
+            b"%start s\n%term A=1\n%term B=2\n%%\ns: A(t,B) \"x\" 3\nt: B \"y\" 0\nt: s \"z\" 1\n".as_slice(),
         ),
         (
-            b"%term A=1 F=2\n%%\ns: F(A) \"\"\n%%\nA\nB\n".as_slice(),
-            None,
-        ),
-        (b"%term A=1 F=2\n%%\ns: F(A) \"\"\n%%\ns\n".as_slice(), None),
-        (b"%term A=1 F=2\n%%\ns: F(A) \"\"\n%%\nF\n".as_slice(), None),
-        (
-            b"%term A=1 F=2\n%%\ns: F(A) \"\"\n%%\nF(A(A))\n".as_slice(),
-            None,
+            b"%{\nx\n%}\n%term A = 007\n%start t\n%%\ns : A ( A ( t ) )  \"\\n%0\" \nt:s\"\"range ( a , -0, 4294967295 )\n%%\nA\n".as_slice(),
+            b"%start t\n%term A=7\n%%\ns: A(A(t)) \"\\n%0\" 0\nt: s \"\" range(a,0,4294967295)\n".as_slice(),
         ),
         (
-            b"%term A=1 F=2\n%%\ns: F(A) \"\"\n%%\nF(A,A)\n".as_slice(),
-            None,
-        ),
-        // An operator that no rule uses.
-        (
-            b"%term A=1 F=2\n%%\ns: s \"\"\n%%\nA\nF(A)\nF(A,A)\n".as_slice(),
-            Some(3),
-        ),
-        (
-            b"%term A=1 F=2\n%%\ns: s \"\"\n%%\nF(A,A,A)\n".as_slice(),
-            None,
+            b"%term A=2147483647\n%%\ns: A \"\" range(a,-2147483648,-1)".as_slice(),
+            b"%start s\n%term A=2147483647\n%%\ns: A \"\" range(a,-2147483648,-1)\n".as_slice(),
         ),
     ];
     for (text, want) in cases {
-        assert_eq!(rt; tree_count(&rt, text)?, want);
+        let d = read(rt.alloc(), text).ok().ok_or("a description")?;
+        let printed = print(rt.alloc(), &d).ok().ok_or("a text")?;
+        assert_eq!(rt; printed.as_slice(), want);
     }
-    Ok(())
-}
-
-/// So many rules, each with a left side of its own.
-fn rules(rt: &HostRuntime, many: u8) -> Result<Vec<u8>, AllocError> {
-    let mut text = Vec::from_slice(rt.alloc(), b"%term A=1\n%%\n")?;
-    for k in 0..many {
-        text.extend_from_slice(format!(in rt.alloc(); "n{k}: A \"\"\n")?.as_bytes())?;
-    }
-    Ok(text)
-}
-
-#[test]
-fn most_nonterminals(rt: HostRuntime) -> Result<(), Fail> {
-    assert!(rt; is_read(&rt, &rules(&rt, 127)?)?);
-    assert!(rt; !is_read(&rt, &rules(&rt, 128)?)?);
-    Ok(())
-}
-
-/// A tree of this height in which each node that isn't a leaf has two operands.
-fn full(text: &mut Vec<u8>, height: u8, leaf: &[u8]) -> Result<(), AllocError> {
-    if height <= 1 {
-        return text.extend_from_slice(leaf);
-    }
-    text.extend_from_slice(b"F(")?;
-    full(text, height - 1, leaf)?;
-    text.extend_from_slice(b",")?;
-    full(text, height - 1, b"A")?;
-    text.extend_from_slice(b")")
-}
-
-#[test]
-fn most_nodes(rt: HostRuntime) -> Result<(), Fail> {
-    for (leaf, want) in [(b"A".as_slice(), Some(1)), (b"G(A)".as_slice(), None)] {
-        let mut text = Vec::from_slice(rt.alloc(), b"%term A=1 F=2 G=3\n%%\ns: s \"\"\n%%\n")?;
-        full(&mut text, 16, leaf)?;
-        assert_eq!(rt; tree_count(&rt, &text)?, want);
-    }
-    Ok(())
-}
-
-/// A rule applied to nothing.
-fn applied(rt: &HostRuntime, rule: u16) -> Derivation {
-    Derivation {
-        rule,
-        parts: Items::new(rt.alloc()),
-    }
-}
-
-#[test]
-fn preorder(rt: HostRuntime) -> Result<(), Fail> {
-    let mut first = applied(&rt, 7);
-    first.parts.push(applied(&rt, 2)).ok().ok_or("memory")?;
-    let mut whole = applied(&rt, 1);
-    whole.parts.push(first).ok().ok_or("memory")?;
-    whole.parts.push(applied(&rt, 4)).ok().ok_or("memory")?;
-    let numbers = whole.numbers(rt.alloc()).ok().ok_or("memory")?;
-    assert_eq!(rt; numbers.as_slice(), [1, 7, 2, 4].as_slice());
     Ok(())
 }

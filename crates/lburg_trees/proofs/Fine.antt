@@ -5,9 +5,9 @@ use Rattle.std.proofs.lemmas.Option.{same_Some, slice_get-map}
 use Rattle.lburg_lines.specs.declared.token.Sign.TheVariants.{Open, Close, Comma, OpenBracket, CloseBracket}
 use Rattle.lburg_lines.specs.Tokens.{Tok, Word, Number, Negative, Mark}
 use Rattle.lburg_lines.specs.Numbers.{MNumber, Plain, Minus, number_token}
-use Rattle.lburg_grammar.specs.declared.terminal.Terminal.{Terminal}
-use Rattle.lburg_grammar.specs.Tree.{MTree, TLeaf, TOne, TTwo, nodes}
-use Rattle.lburg_grammar.specs.Description.{MDescription, AreDistinct, terminal_at, terminal_names}
+use Rattle.lburg_model.specs.declared.terminal.Terminal.{Terminal}
+use Rattle.lburg_model.specs.Tree.{MTree, TLeaf, TOne, TTwo, nodes}
+use Rattle.lburg_model.specs.Description.{MDescription, AreDistinct, terminal_at, terminal_names}
 use Rattle.lburg_trees.specs.declared.row.Row.TheVariants.{BadTree, UnknownOp, WrongArity, TooLarge, TooHigh}
 use Rattle.lburg_trees.specs.TailTree.{MTail, Alone, Over, Both, Ends, constant_then, tree_then, root_of, operands_of}
 use Rattle.lburg_trees.specs.Setting.{Before, placed}

@@ -11,9 +11,9 @@ use Rattle.lburg_lines.specs.declared.read_error.ReadError.TheVariants.{Stuck}
 use Rattle.lburg_lines.specs.declared.token.Sign.TheVariants.{Open, Close, Comma, OpenBracket, CloseBracket}
 use Rattle.lburg_lines.specs.Tokens.{Tok, Word, Number, Negative, Mark}
 use Rattle.lburg_lines.specs.Numbers.{MNumber, Plain, Minus, IsNumber, number_token}
-use Rattle.lburg_grammar.specs.declared.terminal.Terminal.{Terminal}
-use Rattle.lburg_grammar.specs.Tree.{TLeaf}
-use Rattle.lburg_grammar.specs.Description.{MDescription, terminal_at, terminal_names}
+use Rattle.lburg_model.specs.declared.terminal.Terminal.{Terminal}
+use Rattle.lburg_model.specs.Tree.{TLeaf}
+use Rattle.lburg_model.specs.Description.{MDescription, terminal_at, terminal_names}
 use Rattle.lburg_trees.specs.declared.row.Row.{Row}
 use Rattle.lburg_trees.specs.declared.row.Row.TheVariants.{BadTree, UnknownOp, WrongArity, TooLarge, TooHigh}
 use Rattle.lburg_trees.specs.declared.stop.Stop.{Stop}

@@ -3,7 +3,7 @@ use Rattle.std.proofs.Common.{◌≡◌, ◌≤◌, ◌<◌, ◌⊎◌, ℕ, zer
 use Rattle.lburg_lines.specs.declared.token.Sign.TheVariants.{Open, Close, Comma, Colon, Equals, OpenBracket, CloseBracket}
 use Rattle.lburg_lines.specs.Tokens.{Tok, Word, Number, Negative, Template, Keyword, Mark, Bound, Wrong}
 use Rattle.lburg_lines.specs.Numbers.{MNumber}
-use Rattle.lburg_grammar.specs.Description.{MDescription}
+use Rattle.lburg_model.specs.Description.{MDescription}
 use Rattle.lburg_trees.specs.declared.row.Row.{Row}
 use Rattle.lburg_trees.specs.declared.row.Row.TheVariants.{BadTree, UnknownOp, WrongArity, TooLarge, TooHigh}
 use Rattle.lburg_trees.specs.TailTree.{MTail, Alone, Over, Both, constant_then, tree_then}

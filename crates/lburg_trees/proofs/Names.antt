@@ -4,8 +4,8 @@ use Rattle.std.specs.Prelude.{slice_get, option_map}
 use Rattle.std.proofs.lemmas.Option.{slice_get-map, slice_get_read, same_Some, none-some}
 use Rattle.lcc_text.specs.Names.{with_name}
 use Rattle.lcc_text.proofs.Places.{with_new}
-use Rattle.lburg_grammar.specs.declared.terminal.Terminal.{Terminal}
-use Rattle.lburg_grammar.specs.Description.{AreDistinct}
+use Rattle.lburg_model.specs.declared.terminal.Terminal.{Terminal}
+use Rattle.lburg_model.specs.Description.{AreDistinct}
 
 map_taken : (ts : List Terminal) (i : ℕ) → take i (map (λ (t : Terminal). t.name) ts) ≡ map (λ (t : Terminal). t.name) (take i ts)
 map_taken [] zero = refl

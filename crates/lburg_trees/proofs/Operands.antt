@@ -6,9 +6,9 @@ use Rattle.std.proofs.lemmas.List.{append-nil}
 use Rattle.lcc_text.specs.Stops.{next}
 use Rattle.lburg_lines.specs.declared.token.Sign.TheVariants.{Close, Comma}
 use Rattle.lburg_lines.specs.Tokens.{Tok, Word, Mark}
-use Rattle.lburg_grammar.specs.declared.terminal.Terminal.{Terminal}
-use Rattle.lburg_grammar.specs.Tree.{MTree, TLeaf, TOne, TTwo, op_of, kids_of}
-use Rattle.lburg_grammar.specs.Description.{MDescription, terminal_at}
+use Rattle.lburg_model.specs.declared.terminal.Terminal.{Terminal}
+use Rattle.lburg_model.specs.Tree.{MTree, TLeaf, TOne, TTwo, op_of, kids_of}
+use Rattle.lburg_model.specs.Description.{MDescription, terminal_at}
 use Rattle.lburg_trees.specs.declared.row.Row.{Row}
 use Rattle.lburg_trees.specs.declared.row.Row.TheVariants.{BadTree, UnknownOp, WrongArity, TooLarge, TooHigh}
 use Rattle.lburg_trees.specs.declared.stop.Stop.{Stop}

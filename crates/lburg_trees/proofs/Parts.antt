@@ -7,8 +7,8 @@ use Rattle.lburg_lines.specs.declared.token.Sign.TheVariants.{Open, Close, Comma
 use Rattle.lburg_lines.specs.declared.token.Token.{Token}
 use Rattle.lburg_lines.specs.Tokens.{Tok, Word, Mark, view, views}
 use Rattle.lburg_lines.specs.Numbers.{MNumber}
-use Rattle.lburg_grammar.specs.Tree.{MTree, TOne, TTwo, nodes}
-use Rattle.lburg_grammar.specs.Description.{MDescription, IsDescription}
+use Rattle.lburg_model.specs.Tree.{MTree, TOne, TTwo, nodes}
+use Rattle.lburg_model.specs.Description.{MDescription, IsDescription}
 use Rattle.lburg_trees.specs.declared.stop.Stop.{Stop}
 use Rattle.lburg_trees.specs.TailTree.{MTail, Over, Both, constant_then, tree_then}
 use Rattle.lburg_trees.specs.Setting.{Before, placed}

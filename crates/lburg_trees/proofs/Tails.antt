@@ -10,8 +10,8 @@ use Rattle.lburg_lines.specs.declared.section.Section.TheVariants.{Head, Prologu
 use Rattle.lburg_lines.specs.Tokens.{Tok}
 use Rattle.lburg_lines.specs.Spelling.{Spells}
 use Rattle.lburg_lines.specs.Sections.{SpellsIn, section_behind, TokenLine, AreLinesFrom}
-use Rattle.lburg_grammar.specs.Tree.{MTree, TLeaf, TOne, TTwo}
-use Rattle.lburg_grammar.specs.Description.{MDescription, IsDescription}
+use Rattle.lburg_model.specs.Tree.{MTree, TLeaf, TOne, TTwo}
+use Rattle.lburg_model.specs.Description.{MDescription, IsDescription}
 use Rattle.lburg_trees.specs.declared.row.Row.{Row}
 use Rattle.lburg_trees.specs.declared.tree_fault.TreeFault.{TreeFault}
 use Rattle.lburg_trees.specs.declared.tree_fault.TreeFault.TheVariants as fault

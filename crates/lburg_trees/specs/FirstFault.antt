@@ -6,7 +6,7 @@ use Rattle.lburg_lines.specs.declared.section.Section.TheVariants.{Head}
 use Rattle.lburg_lines.specs.Tokens.{Tok}
 use Rattle.lburg_lines.specs.Spelling.{Spells}
 use Rattle.lburg_lines.specs.Sections.{TokenLine, AreLinesFrom}
-use Rattle.lburg_grammar.specs.Description.{MDescription}
+use Rattle.lburg_model.specs.Description.{MDescription}
 use Rattle.lburg_trees.specs.declared.row.Row.{Row}
 use Rattle.lburg_trees.specs.declared.row.Row.TheVariants as row
 use Rattle.lburg_trees.specs.declared.tree_fault.TreeFault.{TreeFault}

@@ -7,9 +7,9 @@ use Rattle.lburg_lines.specs.declared.read_error.ReadError.TheVariants.{Stuck}
 use Rattle.lburg_lines.specs.Tokens.{Tok, Word, Mark}
 use Rattle.lburg_lines.specs.Spelling.{Spells}
 use Rattle.lburg_lines.specs.Numbers.{MNumber, IsNumber, number_token, number_value}
-use Rattle.lburg_grammar.specs.declared.terminal.Terminal.{Terminal}
-use Rattle.lburg_grammar.specs.Tree.{MTree, TLeaf, TOne, TTwo, nodes, op_of, kids_of}
-use Rattle.lburg_grammar.specs.Description.{MDescription, terminal_at}
+use Rattle.lburg_model.specs.declared.terminal.Terminal.{Terminal}
+use Rattle.lburg_model.specs.Tree.{MTree, TLeaf, TOne, TTwo, nodes, op_of, kids_of}
+use Rattle.lburg_model.specs.Description.{MDescription, terminal_at}
 use Rattle.lburg_trees.specs.declared.row.Row.{Row}
 use Rattle.lburg_trees.specs.declared.row.Row.TheVariants.{BadTree}
 use Rattle.lburg_trees.specs.declared.stop.Stop.{Stop}

@@ -1,7 +1,7 @@
 -- The faults of a line of a tail, in the order of the table.
 use Rattle.std.specs.Prelude.{ℕ, List}
 use Rattle.lburg_lines.specs.Tokens.{Tok}
-use Rattle.lburg_grammar.specs.Description.{MDescription}
+use Rattle.lburg_model.specs.Description.{MDescription}
 use Rattle.lburg_trees.specs.declared.row.Row.{Row}
 use Rattle.lburg_trees.specs.declared.row.Row.TheVariants.{BadTree, UnknownOp, WrongArity, TooLarge, TooHigh}
 use Rattle.lburg_trees.specs.Setting.{Before, nothing}

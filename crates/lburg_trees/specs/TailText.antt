@@ -3,9 +3,9 @@ use Rattle.std.specs.Prelude.{◌≡◌, ◌≤◌, ◌⊎◌, ℕ, ◌+◌, max
 use Rattle.lburg_lines.specs.Tokens.{Tok}
 use Rattle.lburg_lines.specs.Spelling.{Spells}
 use Rattle.lburg_lines.specs.Numbers.{number_value}
-use Rattle.lburg_grammar.specs.declared.terminal.Terminal.{Terminal}
-use Rattle.lburg_grammar.specs.Tree.{MTree, TLeaf, TOne, TTwo, nodes}
-use Rattle.lburg_grammar.specs.Description.{MDescription, terminal_at}
+use Rattle.lburg_model.specs.declared.terminal.Terminal.{Terminal}
+use Rattle.lburg_model.specs.Tree.{MTree, TLeaf, TOne, TTwo, nodes}
+use Rattle.lburg_model.specs.Description.{MDescription, terminal_at}
 use Rattle.lburg_trees.specs.TailTree.{MTail, Alone, Over, Both, HasNumbers, tree_then}
 use Rattle.lburg_trees.specs.FirstFault.{IsTailOf}
 

@@ -1,8 +1,8 @@
 -- UnknownOp: a name isn't a terminal's.
 use Rattle.std.specs.Prelude.{◌≡◌, ℕ, Some, List, slice_get}
 use Rattle.lburg_lines.specs.Tokens.{Tok, Word}
-use Rattle.lburg_grammar.specs.declared.terminal.Terminal.{Terminal}
-use Rattle.lburg_grammar.specs.Description.{MDescription, terminal_at}
+use Rattle.lburg_model.specs.declared.terminal.Terminal.{Terminal}
+use Rattle.lburg_model.specs.Description.{MDescription, terminal_at}
 
 -- the operator has this name
 abbrev pub IsNamed : MDescription → ℕ → Terminal → List ℕ → Type 0

@@ -2,8 +2,8 @@
 -- An operator that no rule uses may have any number of operands.
 use Rattle.std.specs.Prelude.{◌≡◌, ◌≢◌, ℕ, ◌+◌, Some, List, drop, length}
 use Rattle.lburg_lines.specs.Tokens.{Tok}
-use Rattle.lburg_grammar.specs.declared.terminal.Terminal.{Terminal}
-use Rattle.lburg_grammar.specs.Description.{MDescription}
+use Rattle.lburg_model.specs.declared.terminal.Terminal.{Terminal}
+use Rattle.lburg_model.specs.Description.{MDescription}
 use Rattle.lburg_trees.specs.TailTree.{MTail, HasNumbers, Ends, tree_then, root_of, operands_of}
 use Rattle.lburg_trees.specs.UnknownOp.{IsNamed}
 

@@ -10,6 +10,3 @@ mod tree_reader;
 pub use row::Row;
 pub use tail::read_trees;
 pub use tree_fault::TreeFault;
-
-#[cfg(test)]
-mod tests;

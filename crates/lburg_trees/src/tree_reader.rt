@@ -4,9 +4,9 @@ ghost use Rattle.lcc_text.specs.Names.{bytes_of};
 ghost use Rattle.lcc_text.specs.Stops.{next};
 ghost use Rattle.lburg_lines.specs.Tokens.{Mark, views};
 ghost use Rattle.lburg_lines.specs.Numbers.{MNumber};
-ghost use Rattle.lburg_grammar.specs.declared.terminal.Terminal.{Terminal as Terminals};
-ghost use Rattle.lburg_grammar.specs.Description.{IsDescription, terminal_names};
-ghost use Rattle.lburg_grammar.specs.Tree.{nodes, op_of};
+ghost use Rattle.lburg_model.specs.declared.terminal.Terminal.{Terminal as Terminals};
+ghost use Rattle.lburg_model.specs.Description.{IsDescription, terminal_names};
+ghost use Rattle.lburg_model.specs.Tree.{nodes, op_of};
 ghost use Rattle.lburg_trees.specs.Setting.{placed};
 ghost use Rattle.lburg_trees.specs.UnknownOp.{IsNamed};
 ghost use Rattle.lburg_trees.specs.Reading.{IsFine, LineStops, ReadsTree, StopsTree};
@@ -17,8 +17,8 @@ ghost use Rattle.lburg_trees.specs.TailText.{IsTree};
 use crate::row::Row;
 use crate::stop::Stop;
 use indexmap::IndexSet;
-use lburg_grammar::{Description, TextTree, TreeNode};
 use lburg_lines::{ReadError, Sign, Token, after_sign, end_of, name_at, number_at};
+use lburg_model::{Description, TextTree, TreeNode};
 use lcc_base::{Items, Memory};
 use lcc_text::find;
 use std::alloc::Global;
@@ -172,7 +172,7 @@ fn check_arity<'t, 'a>(d: &Description, found: &Found<'t, 'a>) -> Result<(), Sto
 fn one_kid(alloc: Global, a: TextTree) -> Result<Items<TextTree>, Memory>
     ensures { IfOk result (λ kids. kids ≡ a ∷ []) }
 {
-    let mut kids = Items::new(alloc);
+    let mut kids = Items::with_capacity(alloc, 1)?;
     kids.push(a)?;
     Ok(kids)
 }
@@ -181,7 +181,8 @@ fn one_kid(alloc: Global, a: TextTree) -> Result<Items<TextTree>, Memory>
 fn two_kids(alloc: Global, a: TextTree, b: TextTree) -> Result<Items<TextTree>, Memory>
     ensures { IfOk result (λ kids. kids ≡ a ∷ b ∷ []) }
 {
-    let mut kids = one_kid(alloc, a)?;
+    let mut kids = Items::with_capacity(alloc, 2)?;
+    kids.push(a)?;
     kids.push(b)?;
     Ok(kids)
 }

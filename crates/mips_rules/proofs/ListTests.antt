@@ -4,7 +4,7 @@ use Rattle.std.proofs.Common.{ap, sym, ◌∙◌, arith, subst, ⊎_elim}
 use Rattle.std.proofs.lemmas.Bool.{both_ways, and_parts, and_from, not-true, or_cases, or_left, or_right, eq-eqb}
 use Rattle.std.specs.List.{list_any, AllByRecursion}
 use Rattle.std.specs.Str.{bytes_eq}
-use Rattle.lburg_grammar.specs.Description.{AreDistinct}
+use Rattle.lburg_model.specs.Description.{AreDistinct}
 
 none_some : {A : Type 0} {y : A} → None ≡ Some y → ⊥
 none_some e = cc

@@ -2,7 +2,7 @@
 use Rattle.std.proofs.Common.{◌≡◌, ℕ, ◌<◌, ◌||◌, true, List, Some, length, refl, arith}
 use Rattle.std.specs.Prelude.{ℤ, slice_get}
 use Rattle.asm_text.specs.declared.instruction.BinaryOp.{BinaryOp}
-use Rattle.lburg_grammar.specs.Pattern.{MPattern}
+use Rattle.lburg_model.specs.Pattern.{MPattern}
 use Rattle.op_forest.specs.Nodes.{Node}
 use Rattle.vcode.specs.Patterns.{Meeting}
 use Rattle.mips_rules.specs.declared.action.Action.TheVariants as action

@@ -5,12 +5,15 @@ use Rattle.std.specs.Str.{bytes_eq}
 use Rattle.std.proofs.Common.{ap, sym, ◌∙◌, arith, subst, inl, inr, ⊎_elim}
 use Rattle.std.proofs.lemmas.List.{length-map}
 use Rattle.std.proofs.lemmas.Bool.{both_ways, and_parts, or_cases, eqb-true, leb-true, ltb-true}
-use Rattle.lburg_grammar.specs.declared.rule.Rule.{Rule}
-use Rattle.lburg_grammar.specs.declared.range.Range.{Range}
-use Rattle.lburg_grammar.specs.Range.{IsRangeFor}
-use Rattle.lburg_grammar.specs.declared.terminal.Terminal.{Terminal}
-use Rattle.lburg_grammar.specs.Pattern.{MPattern, PHole, PLeaf, POne, PTwo, pattern_of, pattern_nodes}
-use Rattle.lburg_grammar.specs.Description.{MDescription, FitsIn, Uses, RuleAt, IsDescription}
+use Rattle.lcc_text.specs.declared.class.Class.TheVariants.{Letter, Name}
+use Rattle.lcc_text.specs.Classes.{in_class, AllIn}
+use Rattle.lburg_lines.specs.Tokens.{Word, Template, IsToken, is_quoted, escapes_well}
+use Rattle.lburg_model.specs.declared.rule.Rule.{Rule}
+use Rattle.lburg_model.specs.declared.range.Range.{Range}
+use Rattle.lburg_model.specs.Range.{IsRangeFor}
+use Rattle.lburg_model.specs.declared.terminal.Terminal.{Terminal}
+use Rattle.lburg_model.specs.Pattern.{MPattern, PHole, PLeaf, POne, PTwo, pattern_of, pattern_nodes}
+use Rattle.lburg_model.specs.Description.{MDescription, FitsIn, Uses, RuleAt, AreNames, IsDescription}
 use Rattle.vcode.specs.RuleSets.{Row, row_of}
 use Rattle.mips_rules.specs.MipsRows.{Line, lines, nonterminals, stmt, rows, costs, ranges}
 use Rattle.mips_rules.specs.MipsTerminals.{terminals}
@@ -33,6 +36,43 @@ names_apart = refl
 
 numbers_small : each (λ place n. nat_le n 2147483647) 0 (map (λ t. t.number) terminals) ≡ true
 numbers_small = refl
+
+-- all bytes are in a class
+abbrev all_in : (ℕ → Bool) → List ℕ → Bool
+all_in class [] = true
+all_in class (b ∷ bs) = class b && all_in class bs
+
+all_are : (class : ℕ → Bool) (bs : List ℕ) → all_in class bs ≡ true → AllIn class bs
+all_are class [] h = tt
+all_are class (b ∷ bs) h = let p = and_parts (class b) (all_in class bs) h in (p.0, all_are class bs p.1)
+
+-- a letter, then bytes of names
+abbrev is_name : List ℕ → Bool
+is_name [] = false
+is_name (b ∷ bs) = in_class Letter b && all_in (in_class Name) (b ∷ bs)
+
+is_word : (name : List ℕ) → is_name name ≡ true → IsToken (Word name)
+is_word [] h = absurd (both_ways false refl h)
+is_word (b ∷ bs) h =
+    let p = and_parts (in_class Letter b) (all_in (in_class Name) (b ∷ bs)) h in (p.0, all_are (in_class Name) (b ∷ bs) p.1)
+
+abbrev is_template : List ℕ → Bool
+is_template bytes = all_in is_quoted bytes && escapes_well bytes
+
+is_text : (bytes : List ℕ) → is_template bytes ≡ true → IsToken (Template bytes)
+is_text bytes h = let p = and_parts (all_in is_quoted bytes) (escapes_well bytes) h in (all_are is_quoted bytes p.0, p.1)
+
+names_fit : each (λ place n. is_name n) 0 (map (λ t. t.name) terminals) ≡ true
+names_fit = refl
+
+nonterminals_fit : each (λ place n. is_name n) 0 nonterminals ≡ true
+nonterminals_fit = refl
+
+templates_fit : each (λ place row. is_template row.template) 0 rows ≡ true
+templates_fit = refl
+
+are_names : (names : List (List ℕ)) → each (λ place n. is_name n) 0 names ≡ true → AreNames names
+are_names names h i name e = is_word name (each_at (λ place n. is_name n) 0 names i name h e)
 
 costs_small : each (λ place n. nat_le n 32766) 0 costs ≡ true
 costs_small = refl
@@ -168,6 +208,9 @@ module _ (rules : List Rule) (same_rows : map row_of rules ≡ rows) (same_costs
   cost_at i r e =
       leb-true r.cost 32766 (each_at (λ place n. nat_le n 32766) 0 costs i r.cost costs_small (ap (λ l. slice_get l i) (sym same_costs) ∙ at_mapped (λ x. x.cost) rules i r e))
 
+  template_at : (i : ℕ) (r : Rule) → slice_get rules i ≡ Some r → IsToken (Template r.template)
+  template_at i r e = is_text r.template (each_at (λ place row. is_template row.template) 0 rows i (row_of r) templates_fit (row_at i r e))
+
   rule_of : (n : ℕ) → n < length nonterminals → (i : ℕ) × (r : Rule) × RuleAt (described rules) i r × (r.left ≡ n)
   rule_of n h =
       let first = first_at n h in
@@ -194,13 +237,15 @@ module _ (rules : List Rule) (same_rows : map row_of rules ≡ rows) (same_costs
     numbers = distinct_places (λ n m. n == m) number_same (map (λ t. t.number) terminals) numbers_distinct;
     number_limit = λ i n e. leb-true n 2147483647 (each_at (λ place k. nat_le k 2147483647) 0 (map (λ t. t.number) terminals) i n numbers_small e);
     used = used_by;
+    names_spelled = are_names (map (λ t. t.name) terminals) names_fit;
     nonterminals = omega arith;
+    nonterminals_spelled = are_names nonterminals nonterminals_fit;
     nonterminal_names = distinct_places bytes_eq bytes_same nonterminals nonterminals_distinct;
     apart = λ i j name e f. apart_at bytes_eq bytes_same (map (λ t. t.name) terminals) nonterminals i j name names_apart e f;
     start = omega arith;
     some_rule = omega (arith, how_many);
     rule_limit = omega (arith, how_many);
-    rules = λ i r e. let fit = fit_at i r e in record { left = fit.0; fits = fit.1; nodes = fit.2; cost = cost_at i r e; range = subst (λ o. IsRangeFor r.cost o) (sym (no_range rules same_ranges i r e)) tt };
+    rules = λ i r e. let fit = fit_at i r e in record { left = fit.0; fits = fit.1; nodes = fit.2; template = template_at i r e; cost = cost_at i r e; range = subst (λ o. IsRangeFor r.cost o) (sym (no_range rules same_ranges i r e)) tt };
     ruled = rule_of;
     in_order = earlier;
   }

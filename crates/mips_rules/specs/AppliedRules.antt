@@ -5,7 +5,7 @@ use Rattle.std.proofs.Common.{arith, ap, sym, ◌∙◌, subst}
 use Rattle.std.proofs.lemmas.Bool.{both_ways, eqb-true}
 use Rattle.asm_text.specs.declared.instruction.BinaryOp.{BinaryOp}
 use Rattle.asm_text.specs.declared.instruction.BinaryOp.TheVariants.{Add, Subtract, Multiply}
-use Rattle.lburg_grammar.specs.Pattern.{MPattern, PHole, PLeaf, POne, PTwo}
+use Rattle.lburg_model.specs.Pattern.{MPattern, PHole, PLeaf, POne, PTwo}
 use Rattle.op_forest.specs.Nodes.{Head, Node, Leaf, One, Two, head_of, number_of}
 use Rattle.vcode.specs.Patterns.{Meeting, leaves_at}
 use Rattle.vcode.specs.RuleSets.{Row, InRange, all_registers, AllHand, Applies}

@@ -2,8 +2,8 @@
 -- Source: Fraser and Hanson, A Retargetable C Compiler, chapters 14 and 16.
 use Rattle.std.specs.Prelude.{ℕ, Option, None, List, [], ◌∷◌, map, codes}
 use Rattle.asm_text.specs.declared.instruction.BinaryOp.TheVariants.{Add, Subtract, Multiply}
-use Rattle.lburg_grammar.specs.declared.range.Range.{Range}
-use Rattle.lburg_grammar.specs.Pattern.{MPattern, PHole, PLeaf, POne, PTwo}
+use Rattle.lburg_model.specs.declared.range.Range.{Range}
+use Rattle.lburg_model.specs.Pattern.{MPattern, PHole, PLeaf, POne, PTwo}
 use Rattle.vcode.specs.RuleSets.{Row}
 use Rattle.mips_rules.specs.declared.action.Action.{Action}
 use Rattle.mips_rules.specs.declared.action.Action.TheVariants.{Discard, Pass, TakeConstant, TakeName, LoadConstant, Combine, Negate, Call, HandOver, Return}

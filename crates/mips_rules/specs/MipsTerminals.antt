@@ -2,7 +2,7 @@
 -- has where a rule uses it.
 -- Source: Fraser and Hanson, A Retargetable C Compiler, chapter 5, without floating point.
 use Rattle.std.specs.Prelude.{ℕ, List, [], ◌∷◌, Some, None, codes}
-use Rattle.lburg_grammar.specs.declared.terminal.Terminal.{Terminal}
+use Rattle.lburg_model.specs.declared.terminal.Terminal.{Terminal}
 
 abbrev pub unused : List ℕ → ℕ → Terminal
 unused name number = record { name = name; number = number; arity = None }

@@ -1,9 +1,9 @@
 -- The shipped description of MIPS as one fact, and that it derives each root of a well-formed forest.
 -- Source: Fraser and Hanson, A Retargetable C Compiler, chapters 14 and 16.
 use Rattle.std.specs.Prelude.{◌≡◌, ◌≢◌, All, map}
-use Rattle.lburg_grammar.specs.Derivation.{MDerivation, Derives}
-use Rattle.lburg_grammar.specs.Description.{MDescription}
-use Rattle.lburg_grammar.specs.Best.{HasNone}
+use Rattle.lburg_model.specs.Derivation.{MDerivation, Derives}
+use Rattle.lburg_model.specs.Description.{MDescription}
+use Rattle.lburg_model.specs.Best.{HasNone}
 use Rattle.op_forest.specs.declared.forest.Forest.{Forest}
 use Rattle.op_forest.specs.declared.op.Op.TheVariants as op
 use Rattle.op_forest.specs.Nodes.{Node, tree_of}

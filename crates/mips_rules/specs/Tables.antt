@@ -1,9 +1,9 @@
 -- What the lines of the tables stand for.
 use Rattle.std.specs.Prelude.{ℕ, List, Option, None}
 use Rattle.std.specs.Borrow.{Bor}
-use Rattle.lburg_grammar.specs.declared.range.Range.{Range}
-use Rattle.lburg_grammar.specs.declared.terminal.Terminal.{Terminal}
-use Rattle.lburg_grammar.specs.Pattern.{MPattern, PHole, PLeaf, POne, PTwo}
+use Rattle.lburg_model.specs.declared.range.Range.{Range}
+use Rattle.lburg_model.specs.declared.terminal.Terminal.{Terminal}
+use Rattle.lburg_model.specs.Pattern.{MPattern, PHole, PLeaf, POne, PTwo}
 use Rattle.vcode.specs.RuleSets.{Row}
 use Rattle.mips_rules.specs.declared.rule_line.Form.{Form}
 use Rattle.mips_rules.specs.declared.rule_line.Form.TheVariants.{Chain, Leaf, Unary, Binary}

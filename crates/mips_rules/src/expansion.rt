@@ -1,5 +1,5 @@
 ghost use Rattle.std.specs.Prelude.{◌≡◌, ◌<◌, ◌≤◌, ◌||◌, true, ℕ, ℤ, List, length, map, Some, slice_get, option_to_list};
-ghost use Rattle.lburg_grammar.specs.Pattern.{MPattern};
+ghost use Rattle.lburg_model.specs.Pattern.{MPattern};
 ghost use Rattle.op_forest.specs.Nodes.{Node, head_of};
 ghost use Rattle.vcode.specs.Patterns.{Meeting};
 ghost use Rattle.mips_rules.specs.declared.part.Part.{Part as Parts};

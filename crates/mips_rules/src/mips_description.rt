@@ -1,5 +1,5 @@
 ghost use Rattle.std.specs.Prelude.{◌≡◌, ℕ, List, Option, map, IfOk};
-ghost use Rattle.lburg_grammar.specs.Pattern.{pattern_of};
+ghost use Rattle.lburg_model.specs.Pattern.{pattern_of};
 ghost use Rattle.vcode.specs.RuleSets.{row_of};
 ghost use Rattle.mips_rules.specs.MipsRows.{nonterminals, stmt, rows, costs, ranges};
 ghost use Rattle.mips_rules.specs.MipsTerminals.{terminals};
@@ -8,7 +8,7 @@ ghost use Rattle.mips_rules.specs.Tables.{terminal_of, form_pattern, row_in, cos
 
 use crate::rule_line::{Form, NONTERMINALS, RULES, RuleLine, STMT};
 use crate::terminal_line::TERMINALS;
-use lburg_grammar::{Description, Pattern, Rule, Terminal};
+use lburg_model::{Description, Pattern, Rule, Terminal};
 use lcc_base::{Bytes, Memory};
 use std::alloc::Global;
 

@@ -9,7 +9,7 @@ use crate::instr::Instr;
 use crate::mips::Mips;
 use crate::mips_description::description;
 use crate::part::Part;
-use lburg_grammar::Description;
+use lburg_model::Description;
 use lcc_base::{Items, Memory};
 use op_forest::Tree;
 use std::alloc::Global;
@@ -26,8 +26,8 @@ pub struct MipsRules {
 impl Model for MipsRules {
     ghost use Rattle.std.specs.Prelude.{◌≡◌, map};
     ghost use Rattle.std.specs.Coded.{codes};
-    ghost use Rattle.lburg_grammar.specs.contracts.pattern.Pattern as pattern;
-    ghost use Rattle.lburg_grammar.specs.Description.{MDescription};
+    ghost use Rattle.lburg_model.specs.contracts.pattern.Pattern as pattern;
+    ghost use Rattle.lburg_model.specs.Description.{MDescription};
     ghost use Rattle.vcode.specs.RuleSets.{row_of};
     ghost use Rattle.mips_rules.specs.MipsRows.{stmt, rows};
 
@@ -57,7 +57,7 @@ pub fn rules(alloc: Global) -> Result<MipsRules, Memory>
 }
 
 impl RuleSet<Mips> for MipsRules {
-    ghost use Rattle.lburg_grammar.specs.Description.{MDescription};
+    ghost use Rattle.lburg_model.specs.Description.{MDescription};
     ghost use Rattle.mips_rules.specs.MipsRules.{mips_rules};
     ghost use Rattle.mips_rules.specs.MipsObeys.{mips_obeys};
 

@@ -5,7 +5,7 @@ ghost use Rattle.mips_rules.specs.MipsRules.{mips_rules};
 
 use crate::*;
 use asm_text::BinaryOp;
-use lburg_grammar::Description;
+use lburg_model::Description;
 use lcc_base::{Items, Memory};
 use op_forest::{Op, Operator, Suffix, Sym, Tree};
 use std::alloc::Global;

@@ -4,7 +4,7 @@
 use Rattle.std.specs.Prelude.{◌≡◌, ◌≢◌, ℕ, ◌<◌, ◌-◌, Some, IsSomeAnd, IsTrue, IsFalse, Bool, ◌==◌, ◌||◌, List, ◌++◌, length, map, All, Any, sum_by, slice_get, codes}
 use Rattle.std.specs.Char.{is_ascii_digit, is_ascii_alphabetic}
 use Rattle.lcc_base.specs.declared.order.Order.{Order}
-use Rattle.lburg_grammar.specs.Description.{AreDistinct}
+use Rattle.lburg_model.specs.Description.{AreDistinct}
 use Rattle.op_forest.specs.declared.sym.Sym.{Sym}
 use Rattle.op_forest.specs.declared.sym.Sym.TheVariants as sym
 use Rattle.op_forest.specs.declared.lowered.LoweredFunction.{LoweredFunction}

@@ -1,7 +1,7 @@
 -- Trees of operators: an operator with its symbol and constant, and no, one or two operands.
 -- Source: Fraser and Hanson, A Retargetable C Compiler, chapter 5.
 use Rattle.std.specs.Prelude.{ℕ, ◌+◌, ℤ, Option, List, [], ◌∷◌, Bool, true, false}
-use Rattle.lburg_grammar.specs.Tree.{MTree, TLeaf, TOne, TTwo}
+use Rattle.lburg_model.specs.Tree.{MTree, TLeaf, TOne, TTwo}
 use Rattle.op_forest.specs.declared.operator.Operator.{Operator}
 use Rattle.op_forest.specs.declared.sym.Sym.{Sym}
 use Rattle.op_forest.specs.Operators.{number}

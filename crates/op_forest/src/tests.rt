@@ -3,7 +3,7 @@ ghost use Rattle.op_forest.specs.Nodes.{Leaf};
 
 use super::*;
 use crate::tree::{one_kid, two_kids};
-use lburg_grammar::TreeNode;
+use lburg_model::TreeNode;
 use lcc_base::{Bytes, Items, Memory, Order};
 use std::alloc::{AllocError, Global};
 use std::test::Fail;

@@ -1,5 +1,5 @@
 ghost use Rattle.std.specs.Prelude.{◌≡◌, ◌≤◌, ◌∷◌, length, [], IfOk};
-ghost use Rattle.lburg_grammar.specs.Tree.{kids_of as tree_kids};
+ghost use Rattle.lburg_model.specs.Tree.{kids_of as tree_kids};
 ghost use Rattle.op_forest.specs.Nodes.{Node, head_of, tree_of};
 ghost use Rattle.op_forest.specs.NodeParts.{node_of, under};
 ghost use Rattle.op_forest.specs.Shape.{over};
@@ -7,7 +7,7 @@ ghost use Rattle.op_forest.specs.Shape.{over};
 use crate::operands::Operands;
 use crate::operator::Operator;
 use crate::sym::Sym;
-use lburg_grammar::TreeNode;
+use lburg_model::TreeNode;
 use lcc_base::{Items, Memory};
 use std::alloc::Global;
 use std::marker::Model;

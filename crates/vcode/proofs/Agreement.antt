@@ -1,7 +1,7 @@
 -- The code of a forest's roots does what the roots do.
 use Rattle.std.proofs.Common.{◌≡◌, ℕ, zero, suc, ◌<◌, ◌≤◌, List, [], ◌∷◌, ◌++◌, length, All, refl, sym, ap, ◌∙◌, subst, arith}
 use Rattle.std.proofs.lemmas.List.Elements.{All-head, All-tail}
-use Rattle.lburg_grammar.specs.Derivation.{MDerivation}
+use Rattle.lburg_model.specs.Derivation.{MDerivation}
 use Rattle.op_forest.specs.Nodes.{Node}
 use Rattle.op_forest.specs.Words.{Word}
 use Rattle.op_forest.specs.Worlds.{Next, To, End, Effect, Went, Exits, Unfinished, Stuck, goes, Outcome, Failed}

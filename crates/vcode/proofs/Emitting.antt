@@ -5,11 +5,11 @@ use Rattle.std.specs.Option.{option_map}
 use Rattle.std.proofs.lemmas.List.{length-map, append-nil, take_more, take_all}
 use Rattle.std.proofs.lemmas.Bool.{or_left, or_right, not_from_false, false_from_ne_true}
 use Rattle.std.proofs.lemmas.Option.{same_Some, none-some, slice_get_within, slice_get_read, slice_get-map, get_or_from_slice_get}
-use Rattle.lburg_grammar.specs.declared.rule.Rule.{Rule}
-use Rattle.lburg_grammar.specs.declared.derivation.Derivation.{Derivation, out-Derivation}
-use Rattle.lburg_grammar.specs.Pattern.{MPattern, Goal, pattern_of}
-use Rattle.lburg_grammar.specs.Derivation.{MDerivation, Apply, Derives, DeriveEach, count, counts}
-use Rattle.lburg_grammar.specs.DerivationOf.{parts_of, derivation_of, derivation_out}
+use Rattle.lburg_model.specs.declared.rule.Rule.{Rule}
+use Rattle.lburg_model.specs.declared.derivation.Derivation.{Derivation, out-Derivation}
+use Rattle.lburg_model.specs.Pattern.{MPattern, Goal, pattern_of}
+use Rattle.lburg_model.specs.Derivation.{MDerivation, Apply, Derives, DeriveEach, count, counts}
+use Rattle.lburg_model.specs.DerivationOf.{parts_of, derivation_of, derivation_out}
 use Rattle.op_forest.specs.Nodes.{Node, head_of, gives, one_where, value_nodes, tree_of}
 use Rattle.vcode.specs.Machines.{Machine}
 use Rattle.vcode.specs.Patterns.{Meeting, leaves_at, is_chain}

@@ -7,11 +7,11 @@ use Rattle.std.proofs.lemmas.List.Elements.{All-nil, All-push, All-weaker}
 use Rattle.std.proofs.lemmas.List.Sums.{sum_by_push, sum_by_more_le}
 use Rattle.std.proofs.lemmas.Option.{slice_get_read, slice_get-map, same_Some, none-some}
 use Rattle.std.specs.Option.{option_map}
-use Rattle.lburg_grammar.specs.declared.derivation.Derivation.{Derivation}
-use Rattle.lburg_grammar.specs.declared.rule.Rule.{Rule}
-use Rattle.lburg_grammar.specs.Description.{MDescription}
-use Rattle.lburg_grammar.specs.Derivation.{MDerivation, Derives}
-use Rattle.lburg_grammar.specs.DerivationOf.{derivation_of}
+use Rattle.lburg_model.specs.declared.derivation.Derivation.{Derivation}
+use Rattle.lburg_model.specs.declared.rule.Rule.{Rule}
+use Rattle.lburg_model.specs.Description.{MDescription}
+use Rattle.lburg_model.specs.Derivation.{MDerivation, Derives}
+use Rattle.lburg_model.specs.DerivationOf.{derivation_of}
 use Rattle.op_forest.specs.Nodes.{Node, value_nodes, tree_of}
 use Rattle.vcode.specs.Machines.{Machine}
 use Rattle.vcode.specs.VirtualCode.{MCode, NamesBelow, joined, ends_from, IsStretch, IsVirtualCode}

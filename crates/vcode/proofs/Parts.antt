@@ -1,9 +1,9 @@
 -- What the nonterminals of derivations hand up.
 use Rattle.std.proofs.Common.{◌≡◌, ℕ, List, [], ◌∷◌, ◌++◌, true, map, subst}
 use Rattle.std.proofs.lemmas.List.{map-append}
-use Rattle.lburg_grammar.specs.declared.rule.Rule.{Rule}
-use Rattle.lburg_grammar.specs.Derivation.{MDerivation, Apply, MParts, Derives, DeriveEach}
-use Rattle.lburg_grammar.specs.DerivationOf.{parts_of}
+use Rattle.lburg_model.specs.declared.rule.Rule.{Rule}
+use Rattle.lburg_model.specs.Derivation.{MDerivation, Apply, MParts, Derives, DeriveEach}
+use Rattle.lburg_model.specs.DerivationOf.{parts_of}
 use Rattle.op_forest.specs.Nodes.{Node, tree_of}
 use Rattle.vcode.specs.Machines.{Machine}
 use Rattle.vcode.specs.Patterns.{Meeting}

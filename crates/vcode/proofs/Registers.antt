@@ -2,7 +2,7 @@
 use Rattle.std.proofs.Common.{◌≡◌, ℕ, ◌+◌, ◌≤◌, ◌<◌, ◌==◌, List, [], ◌∷◌, ◌++◌, Bool, true, false, refl, subst, arith, inl, inr, ◌⊎◌, ⊎_elim}
 use Rattle.std.proofs.lemmas.List.{append-nil}
 use Rattle.std.proofs.lemmas.Bool.{or_cases, or_left, or_right, eq-eqb, eqb-true, false≢true}
-use Rattle.lburg_grammar.specs.Derivation.{MDerivation}
+use Rattle.lburg_model.specs.Derivation.{MDerivation}
 use Rattle.op_forest.specs.Nodes.{Node, head_of, gives, one_where, value_nodes}
 use Rattle.vcode.specs.Machines.{Machine}
 use Rattle.vcode.specs.VirtualCode.{among}

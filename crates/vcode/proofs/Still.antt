@@ -4,8 +4,8 @@ use Rattle.std.specs.Prelude.{◌||◌, not}
 use Rattle.std.proofs.lemmas.List.{append-nil}
 use Rattle.std.proofs.lemmas.Bool.{or_parts, or_right, not_from_false, cases_Bool, both_ways}
 use Rattle.std.proofs.lemmas.Option.{same_Some, none-some}
-use Rattle.lburg_grammar.specs.Pattern.{MPattern, PHole, PLeaf, POne, PTwo}
-use Rattle.lburg_grammar.specs.Derivation.{MDerivation}
+use Rattle.lburg_model.specs.Pattern.{MPattern, PHole, PLeaf, POne, PTwo}
+use Rattle.lburg_model.specs.Derivation.{MDerivation}
 use Rattle.op_forest.specs.Nodes.{Node, Leaf, One, Two, number_of}
 use Rattle.vcode.specs.Machines.{Machine}
 use Rattle.vcode.specs.VirtualCode.{HasNoMark, MovesNot, MovesLast, MarkedFirst}

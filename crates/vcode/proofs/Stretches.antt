@@ -2,10 +2,10 @@
 use Rattle.std.proofs.Common.{◌≡◌, ℕ, ◌≤◌, ◌<◌, ◌^◌, List, [], ◌∷◌, ◌++◌, Bool, ◌+◌, true, Some, map, lit≤, sym, ap, ◌∙◌, subst, arith, inl, inr, ◌⊎◌, ⊎_elim, length, length-append}
 use Rattle.std.proofs.lemmas.List.{map-append}
 use Rattle.std.proofs.lemmas.Bool.{false≢true}
-use Rattle.lburg_grammar.specs.declared.rule.Rule.{Rule}
+use Rattle.lburg_model.specs.declared.rule.Rule.{Rule}
 use Rattle.std.proofs.lemmas.Option.{same_Some}
-use Rattle.lburg_grammar.specs.Derivation.{MDerivation, Apply, MParts, Derives, DeriveEach}
-use Rattle.lburg_grammar.specs.DerivationOf.{parts_of}
+use Rattle.lburg_model.specs.Derivation.{MDerivation, Apply, MParts, Derives, DeriveEach}
+use Rattle.lburg_model.specs.DerivationOf.{parts_of}
 use Rattle.op_forest.specs.Nodes.{Node, head_of, gives, one_where, tree_of}
 use Rattle.vcode.specs.Machines.{Machine}
 use Rattle.vcode.specs.VirtualCode.{among, Flows, NamesBelow, UsesNoSlot, IsStretch}

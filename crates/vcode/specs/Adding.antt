@@ -1,7 +1,7 @@
 -- Code with the code of a derivation behind it.
 use Rattle.std.specs.Prelude.{◌≡◌, ℕ, List, [], ◌++◌, Option, Some, None}
-use Rattle.lburg_grammar.specs.Derivation.{MDerivation}
-use Rattle.lburg_grammar.specs.Pattern.{MPattern}
+use Rattle.lburg_model.specs.Derivation.{MDerivation}
+use Rattle.lburg_model.specs.Pattern.{MPattern}
 use Rattle.op_forest.specs.Nodes.{Node}
 use Rattle.vcode.specs.Patterns.{Meeting, leaves_at}
 use Rattle.vcode.specs.RuleSets.{Rules}

@@ -3,10 +3,10 @@ use Rattle.std.proofs.Common.{◌≡◌, ℕ, ◌+◌, List, [], ◌∷◌, ◌+
 use Rattle.std.specs.Prelude.{slice_get}
 use Rattle.std.proofs.lemmas.Option.{same_Some, slice_get-map}
 use Rattle.std.specs.Option.{option_map}
-use Rattle.lburg_grammar.specs.declared.rule.Rule.{Rule}
-use Rattle.lburg_grammar.specs.Pattern.{Goal, pattern_of, goals_at}
-use Rattle.lburg_grammar.specs.Derivation.{MDerivation, Apply, MParts, NoPart, Derives, DeriveEach}
-use Rattle.lburg_grammar.specs.DerivationOf.{parts_of}
+use Rattle.lburg_model.specs.declared.rule.Rule.{Rule}
+use Rattle.lburg_model.specs.Pattern.{Goal, pattern_of, goals_at}
+use Rattle.lburg_model.specs.Derivation.{MDerivation, Apply, MParts, NoPart, Derives, DeriveEach}
+use Rattle.lburg_model.specs.DerivationOf.{parts_of}
 use Rattle.op_forest.specs.Nodes.{Node, tree_of}
 use Rattle.vcode.specs.Patterns.{Meeting, leaves_at}
 use Rattle.vcode.specs.RuleSets.{Row, row_of, Rules, Applies}

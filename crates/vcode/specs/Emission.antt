@@ -4,8 +4,8 @@
 -- Source: Fraser and Hanson, A Retargetable C Compiler, chapter 14.
 use Rattle.std.specs.Prelude.{◌≡◌, ℕ, ◌+◌, ◌≤◌, List, [], ◌∷◌, ◌++◌, true, false, Some}
 use Rattle.std.specs.List.{sum_by}
-use Rattle.lburg_grammar.specs.Derivation.{MDerivation, Apply}
-use Rattle.lburg_grammar.specs.DerivationOf.{parts_of}
+use Rattle.lburg_model.specs.Derivation.{MDerivation, Apply}
+use Rattle.lburg_model.specs.DerivationOf.{parts_of}
 use Rattle.op_forest.specs.Nodes.{Node, head_of, gives, one_where, value_nodes}
 use Rattle.op_forest.specs.Worlds.{Failed}
 use Rattle.op_forest.specs.Rows.{Setting}

@@ -3,7 +3,7 @@ use Rattle.std.proofs.Common.{◌≡◌, ℕ, ◌+◌, ◌≤◌, ◌==◌, List
 use Rattle.std.specs.Prelude.{if◌then◌else◌}
 use Rattle.std.proofs.lemmas.List.{map-append}
 use Rattle.std.proofs.lemmas.Option.{same_Some, none-some}
-use Rattle.lburg_grammar.specs.Pattern.{MPattern, PHole, PLeaf, POne, PTwo, Goal, goals_at, joined}
+use Rattle.lburg_model.specs.Pattern.{MPattern, PHole, PLeaf, POne, PTwo, Goal, goals_at, joined}
 use Rattle.op_forest.specs.Nodes.{Head, Node, Leaf, One, Two, head_of, nodes, gives, one_where, value_nodes, number_of, tree_of}
 use Rattle.vcode.specs.Patterns.{Meeting, leaves_at, both, is_chain}
 

@@ -1,7 +1,7 @@
 -- Where a rule's pattern fits a node, and what the pattern does with the values of its nonterminals.
 -- Source: Fraser and Hanson, A Retargetable C Compiler, chapter 14.
 use Rattle.std.specs.Prelude.{ℕ, ◌==◌, ◌&&◌, ◌||◌, not, Bool, true, false, Option, Some, None, List, [], ◌∷◌, ◌++◌, if◌then◌else◌}
-use Rattle.lburg_grammar.specs.Pattern.{MPattern, PHole, PLeaf, POne, PTwo}
+use Rattle.lburg_model.specs.Pattern.{MPattern, PHole, PLeaf, POne, PTwo}
 use Rattle.op_forest.specs.Nodes.{Node, Leaf, One, Two, number_of}
 use Rattle.op_forest.specs.Words.{Word}
 use Rattle.op_forest.specs.Worlds.{Point, Next, Effect, Went, Stuck, then_do}

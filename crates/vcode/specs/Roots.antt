@@ -2,8 +2,8 @@
 -- Source: Fraser and Hanson, A Retargetable C Compiler, chapter 5 (roots) and chapter 14.
 use Rattle.std.specs.Prelude.{◌≡◌, ◌||◌, false, List}
 use Rattle.std.specs.List.{AllZip}
-use Rattle.lburg_grammar.specs.Derivation.{MDerivation, Derives}
-use Rattle.lburg_grammar.specs.Description.{MDescription}
+use Rattle.lburg_model.specs.Derivation.{MDerivation, Derives}
+use Rattle.lburg_model.specs.Description.{MDescription}
 use Rattle.op_forest.specs.Nodes.{Head, Node, Leaf, One, Two, tree_of}
 use Rattle.vcode.specs.RuleSets.{is_label, is_move}
 

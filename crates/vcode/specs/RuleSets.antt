@@ -1,8 +1,8 @@
 -- What a set of rules says of the code that it adds, and the laws that it keeps on its target's machine.
 -- Source: Fraser and Hanson, A Retargetable C Compiler, chapters 13 and 14.
 use Rattle.std.specs.Prelude.{◌≡◌, ℕ, ◌+◌, ◌<◌, ◌≤◌, ◌==◌, ◌||◌, not, List, [], ◌∷◌, ◌++◌, Bool, true, false, Option, Some, None, length, slice_get, IsTrue, ◌⊎◌}
-use Rattle.lburg_grammar.specs.declared.rule.Rule.{Rule}
-use Rattle.lburg_grammar.specs.Pattern.{MPattern, pattern_of}
+use Rattle.lburg_model.specs.declared.rule.Rule.{Rule}
+use Rattle.lburg_model.specs.Pattern.{MPattern, pattern_of}
 use Rattle.op_forest.specs.declared.op.Op.{Op}
 use Rattle.op_forest.specs.declared.op.Op.TheVariants as op
 pub use Rattle.op_forest.specs.Signature.{moves as is_move}

@@ -3,8 +3,8 @@
 -- Source: Fraser and Hanson, A Retargetable C Compiler, chapter 13 (templates) and chapter 14.
 use Rattle.std.specs.Prelude.{◌≡◌, ℕ, ◌+◌, ◌-◌, ◌<◌, ◌==◌, ◌&&◌, List, [], ◌∷◌, ◌++◌, Bool, true, false, Option, Some, None, ℤ, pos, negsuc, decimal, get_or, slice_get, if◌then◌else◌}
 use Rattle.lcc_text.specs.Lines.{lines_of}
-use Rattle.lburg_grammar.specs.Derivation.{MDerivation, Apply}
-use Rattle.lburg_grammar.specs.DerivationOf.{parts_of}
+use Rattle.lburg_model.specs.Derivation.{MDerivation, Apply}
+use Rattle.lburg_model.specs.DerivationOf.{parts_of}
 use Rattle.op_forest.specs.declared.sym.Sym.{Sym}
 use Rattle.op_forest.specs.declared.sym.Sym.TheVariants as sym
 use Rattle.op_forest.specs.Nodes.{Node, head_of}

@@ -1,10 +1,10 @@
 ghost use Rattle.std.specs.Prelude.{◌≡◌, ◌++◌, map, IfOk, OnOk};
-ghost use Rattle.lburg_grammar.specs.Description.{MDescription};
+ghost use Rattle.lburg_model.specs.Description.{MDescription};
 ghost use Rattle.vcode.specs.RuleSets.{Row, row_of, Rules, Applies, Obeys};
 
 use crate::operand::Reg;
 use crate::target::Target;
-use lburg_grammar::Description;
+use lburg_model::Description;
 use lcc_base::{Items, Memory};
 use op_forest::Tree;
 use std::alloc::Global;

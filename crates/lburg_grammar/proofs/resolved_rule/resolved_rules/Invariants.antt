@@ -1,6 +1,6 @@
 use Rattle.std.proofs.Common.{take, map}
 use Rattle.lcc_text.specs.Names.{bytes_of}
-use Rattle.lburg_syntax.specs.Grammar.{rule_of}
+use Rattle.lburg_lines.specs.Grammar.{rule_of}
 use Rattle.lburg_grammar.specs.Places.{RulesFor}
 use Rattle.lburg_grammar.proofs.resolved_rule.resolved_rules.Given as goal
 

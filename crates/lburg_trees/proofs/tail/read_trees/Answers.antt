@@ -2,8 +2,8 @@ use Rattle.std.proofs.Common.{◌≡◌, ◌⊎◌, ℕ, ◌+◌, List, sym, sub
 use Rattle.std.proofs.lemmas.Result.{IfOk-weaker, IfErr-weaker}
 use Rattle.lcc_text.specs.Lines.{lines_of}
 use Rattle.lburg_lines.specs.Tokens.{Tok}
-use Rattle.lburg_grammar.specs.Tree.{MTree}
-use Rattle.lburg_grammar.specs.Description.{MDescription, IsDescription}
+use Rattle.lburg_model.specs.Tree.{MTree}
+use Rattle.lburg_model.specs.Description.{MDescription, IsDescription}
 use Rattle.lburg_trees.specs.declared.tree_fault.TreeFault.{TreeFault}
 use Rattle.lburg_trees.specs.declared.tree_fault.TreeFault.TheVariants.{Memory}
 use Rattle.lburg_trees.specs.Rows.{Stands}

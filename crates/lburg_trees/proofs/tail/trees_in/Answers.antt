@@ -1,7 +1,7 @@
 use Rattle.std.proofs.Common.{◌≡◌, ◌∙◌, ◌+◌, ◌-◌, ℕ, ◌++◌, List, [], drop, refl, ap, sym, subst, append_assoc, arith}
 use Rattle.std.proofs.lemmas.List.{append-nil}
 use Rattle.lcc_text.specs.Lines.{lines_of}
-use Rattle.lburg_grammar.specs.Tree.{MTree}
+use Rattle.lburg_model.specs.Tree.{MTree}
 use Rattle.lburg_trees.specs.TailText.{AreTrees}
 use Rattle.lburg_trees.specs.Reading.{AreFine}
 use Rattle.lburg_trees.proofs.Tails.{dropped, drop_end, trees_before, fine_more, line_fails}

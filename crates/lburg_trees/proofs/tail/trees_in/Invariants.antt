@@ -1,6 +1,6 @@
 use Rattle.std.proofs.Common.{◌≡◌, ◌≤◌, ◌+◌, ◌-◌, ◌++◌, List, length, drop}
 use Rattle.lcc_text.specs.Lines.{lines_of}
-use Rattle.lburg_grammar.specs.Tree.{MTree}
+use Rattle.lburg_model.specs.Tree.{MTree}
 use Rattle.lburg_trees.specs.TailText.{AreTrees}
 use Rattle.lburg_trees.specs.Reading.{AreFine}
 use Rattle.lburg_trees.proofs.tail.trees_in.Given as goal

@@ -4,8 +4,8 @@ use Rattle.std.proofs.lemmas.Result.{err_from_is_err_and}
 use Rattle.lburg_lines.specs.declared.token.Sign.TheVariants.{Close, Comma}
 use Rattle.lburg_lines.specs.declared.token.Token.{Token}
 use Rattle.lburg_lines.specs.Tokens.{views, view, Mark}
-use Rattle.lburg_grammar.specs.Tree.{MTree}
-use Rattle.lburg_grammar.specs.Shape.{tree_of}
+use Rattle.lburg_model.specs.Tree.{MTree}
+use Rattle.lburg_model.specs.Shape.{tree_of}
 use Rattle.lburg_trees.specs.declared.row.Row.TheVariants.{BadTree, WrongArity, TooHigh}
 use Rattle.lburg_trees.specs.declared.stop.Stop.{Stop}
 use Rattle.lburg_trees.specs.declared.stop.Stop.TheVariants.{Fault}

@@ -1,7 +1,7 @@
 use Rattle.std.proofs.Common.{◌≡◌, ℕ, ◌∙◌, sym, Option, None, Some}
 use Rattle.std.specs.Prelude.{IfNone}
 use Rattle.lcc_text.specs.Names.{bytes_of}
-use Rattle.lburg_grammar.specs.declared.terminal.Terminal.{Terminal}
+use Rattle.lburg_model.specs.declared.terminal.Terminal.{Terminal}
 use Rattle.lburg_trees.specs.UnknownOp.{IsNamed}
 use Rattle.lburg_trees.proofs.Heads.{name_known, name_unknown}
 use Rattle.lburg_trees.proofs.tree_reader.operator.Goals as goal

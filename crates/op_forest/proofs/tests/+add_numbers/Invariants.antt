@@ -1,4 +1,4 @@
-use Rattle.lburg_grammar.specs.Tree.{nodes}
+use Rattle.lburg_model.specs.Tree.{nodes}
 use Rattle.op_forest.proofs.tests.+add_numbers.Given as goal
 
 abbrev pub decreases-add_numbers : goal.decreases-add_numbers

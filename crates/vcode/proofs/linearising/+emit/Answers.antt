@@ -1,7 +1,7 @@
 use Rattle.std.proofs.Common.{◌≡◌, ℕ, ◌+◌, ◌<◌, ◌≤◌, ◌^◌, true, arith}
-use Rattle.lburg_grammar.specs.Derivation.{count}
-use Rattle.lburg_grammar.specs.DerivationOf.{derivation_of}
-use Rattle.lburg_grammar.specs.Pattern.{pattern_of}
+use Rattle.lburg_model.specs.Derivation.{count}
+use Rattle.lburg_model.specs.DerivationOf.{derivation_of}
+use Rattle.lburg_model.specs.Pattern.{pattern_of}
 use Rattle.op_forest.specs.Nodes.{value_nodes}
 use Rattle.vcode.specs.Adding.{meetings_at}
 use Rattle.vcode.specs.Patterns.{is_chain}

@@ -1,8 +1,8 @@
 use Rattle.std.proofs.Common.{◌-◌, take, map}
 use Rattle.std.specs.Prelude.{slice_get}
-use Rattle.lburg_grammar.specs.declared.derivation.Derivation.{out-Derivation}
-use Rattle.lburg_grammar.specs.Derivation.{count}
-use Rattle.lburg_grammar.specs.DerivationOf.{derivation_of}
+use Rattle.lburg_model.specs.declared.derivation.Derivation.{out-Derivation}
+use Rattle.lburg_model.specs.Derivation.{count}
+use Rattle.lburg_model.specs.DerivationOf.{derivation_of}
 use Rattle.vcode.proofs.Emitting.{AddedAll, rule_meetings}
 use Rattle.vcode.proofs.linearising.+emit.Given as goal
 

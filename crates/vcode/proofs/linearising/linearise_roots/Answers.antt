@@ -1,7 +1,7 @@
 use Rattle.std.proofs.Common.{◌+◌, ◌≤◌, ◌^◌, ◌++◌, ◌∷◌, [], map, refl, sym, ap, ◌∙◌, subst, arith}
 use Rattle.std.proofs.lemmas.List.{length-map}
-use Rattle.lburg_grammar.specs.Description.{MDescription}
-use Rattle.lburg_grammar.specs.DerivationOf.{derivation_of}
+use Rattle.lburg_model.specs.Description.{MDescription}
+use Rattle.lburg_model.specs.DerivationOf.{derivation_of}
 use Rattle.op_forest.specs.Nodes.{value_nodes}
 use Rattle.op_forest.specs.NodeCounts.{value_nodes_few_in}
 use Rattle.vcode.specs.Roots.{IsQuiet}

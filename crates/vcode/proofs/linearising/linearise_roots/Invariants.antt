@@ -1,5 +1,5 @@
 use Rattle.std.proofs.Common.{map, take}
-use Rattle.lburg_grammar.specs.DerivationOf.{derivation_of}
+use Rattle.lburg_model.specs.DerivationOf.{derivation_of}
 use Rattle.vcode.proofs.Forests.{Gathered}
 use Rattle.vcode.proofs.linearising.linearise_roots.Given as goal
 

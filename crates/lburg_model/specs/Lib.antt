@@ -1,0 +1,13 @@
+pub mod Tree
+pub mod Pattern
+pub mod Range
+pub mod Description
+pub mod NamesOf
+pub mod Derivation
+pub mod Best
+pub mod Laws
+pub mod CoverText
+pub mod SameParts
+pub mod Shape
+pub mod Coding
+pub mod DerivationOf

@@ -1,2 +1,0 @@
-pub mod DescriptionText
-pub mod Places
