@@ -1,0 +1,5 @@
+pub mod Holes
+pub mod Links
+pub mod Queues
+pub mod Room
+pub mod Turns

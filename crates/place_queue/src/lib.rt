@@ -1,0 +1,11 @@
+//! A queue of places by their keys: what waits with the least key comes first.
+#![tactic(auto)]
+
+mod heap;
+mod key;
+mod queue;
+#[cfg(test)]
+mod tests;
+
+pub use key::Key;
+pub use queue::Queue;
