@@ -4,8 +4,8 @@ use Rattle.std.proofs.Common.{◌≡◌, ℕ, ◌+◌, ◌≤◌, ◌<◌, List,
 use Rattle.std.specs.Prelude.{ℤ, pos, negsuc, ◌^◌, not, if◌then◌else◌, sum_by}
 use Rattle.std.proofs.lemmas.List.Sums.{sum_by-cons}
 use Rattle.std.proofs.lemmas.Option.{same_Some}
-use Rattle.lburg_grammar.specs.Derivation.{MDerivation}
-use Rattle.lburg_grammar.specs.Pattern.{MPattern}
+use Rattle.lburg_model.specs.Derivation.{MDerivation}
+use Rattle.lburg_model.specs.Pattern.{MPattern}
 use Rattle.op_forest.specs.declared.op.Op.TheVariants as op
 use Rattle.op_forest.specs.declared.sym.Sym.{Sym}
 use Rattle.op_forest.specs.declared.sym.Sym.TheVariants as symbol

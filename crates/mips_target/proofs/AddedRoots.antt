@@ -2,7 +2,7 @@
 use Rattle.std.proofs.Common.{◌≡◌, ℕ, ◌+◌, ◌≤◌, List, [], ◌∷◌, ◌++◌, length, length-append, append_assoc, append-nil, sym, ap, ◌∙◌, subst, arith}
 use Rattle.std.specs.List.{AllByRecursion, sum_by}
 use Rattle.std.proofs.lemmas.List.Sums.{sum_by-append}
-use Rattle.lburg_grammar.specs.Derivation.{MDerivation}
+use Rattle.lburg_model.specs.Derivation.{MDerivation}
 use Rattle.op_forest.specs.Nodes.{Node, nodes}
 use Rattle.op_forest.specs.EachNode.{AtEachNode}
 use Rattle.vcode.specs.VirtualCode.{joined}

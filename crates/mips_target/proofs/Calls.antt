@@ -4,8 +4,8 @@ use Rattle.std.specs.Prelude.{All, if◌then◌else◌}
 use Rattle.std.specs.List.{AllByRecursion}
 use Rattle.std.proofs.lemmas.List.Elements.{recursion_from_All}
 use Rattle.std.proofs.lemmas.Option.{same_Some}
-use Rattle.lburg_grammar.specs.Derivation.{MDerivation}
-use Rattle.lburg_grammar.specs.Pattern.{MPattern}
+use Rattle.lburg_model.specs.Derivation.{MDerivation}
+use Rattle.lburg_model.specs.Pattern.{MPattern}
 use Rattle.op_forest.specs.declared.forest.Forest.{Forest}
 use Rattle.op_forest.specs.declared.op.Op.{Op}
 use Rattle.op_forest.specs.declared.op.Op.TheVariants.{Addrg}

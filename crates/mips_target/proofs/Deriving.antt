@@ -3,11 +3,11 @@ use Rattle.std.proofs.Common.{◌≡◌, ℕ, List, [], ◌∷◌, ◌++◌, Som
 use Rattle.std.specs.List.{AllZip}
 use Rattle.std.proofs.lemmas.List.{map-append}
 use Rattle.std.proofs.lemmas.Option.{same_Some}
-use Rattle.lburg_grammar.specs.declared.rule.Rule.{Rule}
-use Rattle.lburg_grammar.specs.Description.{MDescription}
-use Rattle.lburg_grammar.specs.Derivation.{MDerivation, Apply, MParts, Derives, DeriveEach}
-use Rattle.lburg_grammar.specs.DerivationOf.{parts_of}
-use Rattle.tree_labeller.specs.AreBest.{AreBest}
+use Rattle.lburg_model.specs.declared.rule.Rule.{Rule}
+use Rattle.lburg_model.specs.Description.{MDescription}
+use Rattle.lburg_model.specs.Derivation.{MDerivation, Apply, MParts, Derives, DeriveEach}
+use Rattle.lburg_model.specs.DerivationOf.{parts_of}
+use Rattle.reducer.specs.AreBest.{AreBest}
 use Rattle.op_forest.specs.Nodes.{Node, tree_of}
 use Rattle.vcode.specs.Patterns.{Meeting, leaves_at}
 use Rattle.vcode.specs.RuleSets.{Row, row_of, Applies}

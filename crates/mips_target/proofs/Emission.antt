@@ -2,7 +2,7 @@
 use Rattle.std.proofs.Common.{◌≡◌, ℕ, ◌+◌, ◌*◌, ◌≤◌, ◌<◌, List, [], ◌∷◌, length, All, sym, ap, subst, arith}
 use Rattle.std.specs.List.{AllByRecursion, sum_by}
 use Rattle.std.proofs.lemmas.List.Elements.{recursion_from_All}
-use Rattle.lburg_grammar.specs.Derivation.{MDerivation}
+use Rattle.lburg_model.specs.Derivation.{MDerivation}
 use Rattle.op_forest.specs.declared.forest.Forest.{Forest}
 use Rattle.op_forest.specs.declared.op.Op.TheVariants as op
 use Rattle.op_forest.specs.declared.suffix.Suffix.TheVariants as suffix

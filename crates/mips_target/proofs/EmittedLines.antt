@@ -4,9 +4,9 @@ use Rattle.std.specs.Prelude.{ℤ, FitsSigned, IsSomeAnd}
 use Rattle.std.specs.Int.{w32}
 use Rattle.std.specs.List.{AllZip, AllByRecursion}
 use Rattle.std.proofs.lemmas.List.Elements.{recursion_from_All}
-use Rattle.lburg_grammar.specs.Derivation.{MDerivation}
-use Rattle.lburg_grammar.specs.Description.{MDescription}
-use Rattle.tree_labeller.specs.AreBest.{AreBest}
+use Rattle.lburg_model.specs.Derivation.{MDerivation}
+use Rattle.lburg_model.specs.Description.{MDescription}
+use Rattle.reducer.specs.AreBest.{AreBest}
 use Rattle.asm_text.specs.declared.instruction.Instruction.{Instruction}
 use Rattle.op_forest.specs.declared.forest.Forest.{Forest}
 use Rattle.op_forest.specs.declared.op.Op.TheVariants as op

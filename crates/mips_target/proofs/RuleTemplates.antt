@@ -5,7 +5,7 @@ use Rattle.std.specs.List.{AllByRecursion}
 use Rattle.asm_text.specs.declared.instruction.BinaryOp.{BinaryOp}
 use Rattle.asm_text.specs.declared.instruction.BinaryOp.TheVariants as binary
 use Rattle.asm_text.specs.Words.{binary_word}
-use Rattle.lburg_grammar.specs.Pattern.{MPattern, PHole}
+use Rattle.lburg_model.specs.Pattern.{MPattern, PHole}
 use Rattle.op_forest.specs.Nodes.{Node}
 use Rattle.vcode.specs.RuleSets.{Row, Applies}
 use Rattle.vcode.specs.Templates.{expanded, is_instruction}

@@ -1,11 +1,11 @@
 -- What the choice of derivations gives to linearising.
 use Rattle.std.proofs.Common.{◌≡◌, IfOk, Result, Ok, Err, ℕ, ◌≤◌, List, [], ◌∷◌, map, All, sum_by, refl, sym, subst, arith, zero, suc}
 use Rattle.std.proofs.lemmas.List.Sums.{sum_by-cons}
-use Rattle.lburg_grammar.specs.Tree.{nodes as tree_nodes}
-use Rattle.lburg_grammar.specs.Derivation.{MDerivation}
-use Rattle.lburg_grammar.specs.Description.{MDescription}
-use Rattle.lburg_grammar.specs.Best.{HasNone}
-use Rattle.tree_labeller.specs.AreBest.{AreBest}
+use Rattle.lburg_model.specs.Tree.{nodes as tree_nodes}
+use Rattle.lburg_model.specs.Derivation.{MDerivation}
+use Rattle.lburg_model.specs.Description.{MDescription}
+use Rattle.lburg_model.specs.Best.{HasNone}
+use Rattle.reducer.specs.AreBest.{AreBest}
 use Rattle.op_forest.specs.declared.forest.Forest.{Forest}
 use Rattle.op_forest.specs.Nodes.{Node, Leaf, One, Two, nodes, tree_of}
 use Rattle.op_forest.specs.WellFormed.{IsWellFormed}

@@ -13,10 +13,10 @@ use Rattle.asm_text.specs.declared.instruction.Operand.TheVariants as operand
 use Rattle.asm_text.specs.declared.instruction.Target.TheVariants as target
 use Rattle.asm_text.specs.Words.{binary_word}
 use Rattle.lcc_text.specs.Lines.{lines_of}
-use Rattle.lburg_grammar.specs.declared.rule.Rule.{Rule}
-use Rattle.lburg_grammar.specs.Pattern.{MPattern, PHole, PLeaf, POne, PTwo}
-use Rattle.lburg_grammar.specs.Derivation.{MDerivation, Apply, Derives, DeriveEach}
-use Rattle.lburg_grammar.specs.DerivationOf.{parts_of}
+use Rattle.lburg_model.specs.declared.rule.Rule.{Rule}
+use Rattle.lburg_model.specs.Pattern.{MPattern, PHole, PLeaf, POne, PTwo}
+use Rattle.lburg_model.specs.Derivation.{MDerivation, Apply, Derives, DeriveEach}
+use Rattle.lburg_model.specs.DerivationOf.{parts_of}
 use Rattle.op_forest.specs.declared.sym.Sym.{Sym}
 use Rattle.op_forest.specs.declared.sym.Sym.TheVariants as symbol
 use Rattle.op_forest.specs.Nodes.{Node, head_of, number_of, tree_of}

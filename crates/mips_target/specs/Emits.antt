@@ -3,7 +3,7 @@
 -- Source: Fraser and Hanson, A Retargetable C Compiler, chapters 13 and 14.
 use Rattle.std.specs.Prelude.{◌≤◌, ℕ, ◌==◌, ◌&&◌, nat_lt, Bool, true, false, List, [], ◌∷◌, decimal, if◌then◌else◌}
 use Rattle.std.specs.List.{AllZip}
-use Rattle.lburg_grammar.specs.Derivation.{MDerivation}
+use Rattle.lburg_model.specs.Derivation.{MDerivation}
 use Rattle.asm_text.specs.declared.instruction.Instruction.{Instruction}
 use Rattle.asm_text.specs.declared.instruction.Instruction.TheVariants.{LoadNumber, Move, Binary, Unary, Load, Store, Branch, Jump, Call}
 use Rattle.asm_text.specs.declared.instruction.Address.{Address}

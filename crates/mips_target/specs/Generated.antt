@@ -3,9 +3,9 @@
 -- machine's instructions for that. How registers and slots are given is left open.
 use Rattle.std.specs.Prelude.{◌≡◌, ◌≤◌, ℕ, ◌+◌, ◌*◌, List, ◌∷◌, [], ◌++◌, map, length, sum_by, All, get_or}
 use Rattle.std.specs.List.{AllZip}
-use Rattle.lburg_grammar.specs.Derivation.{MDerivation}
-use Rattle.lburg_grammar.specs.Description.{MDescription}
-use Rattle.tree_labeller.specs.AreBest.{AreBest}
+use Rattle.lburg_model.specs.Derivation.{MDerivation}
+use Rattle.lburg_model.specs.Description.{MDescription}
+use Rattle.reducer.specs.AreBest.{AreBest}
 use Rattle.asm_text.specs.declared.instruction.Instruction.{Instruction}
 use Rattle.asm_text.specs.declared.line.Line.{Line}
 use Rattle.op_forest.specs.declared.lowered.LoweredFunction.{LoweredFunction}

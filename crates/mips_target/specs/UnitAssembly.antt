@@ -2,9 +2,9 @@
 -- each by the best derivations of its forest, and each within its bounds.
 use Rattle.std.specs.Prelude.{◌≡◌, ◌≤◌, ℕ, List, [], map, get_or, sum_by}
 use Rattle.std.specs.List.{AllZip}
-use Rattle.lburg_grammar.specs.Derivation.{MDerivation}
-use Rattle.lburg_grammar.specs.Description.{MDescription}
-use Rattle.tree_labeller.specs.AreBest.{AreBest}
+use Rattle.lburg_model.specs.Derivation.{MDerivation}
+use Rattle.lburg_model.specs.Description.{MDescription}
+use Rattle.reducer.specs.AreBest.{AreBest}
 use Rattle.asm_text.specs.declared.program.Program.{Program}
 use Rattle.op_forest.specs.declared.lowered.LoweredFunction.{LoweredFunction}
 use Rattle.op_forest.specs.Lowered.{LoweredUnit}

@@ -20,9 +20,9 @@ use asm_text::{Directive, Lines, Statement};
 use lcc_base::{Items, Memory};
 use mips_rules::{Mips, MipsRules, rules};
 use op_forest::{Forest, Lowered, LoweredFunction, WellFormed, check_forest};
+use reducer::best_derivations;
 use slot_allocator::give_slots;
 use std::alloc::Global;
-use tree_labeller::best_derivations;
 use vcode::{Code, Reg, RuleSet, VCode, linearise};
 
 /// The registers that hold spilled values for one instruction.

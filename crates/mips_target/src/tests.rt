@@ -12,10 +12,10 @@ use op_forest::{
     Forest, ForestFault, Frame, Lowered, LoweredFunction, Op, Operator, Suffix, Sym, Tree,
     WellFormed, check_forest,
 };
+use reducer::best_derivations;
 use slot_allocator::give_slots;
 use std::alloc::Global;
 use std::test::Fail;
-use tree_labeller::best_derivations;
 use vcode::{RuleSet, linearise};
 
 /// A node of a tree in postfix order.

@@ -2,11 +2,11 @@
 use Rattle.std.proofs.Common.{◌≡◌, ℕ, zero, suc, ◌+◌, ◌<◌, ◌≤◌, Bool, true, false, cond, Some, List, [], ◌∷◌, refl, sym, ap, ◌∙◌, arith, subst, inl, inr, ◌⊎◌, ⊎_elim}
 use Rattle.std.specs.Prelude.{eqb, slice_get}
 use Rattle.std.proofs.lemmas.Bool.{eqb-true, eq-eqb, cases_lt}
-use Rattle.lburg_grammar.specs.declared.rule.Rule.{Rule}
-use Rattle.lburg_grammar.specs.Range.{IsMet}
-use Rattle.lburg_grammar.specs.Tree.{MTree, value_of}
-use Rattle.lburg_grammar.specs.Pattern.{MPattern, PHole, PLeaf, POne, PTwo, Goal, pattern_of, goals_at}
-use Rattle.lburg_grammar.specs.Derivation.{MDerivation, MParts, Apply, NoPart, Part, Derives, DeriveEach, cost, costs, count, counts}
+use Rattle.lburg_model.specs.declared.rule.Rule.{Rule}
+use Rattle.lburg_model.specs.Range.{IsMet}
+use Rattle.lburg_model.specs.Tree.{MTree, value_of}
+use Rattle.lburg_model.specs.Pattern.{MPattern, PHole, PLeaf, POne, PTwo, Goal, pattern_of, goals_at}
+use Rattle.lburg_model.specs.Derivation.{MDerivation, MParts, Apply, NoPart, Part, Derives, DeriveEach, cost, costs, count, counts}
 use Rattle.plain_cover.specs.Height.{height, tallest}
 use Rattle.plain_cover.specs.Room.{room}
 use Rattle.plain_cover.proofs.Room.{below, room_below, Narrow, narrow}

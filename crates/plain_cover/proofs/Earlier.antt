@@ -2,7 +2,7 @@
 use Rattle.std.proofs.Common.{◌≡◌, ℕ, suc, ◌+◌, ◌<◌, ◌≤◌, ◌≢◌, List, [], ◌∷◌, length, get_or, drop, sym, ap, ◌∙◌, arith, subst, inl, inr, ⊎_elim}
 use Rattle.std.proofs.Math.Seq.{drop-cons}
 use Rattle.std.proofs.lemmas.List.{drop_all}
-use Rattle.lburg_grammar.specs.Best.{Earlier}
+use Rattle.lburg_model.specs.Best.{Earlier}
 
 pub record Agree (a b : List ℕ) (i : ℕ) : Type 0 where
   pub within : i ≤ length b

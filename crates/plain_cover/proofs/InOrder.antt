@@ -1,11 +1,11 @@
 -- Derivations of one nonterminal at one tree are in order.
 use Rattle.std.proofs.Common.{◌≡◌, ℕ, ◌<◌, ◌≤◌, inl, inr, ⊎_elim, List, [], ◌∷◌, ◌++◌, sym, ap, ◌∙◌, arith, append-nil}
 use Rattle.std.proofs.lemmas.Bool.{cases_lt}
-use Rattle.lburg_grammar.specs.declared.rule.Rule.{Rule}
-use Rattle.lburg_grammar.specs.Tree.{MTree}
-use Rattle.lburg_grammar.specs.Derivation.{MDerivation, Derives, cost, count, numbers}
-use Rattle.lburg_grammar.specs.Best.{Earlier}
-use Rattle.lburg_grammar.specs.Laws.{same_front}
+use Rattle.lburg_model.specs.declared.rule.Rule.{Rule}
+use Rattle.lburg_model.specs.Tree.{MTree}
+use Rattle.lburg_model.specs.Derivation.{MDerivation, Derives, cost, count, numbers}
+use Rattle.lburg_model.specs.Best.{Earlier}
+use Rattle.lburg_model.specs.Laws.{same_front}
 use Rattle.plain_cover.specs.Told.{told}
 use Rattle.plain_cover.specs.Less.{Less, ByCost, ByCount, ByNumbers, Upto}
 

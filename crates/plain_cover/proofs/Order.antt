@@ -1,6 +1,6 @@
 -- The order of what is told of derivations.
 use Rattle.std.proofs.Common.{◌≡◌, ℕ, List, [], ◌∷◌, ◌++◌, refl, sym, ap, ◌∙◌, arith, subst, inl, inr}
-use Rattle.lburg_grammar.specs.Best.{Earlier}
+use Rattle.lburg_model.specs.Best.{Earlier}
 use Rattle.plain_cover.specs.declared.plain.Found.{Found}
 use Rattle.plain_cover.specs.Told.{told_of_both, told_of_rule}
 use Rattle.plain_cover.specs.Less.{Less, ByCost, ByCount, ByNumbers, Upto}

@@ -1,9 +1,9 @@
 -- Parts that stand one after the other.
 use Rattle.std.proofs.Common.{◌≡◌, ℕ, ◌≤◌, List, [], ◌∷◌, ◌++◌, refl, sym, ap, ◌∙◌, arith, append_assoc, append-nil}
 use Rattle.std.specs.Prelude.{max}
-use Rattle.lburg_grammar.specs.declared.rule.Rule.{Rule}
-use Rattle.lburg_grammar.specs.Pattern.{Goal}
-use Rattle.lburg_grammar.specs.Derivation.{MDerivation, MParts, NoPart, Part, DeriveEach, numbers, numbers_in}
+use Rattle.lburg_model.specs.declared.rule.Rule.{Rule}
+use Rattle.lburg_model.specs.Pattern.{Goal}
+use Rattle.lburg_model.specs.Derivation.{MDerivation, MParts, NoPart, Part, DeriveEach, numbers, numbers_in}
 use Rattle.plain_cover.specs.declared.plain.Found.{Found}
 use Rattle.plain_cover.specs.Height.{tallest}
 use Rattle.plain_cover.specs.Told.{told, told_of_parts, told_of_both}

@@ -1,8 +1,8 @@
 -- The room that the goals of a pattern have.
 use Rattle.std.proofs.Common.{◌≡◌, ℕ, ◌+◌, ◌≤◌, Bool, true, false, Option, Some, None, List, [], ◌∷◌, ◌++◌, refl, arith, subst}
 use Rattle.std.specs.Prelude.{eqb, max, if◌then◌else◌}
-use Rattle.lburg_grammar.specs.Tree.{MTree, TLeaf, TOne, TTwo}
-use Rattle.lburg_grammar.specs.Pattern.{MPattern, PHole, PLeaf, POne, PTwo, Goal, joined, goals_at}
+use Rattle.lburg_model.specs.Tree.{MTree, TLeaf, TOne, TTwo}
+use Rattle.lburg_model.specs.Pattern.{MPattern, PHole, PLeaf, POne, PTwo, Goal, joined, goals_at}
 use Rattle.plain_cover.specs.Room.{room}
 
 -- the room below a tree's own node

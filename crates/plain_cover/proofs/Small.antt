@@ -2,10 +2,10 @@
 use Rattle.std.proofs.Common.{◌≡◌, ℕ, zero, suc, ◌+◌, ◌-◌, ◌*◌, ◌^◌, ◌<◌, ◌≤◌, Option, Some, None, List, [], ◌∷◌, ◌++◌, refl, ap, arith, subst}
 use Rattle.std.specs.Prelude.{eqb, slice_get}
 use Rattle.std.proofs.Math.Nat.{mul-le-mul_left}
-use Rattle.lburg_grammar.specs.declared.rule.Rule.{Rule}
-use Rattle.lburg_grammar.specs.Tree.{MTree, TLeaf, TOne, TTwo, nodes, kids_of}
-use Rattle.lburg_grammar.specs.Pattern.{MPattern, PHole, PLeaf, POne, PTwo, Goal, goals_at, pattern_of}
-use Rattle.lburg_grammar.specs.Derivation.{MDerivation, MParts, Apply, NoPart, Part, Derives, DeriveEach, cost_of, cost, costs, count, counts}
+use Rattle.lburg_model.specs.declared.rule.Rule.{Rule}
+use Rattle.lburg_model.specs.Tree.{MTree, TLeaf, TOne, TTwo, nodes, kids_of}
+use Rattle.lburg_model.specs.Pattern.{MPattern, PHole, PLeaf, POne, PTwo, Goal, goals_at, pattern_of}
+use Rattle.lburg_model.specs.Derivation.{MDerivation, MParts, Apply, NoPart, Part, Derives, DeriveEach, cost_of, cost, costs, count, counts}
 use Rattle.plain_cover.specs.declared.plain.Found.{Found}
 use Rattle.plain_cover.specs.Height.{height, tallest}
 use Rattle.plain_cover.specs.Room.{room}

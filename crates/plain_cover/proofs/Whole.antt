@@ -1,14 +1,14 @@
 -- The least of the derivations within a tree's room is the best of all.
 use Rattle.std.proofs.Common.{◌≡◌, ℕ, ◌<◌, ◌≤◌, Option, Some, None, List, [], ◌++◌, ap, arith, subst, inl, inr, ◌⊎◌, ⊎_elim}
 use Rattle.std.specs.Prelude.{slice_get, length, IfSome, IfNone}
-use Rattle.lburg_grammar.specs.Description.{MDescription, IsDescription}
+use Rattle.lburg_model.specs.Description.{MDescription, IsDescription}
 use Rattle.plain_cover.specs.AreRules.{AreRules}
 use Rattle.std.proofs.lemmas.Bool.{cases_lt}
-use Rattle.lburg_grammar.specs.declared.rule.Rule.{Rule}
-use Rattle.lburg_grammar.specs.Tree.{MTree}
-use Rattle.lburg_grammar.specs.Derivation.{MDerivation, Derives, cost, count}
-use Rattle.lburg_grammar.specs.Best.{Better, IsBestOf, IsBest, HasNone}
-use Rattle.lburg_grammar.specs.Best as best
+use Rattle.lburg_model.specs.declared.rule.Rule.{Rule}
+use Rattle.lburg_model.specs.Tree.{MTree}
+use Rattle.lburg_model.specs.Derivation.{MDerivation, Derives, cost, count}
+use Rattle.lburg_model.specs.Best.{Better, IsBestOf, IsBest, HasNone}
+use Rattle.lburg_model.specs.Best as best
 use Rattle.plain_cover.specs.declared.plain.Found.{Found}
 use Rattle.plain_cover.specs.Room.{room}
 use Rattle.plain_cover.specs.Told.{told}
@@ -17,7 +17,7 @@ use Rattle.plain_cover.specs.IsLeastOf.{IsLeastOf}
 use Rattle.plain_cover.specs.Within.{Within}
 use Rattle.plain_cover.proofs.Cutting.{trim}
 use Rattle.plain_cover.proofs.Order.{upto_trans}
-use Rattle.lburg_grammar.specs.Laws.{same_front}
+use Rattle.lburg_model.specs.Laws.{same_front}
 
 better : (rules : List Rule) (x y : MDerivation) → Less (told rules x) (told rules y) → Better rules x y
 better rules x y (ByCost a) = best.ByCost a

@@ -1,7 +1,7 @@
 -- What a search needs of rules.
 use Rattle.std.specs.Prelude.{◌≡◌, ℕ, ◌≤◌, Some, List, length, slice_get}
-use Rattle.lburg_grammar.specs.declared.rule.Rule.{Rule}
-use Rattle.lburg_grammar.specs.Pattern.{pattern_of, pattern_nodes}
+use Rattle.lburg_model.specs.declared.rule.Rule.{Rule}
+use Rattle.lburg_model.specs.Pattern.{pattern_of, pattern_nodes}
 
 pub record AreRules (rules : List Rule) : Type 0 where
   pub few : length rules ≤ 4095

@@ -1,6 +1,6 @@
 -- How deep rules are nested in a derivation.
 use Rattle.std.specs.Prelude.{ℕ, ◌+◌, max}
-use Rattle.lburg_grammar.specs.Derivation.{MDerivation, MParts, Apply, NoPart, Part}
+use Rattle.lburg_model.specs.Derivation.{MDerivation, MParts, Apply, NoPart, Part}
 
 -- the rules on the longest way from the derivation's own rule to one without parts
 abbrev mutual

@@ -1,6 +1,6 @@
 -- The order of derivations by what is told of them.
 use Rattle.std.specs.Prelude.{◌≡◌, ◌<◌, ◌⊎◌, Option, Some, None}
-use Rattle.lburg_grammar.specs.Best.{Earlier}
+use Rattle.lburg_model.specs.Best.{Earlier}
 use Rattle.plain_cover.specs.declared.plain.Found.{Found}
 
 -- smaller by cost, at equal cost by count, and at equal count by the first difference of the numbers

@@ -1,7 +1,7 @@
 -- What is told of derivations: cost, count and numbers in preorder.
 use Rattle.std.specs.Prelude.{ℕ, ◌+◌, List, [], ◌∷◌, ◌++◌}
-use Rattle.lburg_grammar.specs.declared.rule.Rule.{Rule}
-use Rattle.lburg_grammar.specs.Derivation.{MDerivation, MParts, cost, costs, count, counts, numbers, numbers_in}
+use Rattle.lburg_model.specs.declared.rule.Rule.{Rule}
+use Rattle.lburg_model.specs.Derivation.{MDerivation, MParts, cost, costs, count, counts, numbers, numbers_in}
 use Rattle.plain_cover.specs.declared.plain.Found.{Found}
 
 abbrev pub told : List Rule → MDerivation → Found

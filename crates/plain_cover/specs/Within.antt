@@ -1,9 +1,9 @@
 -- Derivations, and parts of derivations, in which rules are nested no deeper than a bound.
 use Rattle.std.specs.Prelude.{◌≡◌, ℕ, ◌≤◌, Some, List}
-use Rattle.lburg_grammar.specs.declared.rule.Rule.{Rule}
-use Rattle.lburg_grammar.specs.Tree.{MTree}
-use Rattle.lburg_grammar.specs.Pattern.{MPattern, Goal, goals_at}
-use Rattle.lburg_grammar.specs.Derivation.{MDerivation, MParts, Apply, Derives, DeriveEach}
+use Rattle.lburg_model.specs.declared.rule.Rule.{Rule}
+use Rattle.lburg_model.specs.Tree.{MTree}
+use Rattle.lburg_model.specs.Pattern.{MPattern, Goal, goals_at}
+use Rattle.lburg_model.specs.Derivation.{MDerivation, MParts, Apply, Derives, DeriveEach}
 use Rattle.plain_cover.specs.Height.{height, tallest}
 
 abbrev pub Within : List Rule → ℕ → MTree → ℕ → MDerivation → Type 0

@@ -1,9 +1,9 @@
 ghost use Rattle.std.specs.Prelude.{◌≡◌, ℕ, ◌+◌, ◌*◌, ◌^◌, ◌<◌, ◌≤◌, ◌↔◌, IsTrue, length, IfOk, IfSome, IfNone, slice_get};
-ghost use Rattle.lburg_grammar.specs.Tree.{MTree, nodes, op_of, kids_of, value_of};
-ghost use Rattle.lburg_grammar.specs.Range.{IsMet};
-ghost use Rattle.lburg_grammar.specs.Pattern.{pattern_of, pattern_nodes};
-ghost use Rattle.lburg_grammar.specs.Derivation.{MDerivation};
-ghost use Rattle.lburg_grammar.specs.Best.{Earlier, IsBest, HasNone};
+ghost use Rattle.lburg_model.specs.Tree.{MTree, nodes, op_of, kids_of, value_of};
+ghost use Rattle.lburg_model.specs.Range.{IsMet};
+ghost use Rattle.lburg_model.specs.Pattern.{pattern_of, pattern_nodes};
+ghost use Rattle.lburg_model.specs.Derivation.{MDerivation};
+ghost use Rattle.lburg_model.specs.Best.{Earlier, IsBest, HasNone};
 ghost use Rattle.plain_cover.specs.Room.{room};
 ghost use Rattle.plain_cover.specs.Told.{told, told_of_parts, told_of_none, told_of_both, told_of_rule};
 ghost use Rattle.plain_cover.specs.Less.{Less, IsLesser};
@@ -11,7 +11,7 @@ ghost use Rattle.plain_cover.specs.IsLeastOf.{IsLeastOf};
 ghost use Rattle.plain_cover.specs.Within.{Within, WithinBy, PartsWithin};
 ghost use Rattle.plain_cover.specs.AreRules.{AreRules};
 
-use lburg_grammar::{Description, Pattern, Rule, TreeNode};
+use lburg_model::{Description, Pattern, Rule, TreeNode};
 use lcc_base::{Items, Memory};
 use std::alloc::Global;
 

@@ -1,16 +1,19 @@
 //! The plain search and the labeller on the same descriptions and trees.
 
-ghost use Rattle.std.specs.Prelude.{◌≡◌, ◌<◌, ⊤, IfSome};
-ghost use Rattle.lburg_grammar.specs.Tree.{nodes};
+ghost use Rattle.std.specs.Prelude.{◌≡◌, ◌<◌, ◌≤◌, ⊤, IfSome, length};
+ghost use Rattle.lburg_model.specs.Tree.{nodes};
 
 use crate::{Found, plain_best};
-use lburg_grammar::{Description, TextTree, TreeNode, read, read_trees};
+use lburg_grammar::{read, read_trees};
+use lburg_model::{Description, TextTree, TreeNode};
+use lburg_tables::{Tables, build};
 use lcc_base::{Items, Memory, Steps};
+use reducer::{Visitor, best, reduce};
 use std::alloc::Global;
 use std::marker::Brand;
 use std::sync::ledger::{Blank, Ledger};
 use std::test::Fail;
-use tree_labeller::{Cells, Tables, Visitor, best, build, label, reduce};
+use tree_labeller::{Cells, label};
 
 /// Keeps the numbers of the rules that it is called with, as far as memory allows.
 #[derive(Drop)]
@@ -82,6 +85,7 @@ fn compared<L: Ledger>(alloc: Global, blank: Blank, text: &[u8]) -> Result<usize
     requires name { blank.name ≡ L.name }
     requires parts { blank.parts ≡ L.parts }
     requires some { 0 < blank.parts }
+    requires text { length text.now ≤ 16777216 }
 {
     let mut steps = Steps::<L>::new(blank);
     let description = read(alloc, text)?;
@@ -106,7 +110,9 @@ fn compared<L: Ledger>(alloc: Global, blank: Blank, text: &[u8]) -> Result<usize
 }
 
 /// The same, by a caller without a ledger.
-fn compare(alloc: Global, text: &[u8]) -> Result<usize, Fail> {
+fn compare(alloc: Global, text: &[u8]) -> Result<usize, Fail>
+    requires { length text.now ≤ 16777216 }
+{
     compared::<Brand>(alloc, Blank::new(1), text)
 }
 
@@ -142,6 +148,16 @@ fn both_find_the_same(rt: HostRuntime) -> Result<(), Fail> {
         (
             "%start s\n%term A=1 B=2 C=3\n%%\ns: A(s) \"\" 2\ns: A(t) \"\" 1\nt: B \"\" 1\nu: C \"\" 0\n%%\nA(B)\nB\nC\nA(C)\nA(A(B))\n",
             2,
+        ),
+        // A rule with a range beside a dearer one without.
+        (
+            "%term A=1 C=2\n%%\ns: A(c,c) \"\" 1\nc: C \"\" range(a,-4,4)\nc: C \"\" 3\n%%\nA(C[4],C[5])\nA(C,C[-4])\nA(C[0],C[0])\nC[0]\n",
+            3,
+        ),
+        // A chain rule with a range: the constant is that of the node.
+        (
+            "%term C=1 N=2\n%%\ns: c \"\" range(a,0,15)\ns: N(s) \"\" 1\ns: N(c) \"\" range(a,0,15)\nc: C \"\" 1\ns: C \"\" 5\nc: N(c) \"\" 1\n%%\nC[15]\nC[16]\nC\nN(C[3])\nN[3](C[16])\nN[16](C[3])\nN(N[3](C))\n",
+            7,
         ),
     ];
     for (text, covered) in rows {

@@ -1,330 +1,362 @@
 -- The closing of a row, a cell at a time.
-use Rattle.std.proofs.Common.{◌≡◌, ◌≢◌, ℕ, zero, suc, ◌+◌, ◌<◌, ◌≤◌, ◌⊎◌, inl, inr, ⊎_elim, Option, Some, None, List, [], ◌∷◌, length, refl, sym, ap, ◌∙◌, subst, arith, length-set, true, false, get_or, Bool}
-use Rattle.std.specs.Prelude.{slice_set, ℤ, cond, ◌==◌, if◌then◌else◌}
+use Rattle.std.proofs.Common.{◌≡◌, ◌≢◌, ℕ, zero, suc, ◌+◌, ◌<◌, ◌≤◌, ◌⊎◌, inl, inr, ⊎_elim, Option, Some, None, List, [], ◌∷◌, length, refl, sym, ap, ◌∙◌, subst, arith, get_or}
+use Rattle.std.specs.Prelude.{ℤ, slice_get, ◌==◌, if◌then◌else◌, Bool}
 use Rattle.std.proofs.lemmas.Bool.Decides.{eqb_tells}
-use Rattle.std.proofs.lemmas.List.{get_or-set_other}
-use Rattle.lburg_grammar.specs.Pattern.{MPattern, PHole, PLeaf, POne, PTwo, pattern_of}
-use Rattle.tree_labeller.specs.declared.places.Root.TheVariants.{Chain}
-use Rattle.tree_labeller.specs.Root.{root_weight, with_root}
+use Rattle.std.proofs.lemmas.List.{get_or-set_same, get_or-set_other}
+use Rattle.lburg_model.specs.Pattern.{MPattern, PHole, PLeaf, POne, PTwo, pattern_of}
+use Rattle.lburg_tables.specs.Root.{Chain}
+use Rattle.lburg_tables.specs.Places.{with_root}
+use Rattle.place_queue.specs.declared.key.Key.{Key}
+use Rattle.place_queue.specs.Takes.{Takes}
+use Rattle.tree_labeller.specs.declared.cell.Cell.{Cell}
+use Rattle.lburg_model.specs.declared.rule.Rule.{Rule}
+use Rattle.tree_labeller.specs.Rows.{key_of, waiting_of}
+use Rattle.tree_labeller.specs.Waits.{Matches}
 use Rattle.tree_labeller.specs.Tries.{cell_weight, chain_tries_of, chain_tries}
-use Rattle.tree_labeller.specs.declared.cells.Cell.{Cell}
-use Rattle.lburg_grammar.specs.declared.rule.Rule.{Rule}
-use Rattle.tree_labeller.specs.Row.{CellAt, Leq, LeastOpen, IsChain, made_from, Spread, done_weight, dones, Same, FromChain, Closed, AreCheap, IsCheap, Everywhere}
-use Rattle.tree_labeller.proofs.Rows.{same_or_not, within, Leq_cells, leq_trans, leq_refl, stored, kept, cell_after}
+use Rattle.tree_labeller.specs.Row.{CellAt, Leq, IsChain, made_from, Spread, Same, FromChain, Closed, AreCheap, IsCheap, Everywhere}
+use Rattle.tree_labeller.proofs.Rows.{same_or_not, within, key_at, key_is, cell_with, Leq_cells, leq_trans, leq_refl}
+use Rattle.tree_labeller.proofs.Weights.{root_weight, with_more}
 
-weight_le : (o : Option Cell) → done_weight o ≤ 1
-weight_le None = omega arith
-weight_le (Some c) = elim c.done as (λ b. cond b 1 0 ≤ 1) [ true ↦ omega arith | false ↦ omega arith ]
+-- the sum of the first n
+abbrev pub total : (ℕ → ℕ) → ℕ → ℕ
+total f zero = 0
+total f (suc n) = f n + total f n
 
-pub dones_le : (row : List (Option Cell)) → dones row ≤ length row
-dones_le [] = omega arith
-dones_le (x ∷ xs) = omega (arith, weight_le x, dones_le xs)
+-- a sum of ones and zeros
+total_le : (f : ℕ → ℕ) → ((k : ℕ) → f k ≤ 1) → (n : ℕ) → total f n ≤ n
+total_le f one zero = omega arith
+total_le f one (suc n) = let a = total_le f one n in let b = one n in omega arith
 
-weight_open : (c : Cell) → c.done ≡ false → done_weight (Some c) ≡ 0
-weight_open c h = ap (λ b. cond b 1 0) h
+-- one of which is a zero
+total_lt : (f : ℕ → ℕ) → ((k : ℕ) → f k ≤ 1) → (n m : ℕ) → m < n → f m ≡ 0 → total f n < n
+total_lt f one zero m h e = absurd (omega arith)
+total_lt f one (suc n) m h e =
+    ⊎_elim
+    (λ here. let a = total_le f one n in let b = ap f here in omega arith)
+    (λ not_here. let a = total_lt f one n m (omega arith) e in let b = one n in omega arith)
+    (same_or_not m n)
 
-weight_done : (c : Cell) → c.done ≡ true → done_weight (Some c) ≡ 1
-weight_done c h = ap (λ b. cond b 1 0) h
+total_same : (f g : ℕ → ℕ) (n : ℕ) → ((k : ℕ) → k < n → g k ≡ f k) → total g n ≡ total f n
+total_same f g zero h = refl
+total_same f g (suc n) h = let a = total_same f g n (λ k l. h k (omega arith)) in let b = h n (omega arith) in omega arith
 
-true_or_false : (b : Bool) → (b ≡ true) ⊎ (b ≡ false)
-true_or_false true = inl refl
-true_or_false false = inr refl
+-- one place has one more
+total_more : (f g : ℕ → ℕ) (n m : ℕ) → m < n → ((k : ℕ) → k ≢ m → g k ≡ f k) → g m ≡ f m + 1 → total g n ≡ total f n + 1
+total_more f g zero m h other here = absurd (omega arith)
+total_more f g (suc n) m h other here =
+    ⊎_elim
+    (λ e.
+    let a = total_same f g n (λ k l. other k (λ q. omega arith)) in
+    let F : ℕ → Type 0 = λ x. g x ≡ f x + 1 in
+    let b = subst F e here in
+    omega arith)
+    (λ ne. let a = total_more f g n m (omega arith) other here in let b = other n (λ q. ne (sym q)) in omega arith)
+    (same_or_not m n)
 
-dones_set : (row : List (Option Cell)) (m : ℕ) (c d : Cell) → CellAt row m c → c.done ≡ false → d.done ≡ true → dones (slice_set row m (Some d)) ≡ dones row + 1
-dones_set [] m c d at o e = cc
-dones_set (x ∷ xs) zero c d at o e =
-    let a = ap done_weight at in let b = weight_open c o in let f = weight_done d e in omega arith
-dones_set (x ∷ xs) (suc m) c d at o e = let a = dones_set xs m c d at o e in omega arith
+-- 1 for a cell that doesn't wait
+abbrev pub done_weight : Option Cell → Option Key → ℕ
+done_weight None key = 0
+done_weight (Some c) None = 1
+done_weight (Some c) (Some key) = 0
 
--- rows that are alike in what is done
-dones_alike : (a b : List (Option Cell)) → length a ≡ length b → ((k : ℕ) → done_weight (get_or a k None) ≡ done_weight (get_or b k None)) → dones a ≡ dones b
-dones_alike [] [] h w = refl
-dones_alike [] (y ∷ ys) h w = absurd (omega arith)
-dones_alike (x ∷ xs) [] h w = absurd (omega arith)
-dones_alike (x ∷ xs) (y ∷ ys) h w = let d = w 0 in let e = dones_alike xs ys (omega arith) (λ k. w (suc k)) in omega arith
+-- 1 where the place has a cell that doesn't wait
+abbrev pub done_at : List (Option Cell) → List (Option Key) → ℕ → ℕ
+done_at row waiting n = done_weight (get_or row n None) (get_or waiting n None)
+
+-- how many cells of a row don't wait
+abbrev pub dones : List (Option Cell) → List (Option Key) → ℕ
+dones row waiting = total (done_at row waiting) (length row)
+
+weight_le : (o : Option Cell) (k : Option Key) → done_weight o k ≤ 1
+weight_le None k = omega arith
+weight_le (Some c) None = omega arith
+weight_le (Some c) (Some k) = omega arith
+
+waits_weight : (o : Option Cell) (k : Option Key) (key : Key) → k ≡ Some key → done_weight o k ≡ 0
+waits_weight None k key e = refl
+waits_weight (Some c) None key e = cc
+waits_weight (Some c) (Some k) key e = refl
+
+-- a cell that waits isn't counted
+pub dones_lt : (row : List (Option Cell)) (waiting : List (Option Key)) (m : ℕ) (c : Cell) (key : Key) → CellAt row m c → get_or waiting m None ≡ Some key → dones row waiting < length row
+dones_lt row waiting m c key at w = total_lt (done_at row waiting) (λ k. weight_le (get_or row k None) (get_or waiting k None)) (length row) m (within row m c at) (waits_weight (get_or row m None) (get_or waiting m None) key w)
 
 -- 1 for the pattern of a chain rule that was tried, else 0
-abbrev pub chain_done : List (Option Cell) → MPattern → ℕ
-chain_done row (PHole n) = done_weight (get_or row n None)
-chain_done row (PLeaf op) = 0
-chain_done row (POne op p) = 0
-chain_done row (PTwo op p q) = 0
+abbrev pub chain_done : List (Option Cell) → List (Option Key) → MPattern → ℕ
+chain_done row waiting (PHole n) = done_at row waiting n
+chain_done row waiting (PLeaf op) = 0
+chain_done row waiting (POne op p) = 0
+chain_done row waiting (PTwo op p q) = 0
 
 -- how many chain rules were tried
-abbrev pub chains_done : List (Option Cell) → List Rule → ℕ
-chains_done row [] = 0
-chains_done row (r ∷ rs) = chain_done row (pattern_of r.pattern) + chains_done row rs
+abbrev pub chains_done : List (Option Cell) → List (Option Key) → List Rule → ℕ
+chains_done row waiting [] = 0
+chains_done row waiting (r ∷ rs) = chain_done row waiting (pattern_of r.pattern) + chains_done row waiting rs
 
 -- none at the start
-pub none_done : (row : List (Option Cell)) → ((n : ℕ) (b : Cell) → CellAt row n b → b.done ≡ false) → (rs : List Rule) → chains_done row rs ≡ 0
-none_done row fresh [] = refl
-none_done row fresh (r ∷ rs) = let a = of (pattern_of r.pattern) in let b = none_done row fresh rs in omega arith
+pub none_done : (row : List (Option Cell)) (waiting : List (Option Key)) → waiting ≡ waiting_of row → (rs : List Rule) → chains_done row waiting rs ≡ 0
+none_done row waiting all [] = refl
+none_done row waiting all (r ∷ rs) = let a = of (pattern_of r.pattern) in let b = none_done row waiting all rs in omega arith
   where
-    by_cell : (n : ℕ) (o : Option Cell) → get_or row n None ≡ o → done_weight o ≡ 0
-    by_cell n None e = refl
-    by_cell n (Some c) e = weight_open c (fresh n c e)
+    by_cell : (o : Option Cell) → done_weight o (key_of o) ≡ 0
+    by_cell None = refl
+    by_cell (Some c) = refl
 
-    of : (p : MPattern) → chain_done row p ≡ 0
-    of (PHole n) = by_cell n (get_or row n None) refl
+    of : (p : MPattern) → chain_done row waiting p ≡ 0
+    of (PHole n) =
+        ap (λ (k : Option Key). done_weight (get_or row n None) k) (ap (λ (l : List (Option Key)). get_or l n None) all ∙ key_at row n)
+        ∙ by_cell (get_or row n None)
     of (PLeaf op) = refl
     of (POne op p) = refl
     of (PTwo op p q) = refl
 
 -- in the end those from each cell
-pub all_done : (row : List (Option Cell)) → LeastOpen row None → (rs : List Rule) → chains_done row rs ≡ chain_tries row rs
-all_done row done [] = refl
-all_done row done (r ∷ rs) = let a = of (pattern_of r.pattern) in let b = all_done row done rs in omega arith
+pub all_done : (row : List (Option Cell)) (waiting : List (Option Key)) → ((n : ℕ) → get_or waiting n None ≡ None) → (rs : List Rule) → chains_done row waiting rs ≡ chain_tries row rs
+all_done row waiting idle [] = refl
+all_done row waiting idle (r ∷ rs) = let a = of (pattern_of r.pattern) in let b = all_done row waiting idle rs in omega arith
   where
-    by_cell : (n : ℕ) (o : Option Cell) → get_or row n None ≡ o → done_weight o ≡ cell_weight o
-    by_cell n None e = refl
-    by_cell n (Some c) e = weight_done c (done n c e)
+    by_cell : (o : Option Cell) → done_weight o None ≡ cell_weight o
+    by_cell None = refl
+    by_cell (Some c) = refl
 
-    of : (p : MPattern) → chain_done row p ≡ chain_tries_of row p
-    of (PHole n) = by_cell n (get_or row n None) refl
+    of : (p : MPattern) → chain_done row waiting p ≡ chain_tries_of row p
+    of (PHole n) = ap (λ (k : Option Key). done_weight (get_or row n None) k) (idle n) ∙ by_cell (get_or row n None)
     of (PLeaf op) = refl
     of (POne op p) = refl
     of (PTwo op p q) = refl
 
-abbrev pub finish : Cell → Cell
-finish c = record { cost = c.cost; count = c.count; rule = c.rule; done = true }
-
--- the row while it is closed: chain rules were tried on the cells that are done, and none that is not is less than one that is
-pub record Closing (rules : List Rule) (constant : Option ℤ) (old row : List (Option Cell)) : Type 0 where
+-- the row while it is closed: chain rules were tried on the cells that don't wait, and none that waits is less than one of these
+pub record Closing (rules : List Rule) (constant : Option ℤ) (old row : List (Option Cell)) (waiting : List (Option Key)) : Type 0 where
   pub same_length : length row ≡ length old
+  pub matches : Matches row waiting
   pub lower : (n : ℕ) (b : Cell) → CellAt old n b → (c : Cell) × CellAt row n c × Leq_cells c b
-  pub made : (n : ℕ) (c : Cell) → CellAt row n c → ((b : Cell) × CellAt old n b × Same c b) ⊎ ((f : FromChain rules constant row n c) × (f.cell.done ≡ true))
-  pub closed : (j : ℕ) (r : Rule) (m : ℕ) (b : Cell) → IsChain rules constant j m r → CellAt row m b → b.done ≡ true → (c : Cell) × CellAt row r.left c × Leq_cells c (made_from b j r)
-  pub settled : (x : ℕ) (b : Cell) (n : ℕ) (c : Cell) → CellAt row x b → b.done ≡ true → CellAt row n c → c.done ≡ false → Leq b.cost b.count c.cost c.count
-  pub many : (base : ℕ) → ((n : ℕ) (b : Cell) → CellAt old n b → b.count ≤ base) → (n : ℕ) (c : Cell) → CellAt row n c → c.count ≤ base + dones row
+  pub made : (n : ℕ) (c : Cell) → CellAt row n c → ((b : Cell) × CellAt old n b × Same c b) ⊎ ((f : FromChain rules constant row n c) × (get_or waiting f.from None ≡ None))
+  pub closed : (j : ℕ) (r : Rule) (m : ℕ) (b : Cell) → IsChain rules constant j m r → CellAt row m b → get_or waiting m None ≡ None → (c : Cell) × CellAt row r.left c × Leq_cells c (made_from b j r)
+  pub settled : (x : ℕ) (b : Cell) (n : ℕ) (key : Key) → CellAt row x b → get_or waiting x None ≡ None → get_or waiting n None ≡ Some key → Leq b.cost b.count key.cost key.count
+  pub many : (base : ℕ) → ((n : ℕ) (b : Cell) → CellAt old n b → b.count ≤ base) → (n : ℕ) (c : Cell) → CellAt row n c → (c.count ≤ base + dones row waiting) × (c.count < base + length old)
   pub cheap : AreCheap rules → IsCheap old → IsCheap row
 
-pub start : (rules : List Rule) (constant : Option ℤ) (old : List (Option Cell)) → ((n : ℕ) (b : Cell) → CellAt old n b → b.done ≡ false) → Closing rules constant old old
-start rules constant old fresh = record {
+waits_all : (row : List (Option Cell)) (waiting : List (Option Key)) → waiting ≡ waiting_of row → (n : ℕ) (b : Cell) → CellAt row n b → get_or waiting n None ≡ key_of (Some b)
+waits_all row waiting all n b at = ap (λ (l : List (Option Key)). get_or l n None) all ∙ key_at row n ∙ ap key_of at
+
+pub start : (rules : List Rule) (constant : Option ℤ) (old : List (Option Cell)) (waiting : List (Option Key)) → waiting ≡ waiting_of old → Matches old waiting → Closing rules constant old old waiting
+start rules constant old waiting all fit = record {
   same_length = refl;
+  matches = fit;
   lower = λ n b at. (b, at, leq_refl b);
   made = λ n c at. inl (c, at, (refl, refl, refl));
-  closed = λ j r m b ch at d. let e = fresh m b at in cc;
-  settled = λ x b n c at d _ _. let e = fresh x b at in cc;
-  many = λ base h n c at. let a = h n c at in omega arith;
+  closed = λ j r m b ch at done. let e = waits_all old waiting all m b at in cc;
+  settled = λ x b n key at done w. let e = waits_all old waiting all x b at in cc;
+  many = λ base h n c at. let a = h n c at in let b = within old n c at in (omega arith, omega arith);
   cheap = λ _ h. h;
 }
 
-pub over : (rules : List Rule) (constant : Option ℤ) (old row : List (Option Cell)) → Closing rules constant old row → LeastOpen row None → Closed rules constant old row
-over rules constant old row s all = record {
+pub over : (rules : List Rule) (constant : Option ℤ) (old row : List (Option Cell)) (waiting : List (Option Key)) → Closing rules constant old row waiting → ((n : ℕ) → get_or waiting n None ≡ None) → Closed rules constant old row
+over rules constant old row waiting s idle = record {
   same_length = s.same_length;
   lower = s.lower;
   made = λ n c at. ⊎_elim (λ l. inl l) (λ r. inr r.0) (s.made n c at);
-  closed = λ j r m b ch at. s.closed j r m b ch at (all m b at);
-  many = λ base h n c at. let a = s.many base h n c at in let d = dones_le row in let l = s.same_length in omega arith;
+  closed = λ j r m b ch at. s.closed j r m b ch at (idle m);
+  many = λ base h n c at. (s.many base h n c at).1;
   cheap = s.cheap;
 }
 
-module _ (rules : List Rule) (constant : Option ℤ) (old row : List (Option Cell)) (s : Closing rules constant old row) (m : ℕ) (c : Cell) (least : LeastOpen row (Some (m, c))) (row2 : List (Option Cell)) (sp : Spread rules constant m (finish c) (slice_set row m (Some (finish c))) row2 Everywhere) where
-  abbrev row1 : List (Option Cell)
-  row1 = slice_set row m (Some (finish c))
+-- a cell stands at the place of an old one or of a rule's left side
+pub named : (rules : List Rule) (constant : Option ℤ) (old row : List (Option Cell)) (waiting : List (Option Key)) (bound : ℕ) → Closing rules constant old row waiting → ((n : ℕ) (b : Cell) → CellAt old n b → n < bound) → ((i : ℕ) (r : Rule) → slice_get rules i ≡ Some r → r.left < bound) → (n : ℕ) (c : Cell) → CellAt row n c → n < bound
+named rules constant old row waiting bound s olds lefts n c at =
+    ⊎_elim
+    (λ (b, atb, same). olds n b atb)
+    (λ (f, done). let a = lefts f.place f.rule f.chain.0.0 in let b = f.left in omega arith)
+    (s.made n c at)
 
-  in_row : m < length row
-  in_row = within row m c least.0
+module _ (rules : List Rule) (constant : Option ℤ) (old row : List (Option Cell)) (waiting : List (Option Key)) (s : Closing rules constant old row waiting) (m : ℕ) (key : Key) (c : Cell) (here : CellAt row m c) (waiting1 : List (Option Key)) (taken : Takes waiting (Some (m, key)) waiting1) (row2 : List (Option Cell)) (waiting2 : List (Option Key)) (sp : Spread rules constant m c row waiting1 row2 waiting2 Everywhere) (fit : Matches row2 waiting2) where
+  is_key : (c.cost ≡ key.cost) × (c.count ≡ key.count)
+  is_key = key_is c key (sym (ap key_of here) ∙ s.matches.cells m key taken.0)
+
+  gone : get_or waiting1 m None ≡ None
+  gone = ap (λ (l : List (Option Key)). get_or l m None) taken.2 ∙ get_or-set_same waiting m None None (within waiting m key taken.0)
+
+  others : (x : ℕ) → x ≢ m → get_or waiting1 x None ≡ get_or waiting x None
+  others x ne = ap (λ (l : List (Option Key)). get_or l x None) taken.2 ∙ get_or-set_other waiting m x None None ne
+
+  is_here : (x : ℕ) (b : Cell) → x ≡ m → CellAt row x b → b ≡ c
+  is_here x b e at = let F : ℕ → Type 0 = λ z. CellAt row z b in let f : Some b ≡ Some c = sym (subst F e at) ∙ here in cc
 
   -- what is done before the spreading is at most the cell that is spread
-  done1 : (x : ℕ) (b : Cell) → CellAt row1 x b → b.done ≡ true → Leq b.cost b.count c.cost c.count
-  done1 x b at d =
+  done1 : (x : ℕ) (b : Cell) → CellAt row x b → get_or waiting1 x None ≡ None → Leq b.cost b.count c.cost c.count
+  done1 x b at done =
+      let k = is_key in
+      let k0 = k.0 in
+      let k1 = k.1 in
       ⊎_elim
-      (λ e. let F : Cell → Type 0 = λ z. Leq z.cost z.count c.cost c.count in subst F (sym e.1) (omega arith, λ k. omega arith))
-      (λ e. s.settled x b m c e.1 d least.0 least.1)
-      (cell_after row m x (finish c) b in_row at)
+      (λ e. let f = is_here x b e at in let g = ap (λ (z : Cell). z.cost) f in let h = ap (λ (z : Cell). z.count) f in (omega arith, λ q. omega arith))
+      (λ ne. let f = s.settled x b m key at (sym (others x ne) ∙ done) taken.0 in (omega arith, λ q. omega arith))
+      (same_or_not x m)
 
-  survives : (x : ℕ) (b : Cell) → CellAt row1 x b → b.done ≡ true → CellAt row2 x b
-  survives x b at d =
+  survives : (x : ℕ) (b : Cell) → CellAt row x b → get_or waiting1 x None ≡ None → CellAt row2 x b × (get_or waiting2 x None ≡ None)
+  survives x b at done =
       let l = sp.lower x b at in
       ⊎_elim
-      (λ same. let e : Some l.0 ≡ Some b = sym same ∙ at in l.1 ∙ e)
-      (λ (j, r, ch, left, is, beats).
-      let q = done1 x b at d in
+      (λ same. let e : Some l.0 ≡ Some b = sym same.0 ∙ at in (l.1 ∙ e, same.1 ∙ done))
+      (λ (j, r, ch, left, is, beats, waits).
+      let q = done1 x b at done in
       let F : Cell → Type 0 = λ z. Leq_cells b z in
-      let k : Leq_cells b (made_from (finish c) j r) = (omega arith, λ e. omega arith, λ e f. omega arith) in
+      let k : Leq_cells b (made_from c j r) = (omega arith, λ e. omega arith, λ e f. omega arith) in
       absurd (beats b at (subst F (sym is) k)))
       (sp.made x l.0 l.1)
 
-  was_done : (x : ℕ) (b : Cell) → CellAt row2 x b → b.done ≡ true → CellAt row1 x b
-  was_done x b at d =
+  was_done : (x : ℕ) (b : Cell) → CellAt row2 x b → get_or waiting2 x None ≡ None → CellAt row x b × (get_or waiting1 x None ≡ None)
+  was_done x b at done =
       ⊎_elim
-      (λ same. same)
-      (λ (j, r, ch, left, is, beats). let e : b.done ≡ false = ap (λ (z : Cell). z.done) is in cc)
+      (λ same. (same.0, sym same.1 ∙ done))
+      (λ (j, r, ch, left, is, beats, waits). let e : Some (record { cost = b.cost; count = b.count }) ≡ None = sym waits ∙ done in cc)
       (sp.made x b at)
 
-  lower1 : (n : ℕ) (b : Cell) → CellAt row n b → (x : Cell) × CellAt row1 n x × Leq_cells x b
-  lower1 n b at =
-      ⊎_elim
-      (λ e.
-      let F : ℕ → Type 0 = λ z. CellAt row z b in
-      let f = subst F e at in
-      let g = least.0 in
-      let h : c ≡ b = cc in
-      let G : ℕ → Type 0 = λ z. CellAt row1 z (finish c) in
-      let H : Cell → Type 0 = λ z. Leq_cells (finish c) z in
-      (finish c, subst G (sym e) (stored row m (finish c) in_row), subst H h (omega arith, λ k. omega arith, λ k f. omega arith)))
-      (λ e. (b, kept row m n (finish c) b e at, leq_refl b))
-      (same_or_not n m)
+  lower2 : (n : ℕ) (b : Cell) → CellAt old n b → (x : Cell) × CellAt row2 n x × Leq_cells x b
+  lower2 n b at = let a = s.lower n b at in let z = sp.lower n a.0 a.1 in (z.0, z.1, leq_trans z.0 a.0 b z.2 a.2)
 
-  lower2 : (n : ℕ) (b : Cell) → CellAt row n b → (x : Cell) × CellAt row2 n x × Leq_cells x b
-  lower2 n b at = let a = lower1 n b at in let z = sp.lower n a.0 a.1 in (z.0, z.1, leq_trans z.0 a.0 b z.2 a.2)
+  here2 : CellAt row2 m c × (get_or waiting2 m None ≡ None)
+  here2 = survives m c here gone
 
-  here2 : CellAt row2 m (finish c)
-  here2 = survives m (finish c) (stored row m (finish c) in_row) refl
+  not_taken : (x : ℕ) → get_or waiting x None ≡ None → x ≢ m
+  not_taken x done e = let F : ℕ → Type 0 = λ z. get_or waiting z None ≡ None in let f = subst F e done in let g = taken.0 in cc
 
-  still : (x : ℕ) (b : Cell) → CellAt row x b → b.done ≡ true → CellAt row2 x b
-  still x b at d =
-      let not_m : x ≢ m = λ e. (let F : ℕ → Type 0 = λ z. CellAt row z b in let f = subst F e at in let g = least.0 in let h : c ≡ b = cc in let k = least.1 in let l = ap (λ (z : Cell). z.done) h in cc) in
-      survives x b (kept row m x (finish c) b not_m at) d
+  still : (x : ℕ) (b : Cell) → CellAt row x b → get_or waiting x None ≡ None → CellAt row2 x b × (get_or waiting2 x None ≡ None)
+  still x b at done = survives x b at (others x (not_taken x done) ∙ done)
 
-  Origin : ℕ → Cell → Type 0
-  Origin n x = ((b : Cell) × CellAt old n b × Same x b) ⊎ ((f : FromChain rules constant row2 n x) × (f.cell.done ≡ true))
-
-  moved : (n : ℕ) (a : Cell) → CellAt row n a → Origin n a
-  unfolding Origin
-  moved n a at =
-      ⊎_elim
-      (λ l. inl l)
-      (λ (f, d). inr (record { place = f.place; rule = f.rule; from = f.from; cell = f.cell; chain = f.chain; left = f.left; at = still f.from f.cell f.at d; same = f.same }, d))
-      (s.made n a at)
-
-  -- the same numbers, so the same origin
-  renamed : (n k : ℕ) (a b : Cell) → n ≡ k → Same b a → Origin n a → Origin k b
-  unfolding Origin
-  renamed n k a b e same (inl (z, at, q)) =
-      let F : ℕ → Type 0 = λ x. CellAt old x z in
-      inl (z, subst F e at, (same.0 ∙ q.0, same.1 ∙ q.1, same.2 ∙ q.2))
-  renamed n k a b e same (inr (f, d)) =
-      inr (record { place = f.place; rule = f.rule; from = f.from; cell = f.cell; chain = f.chain; left = f.left ∙ e; at = f.at; same = (same.0 ∙ f.same.0, same.1 ∙ f.same.1, same.2 ∙ f.same.2) }, d)
-
-  made2 : (n : ℕ) (x : Cell) → CellAt row2 n x → Origin n x
-  unfolding Origin
+  made2 : (n : ℕ) (x : Cell) → CellAt row2 n x → ((b : Cell) × CellAt old n b × Same x b) ⊎ ((f : FromChain rules constant row2 n x) × (get_or waiting2 f.from None ≡ None))
   made2 n x at =
       ⊎_elim
-      (λ one.
+      (λ same.
       ⊎_elim
-      (λ e.
-      let same : Same x c = (ap (λ (z : Cell). z.cost) e.1, ap (λ (z : Cell). z.count) e.1, ap (λ (z : Cell). z.rule) e.1) in
-      renamed m n c x (sym e.0) same (moved m c least.0))
-      (λ e. moved n x e.1)
-      (cell_after row m n (finish c) x in_row one))
-      (λ (j, r, ch, left, is, beats). inr (record { place = j; rule = r; from = m; cell = finish c; chain = ch; left = left; at = here2; same = (ap (λ (z : Cell). z.cost) is, ap (λ (z : Cell). z.count) is, ap (λ (z : Cell). z.rule) is) }, refl))
+      (λ l. inl l)
+      (λ (f, done).
+      let a = still f.from f.cell f.at done in
+      inr (record { place = f.place; rule = f.rule; from = f.from; cell = f.cell; chain = f.chain; left = f.left; at = a.0; same = f.same }, a.1))
+      (s.made n x same.0))
+      (λ (j, r, ch, left, is, beats, waits). inr (record { place = j; rule = r; from = m; cell = c; chain = ch; left = left; at = here2.0; same = (ap (λ (z : Cell). z.cost) is, ap (λ (z : Cell). z.count) is, ap (λ (z : Cell). z.rule) is) }, here2.1))
       (sp.made n x at)
 
-  closed2 : (j : ℕ) (r : Rule) (x : ℕ) (b : Cell) → IsChain rules constant j x r → CellAt row2 x b → b.done ≡ true → (z : Cell) × CellAt row2 r.left z × Leq_cells z (made_from b j r)
-  closed2 j r x b ch at d =
+  closed2 : (j : ℕ) (r : Rule) (x : ℕ) (b : Cell) → IsChain rules constant j x r → CellAt row2 x b → get_or waiting2 x None ≡ None → (z : Cell) × CellAt row2 r.left z × Leq_cells z (made_from b j r)
+  closed2 j r x b ch at done =
+      let was = was_done x b at done in
       ⊎_elim
       (λ e.
       let F : ℕ → Type 0 = λ z. IsChain rules constant j z r in
-      let a = sp.closed j r tt (subst F e.0 ch) in
+      let a = sp.closed j r tt (subst F e ch) in
       let G : Cell → Type 0 = λ z. Leq_cells a.0 (made_from z j r) in
-      (a.0, a.1, subst G (sym e.1) a.2))
-      (λ e.
-      let a = s.closed j r x b ch e.1 d in
-      let z = lower2 r.left a.0 a.1 in
+      (a.0, a.1, subst G (sym (is_here x b e was.0)) a.2))
+      (λ ne.
+      let a = s.closed j r x b ch was.0 (sym (others x ne) ∙ was.1) in
+      let z = sp.lower r.left a.0 a.1 in
       (z.0, z.1, leq_trans z.0 a.0 (made_from b j r) z.2 a.2))
-      (cell_after row m x (finish c) b in_row (was_done x b at d))
+      (same_or_not x m)
 
-  settled2 : (x : ℕ) (b : Cell) (n : ℕ) (z : Cell) → CellAt row2 x b → b.done ≡ true → CellAt row2 n z → z.done ≡ false → Leq b.cost b.count z.cost z.count
-  settled2 x b n z at d atz o =
-      let q = done1 x b (was_done x b at d) d in
-      ⊎_elim
-      (λ one.
-      ⊎_elim
-      (λ e. let f : z.done ≡ true = ap (λ (y : Cell). y.done) e.1 in cc)
-      (λ e. let f = least.2 n z e.1 o in (omega arith, λ k. omega arith))
-      (cell_after row m n (finish c) z in_row one))
-      (λ (j, r, ch, left, is, beats).
-      let F : Cell → Type 0 = λ y. Leq b.cost b.count y.cost y.count in
-      subst F (sym is) (omega arith, λ k. omega arith))
-      (sp.made n z atz)
-
-  alike : (k : ℕ) → done_weight (get_or row2 k None) ≡ done_weight (get_or row1 k None)
-  alike k = by_cases k (get_or row2 k None) (get_or row1 k None) refl refl
-    where
-      by_cases : (k : ℕ) (a b : Option Cell) → get_or row2 k None ≡ a → get_or row1 k None ≡ b → done_weight a ≡ done_weight b
-      by_cases k None None e f = refl
-      by_cases k None (Some y) e f = let a = sp.lower k y f in cc
-      by_cases k (Some x) b e f =
-          ⊎_elim
-          (λ one. let g : Some x ≡ b = sym one ∙ f in ap done_weight g)
-          (λ (j, r, ch, left, is, beats).
-          let o : x.done ≡ false = ap (λ (y : Cell). y.done) is in
-          weight_open x o ∙ sym (other b f o))
-          (sp.made k x e)
-        where
-          other : (b : Option Cell) → get_or row1 k None ≡ b → x.done ≡ false → done_weight b ≡ 0
-          other None f o = refl
-          other (Some y) f o =
-              ⊎_elim
-              (λ d. let g = survives k y f d in let h : y ≡ x = cc in let i = ap (λ (z : Cell). z.done) h in cc)
-              (λ d. weight_open y d)
-              (true_or_false y.done)
-
-  dones2 : dones row2 ≡ dones row + 1
-  dones2 = dones_alike row2 row1 sp.same_length alike ∙ dones_set row m c (finish c) least.0 least.1 refl
-
-  -- one cell more is done
-  weight2 : (n : ℕ) → done_weight (get_or row2 n None) ≡ done_weight (get_or row n None) + (if n == m then 1 else 0)
-  weight2 n =
-      let like = alike n in
+  settled2 : (x : ℕ) (b : Cell) (n : ℕ) (k : Key) → CellAt row2 x b → get_or waiting2 x None ≡ None → get_or waiting2 n None ≡ Some k → Leq b.cost b.count k.cost k.count
+  settled2 x b n k at done w =
+      let was = was_done x b at done in
+      let q = done1 x b was.0 was.1 in
+      let z = cell_with (get_or row2 n None) k (fit.cells n k w) in
+      let z2 = z.2 in
+      let z3 = z.3 in
+      let k0 = is_key.0 in
+      let k1 = is_key.1 in
       ⊎_elim
       (λ same.
-      let F : ℕ → Type 0 = λ z. done_weight (get_or row1 z None) ≡ done_weight (get_or row z None) + 1 in
-      let new = ap done_weight (stored row m (finish c) in_row) in
-      let old = ap done_weight least.0 ∙ weight_open c least.1 in
-      let here : F m = omega arith in
-      let there = subst F (sym same.1) here in
+      let w1 = sym same.1 ∙ w in
+      let ne : n ≢ m = λ e. (let F : ℕ → Type 0 = λ y. get_or waiting1 y None ≡ Some k in let f = subst F e w1 in let g = gone in cc) in
+      let f = taken.1 n k (sym (others n ne) ∙ w1) in
+      (omega arith, λ e. omega arith))
+      (λ (j, r, ch, left, is, beats, waits). let f = ap (λ (y : Cell). y.cost) is in let g = ap (λ (y : Cell). y.count) is in (omega arith, λ e. omega arith))
+      (sp.made n z.0 z.1)
+
+  alike : (k : ℕ) → k ≢ m → done_at row2 waiting2 k ≡ done_at row waiting k
+  alike k ne = by_cases (get_or row2 k None) (get_or row k None) refl refl
+    where
+      fresh : (b : Option Cell) (w : Option Key) → get_or row k None ≡ b → get_or waiting k None ≡ w → (x : Cell) → get_or waiting2 k None ≡ key_of (Some x) → done_weight b w ≡ 0
+      fresh None w f g x waits = refl
+      fresh (Some y) (Some w) f g x waits = refl
+      fresh (Some y) None f g x waits = let a = still k y f g in let b = a.1 in cc
+
+      by_cases : (a b : Option Cell) → get_or row2 k None ≡ a → get_or row k None ≡ b → done_at row2 waiting2 k ≡ done_at row waiting k
+      by_cases None None e f = ap (λ (o : Option Cell). done_weight o (get_or waiting2 k None)) e ∙ sym (ap (λ (o : Option Cell). done_weight o (get_or waiting k None)) f)
+      by_cases None (Some y) e f = let a = sp.lower k y f in let b = a.1 in cc
+      by_cases (Some x) b e f =
+          ⊎_elim
+          (λ same.
+          let one = ap (λ (o : Option Cell). done_weight o (get_or waiting2 k None)) (e ∙ sym same.0) in
+          let two = ap (λ (w : Option Key). done_weight (get_or row k None) w) (same.1 ∙ others k ne) in
+          one ∙ two)
+          (λ (j, r, ch, left, is, beats, waits).
+          waits_weight (get_or row2 k None) (get_or waiting2 k None) (record { cost = x.cost; count = x.count }) waits
+          ∙ sym (fresh (get_or row k None) (get_or waiting k None) refl refl x waits))
+          (sp.made k x e)
+
+  -- one cell more is done
+  at_m : done_at row2 waiting2 m ≡ done_at row waiting m + 1
+  at_m =
+      let new = ap (λ (o : Option Cell). done_weight o (get_or waiting2 m None)) here2.0 ∙ ap (λ (w : Option Key). done_weight (Some c) w) here2.1 in
+      let before = waits_weight (get_or row m None) (get_or waiting m None) key taken.0 in
+      omega arith
+
+  dones2 : dones row2 waiting2 ≡ dones row waiting + 1
+  dones2 =
+      let f = done_at row waiting in
+      let g = done_at row2 waiting2 in
+      ap (total g) sp.same_length ∙ total_more f g (length row) m (within row m c here) alike at_m
+
+  weight2 : (n : ℕ) → done_at row2 waiting2 n ≡ done_at row waiting n + (if n == m then 1 else 0)
+  weight2 n =
+      ⊎_elim
+      (λ same.
+      let F : ℕ → Type 0 = λ z. done_at row2 waiting2 z ≡ done_at row waiting z + 1 in
+      let there = subst F (sym same.1) at_m in
       let test : ◌≡◌ {A = ℕ} (if n == m then 1 else 0) 1 = ap (λ (b : Bool). if b then 1 else 0) same.0 in
       omega arith)
       (λ other.
-      let left = ap done_weight (get_or-set_other row m n (Some (finish c)) None other.1) in
+      let left = alike n other.1 in
       let test : ◌≡◌ {A = ℕ} (if n == m then 1 else 0) 0 = ap (λ (b : Bool). if b then 1 else 0) other.0 in
       omega arith)
       (eqb_tells n m)
 
-  done_of : (p : MPattern) → chain_done row2 p ≡ chain_done row p + root_weight (Chain m) p
+  done_of : (p : MPattern) → chain_done row2 waiting2 p ≡ chain_done row waiting p + root_weight (Chain m) p
   done_of (PHole n) = weight2 n
   done_of (PLeaf op) = refl
   done_of (POne op p) = refl
   done_of (PTwo op p q) = refl
 
   -- the chain rules from the cell were tried besides
-  pub more_done : (rs : List Rule) → chains_done row2 rs ≡ chains_done row rs + with_root (Chain m) rs
+  pub more_done : (rs : List Rule) → chains_done row2 waiting2 rs ≡ chains_done row waiting rs + with_root (Chain m) rs
   more_done [] = refl
-  more_done (r ∷ rs) = let a = done_of (pattern_of r.pattern) in let b = more_done rs in omega arith
+  more_done (r ∷ rs) = let a = done_of (pattern_of r.pattern) in let b = more_done rs in let e = with_more (Chain m) r rs in omega arith
 
-  many2 : (base : ℕ) → ((n : ℕ) (b : Cell) → CellAt old n b → b.count ≤ base) → (n : ℕ) (z : Cell) → CellAt row2 n z → z.count ≤ base + dones row2
+  many2 : (base : ℕ) → ((n : ℕ) (b : Cell) → CellAt old n b → b.count ≤ base) → (n : ℕ) (z : Cell) → CellAt row2 n z → (z.count ≤ base + dones row2 waiting2) × (z.count < base + length old)
   many2 base h n z at =
-      let a = s.many base h m c least.0 in
+      let a = s.many base h m c here in
       let d = dones2 in
       ⊎_elim
-      (λ one.
-      ⊎_elim
-      (λ e. let f = ap (λ (y : Cell). y.count) e.1 in omega arith)
-      (λ e. let f = s.many base h n z e.1 in omega arith)
-      (cell_after row m n (finish c) z in_row one))
-      (λ (j, r, ch, left, is, beats). let f = ap (λ (y : Cell). y.count) is in omega arith)
+      (λ same. let f = s.many base h n z same.0 in (omega arith, omega arith))
+      (λ (j, r, ch, left, is, beats, waits).
+      let f = ap (λ (y : Cell). y.count) is in
+      let few = dones_lt row2 waiting2 n z (record { cost = z.cost; count = z.count }) at waits in
+      let one = sp.same_length in
+      let two = s.same_length in
+      (omega arith, omega arith))
       (sp.made n z at)
 
   cheap2 : AreCheap rules → IsCheap old → IsCheap row2
   cheap2 rc h n z at =
-      let a = s.cheap rc h m c least.0 in
+      let a = s.cheap rc h m c here in
       ⊎_elim
-      (λ one.
-      ⊎_elim
-      (λ e. let f = ap (λ (y : Cell). y.count) e.1 in let g = ap (λ (y : Cell). y.cost) e.1 in omega arith)
-      (λ e. s.cheap rc h n z e.1)
-      (cell_after row m n (finish c) z in_row one))
-      (λ (j, r, ch, left, is, beats). let f = ap (λ (y : Cell). y.count) is in let g = ap (λ (y : Cell). y.cost) is in let k = rc j r ch.0.0 in omega arith)
+      (λ same. s.cheap rc h n z same.0)
+      (λ (j, r, ch, left, is, beats, waits). let f = ap (λ (y : Cell). y.count) is in let g = ap (λ (y : Cell). y.cost) is in let k = rc j r ch.0.0 in omega arith)
       (sp.made n z at)
 
-  pub step : Closing rules constant old row2
-  unfolding Origin
+  pub step : Closing rules constant old row2 waiting2
   step = record {
-    same_length = sp.same_length ∙ length-set row m (Some (finish c)) ∙ s.same_length;
-    lower = λ n b at. let a = s.lower n b at in let z = lower2 n a.0 a.1 in (z.0, z.1, leq_trans z.0 a.0 b z.2 a.2);
+    same_length = sp.same_length ∙ s.same_length;
+    matches = fit;
+    lower = lower2;
     made = made2;
     closed = closed2;
     settled = settled2;
@@ -332,5 +364,6 @@ module _ (rules : List Rule) (constant : Option ℤ) (old row : List (Option Cel
     cheap = cheap2;
   }
 
-  pub progress : (dones row2 ≡ dones row + 1) × (dones row2 ≤ length row2) × (length row2 ≡ length row)
-  progress = (dones2, dones_le row2, sp.same_length ∙ length-set row m (Some (finish c)))
+  -- one cell fewer is left
+  pub progress : (dones row2 waiting2 ≡ dones row waiting + 1) × (dones row waiting < length row) × (length row2 ≡ length row)
+  progress = (dones2, dones_lt row waiting m c key here taken.0, sp.same_length)

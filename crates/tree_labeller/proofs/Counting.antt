@@ -2,19 +2,20 @@
 use Rattle.std.proofs.Common.{◌≡◌, ℕ, ◌+◌, ◌*◌, ◌≤◌, ◌⊎◌, inl, inr, ⊎_elim, ◌∙◌, Option, Some, None, List, [], ◌∷◌, length, get_or, refl, ap, subst, arith}
 use Rattle.std.specs.Prelude.{slice_get, Bool, ◌==◌, if◌then◌else◌}
 use Rattle.std.proofs.lemmas.Bool.Decides.{eqb_tells}
-use Rattle.lburg_grammar.specs.declared.rule.Rule.{Rule}
-use Rattle.lburg_grammar.specs.Tree.{MTree, TLeaf, TOne, TTwo, nodes, op_of, kids_of}
-use Rattle.lburg_grammar.specs.Pattern.{MPattern, PHole, PLeaf, POne, PTwo, pattern_of}
-use Rattle.lburg_grammar.specs.Derivation.{MDerivation, Derives}
-use Rattle.tree_labeller.specs.declared.cells.Cell.{Cell}
-use Rattle.tree_labeller.specs.declared.cells.Row.{Row}
-use Rattle.tree_labeller.specs.declared.places.Root.TheVariants.{Operator}
+use Rattle.lburg_model.specs.declared.rule.Rule.{Rule}
+use Rattle.lburg_model.specs.Tree.{MTree, TLeaf, TOne, TTwo, nodes, op_of, kids_of}
+use Rattle.lburg_model.specs.Pattern.{MPattern, PHole, PLeaf, POne, PTwo, pattern_of}
+use Rattle.lburg_model.specs.Derivation.{MDerivation, Derives}
+use Rattle.tree_labeller.specs.declared.cell.Cell.{Cell}
+use Rattle.tree_labeller.specs.Rows.{Row}
+use Rattle.lburg_tables.specs.Root.{Operator}
+use Rattle.lburg_tables.specs.Places.{with_root}
 use Rattle.tree_labeller.specs.Row.{CellAt}
 use Rattle.tree_labeller.specs.Labelled.{cell, Labelled}
-use Rattle.tree_labeller.specs.Root.{root_weight, with_root}
+use Rattle.tree_labeller.proofs.Weights.{root_weight, with_more}
 use Rattle.tree_labeller.specs.Tries.{cell_weight, chain_tries_of, chain_tries, row_tries}
 use Rattle.tree_labeller.specs.Trials.{IsTried, RootTrials, NoRule, Tried, Untried, Trials, AtRoot, TrialsOfEach, NoTree, Tree}
-use Rattle.tree_labeller.proofs.Cover.{cell_is_best, no_cell}
+use Rattle.tree_labeller.specs.Cover.{cell_is_best, no_cell}
 
 module _ (rules : List Rule) (t : MTree) (row : List (Option Cell)) (some : (n : ℕ) (c : Cell) → CellAt row n c → (x : MDerivation) × Derives rules n t x) (none : (n : ℕ) → get_or row n None ≡ None → (x : MDerivation) → Derives rules n t x → ⊥) where
   -- how often a rule of this pattern is tried
@@ -48,6 +49,7 @@ module _ (rules : List Rule) (t : MTree) (row : List (Option Cell)) (some : (n :
       let F : ℕ → Type 0 = λ z. RootTrials rules t (r ∷ rs) z in
       let m = with_root (Operator (op_of t)) rs + chain_tries row rs in
       let all = with_root (Operator (op_of t)) (r ∷ rs) + chain_tries row (r ∷ rs) in
+      let more = with_more (Operator (op_of t)) r rs in
       ⊎_elim
       (λ yes. let w = yes.1 in let e : m + 1 ≡ all = omega arith in subst F e (Tried yes.0 (tried_in rs)))
       (λ no. let w = no.1 in let e : m ≡ all = omega arith in subst F e (Untried no.0 (tried_in rs)))

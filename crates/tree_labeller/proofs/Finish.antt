@@ -1,22 +1,23 @@
 -- The rows of a tree, from those of its subtrees and its own.
-use Rattle.std.proofs.Common.{◌≡◌, ◌≢◌, ℕ, zero, suc, ◌+◌, ◌-◌, ◌*◌, ◌<◌, ◌≤◌, Option, Some, None, List, [], ◌∷◌, length, refl, sym, ap, ◌∙◌, arith, subst, inl, ◌⊎◌, ⊎_elim, false, length-set}
-use Rattle.std.specs.Prelude.{slice_get, slice_set, ◌==◌, if◌then◌else◌, slice_index_or}
+use Rattle.std.proofs.Common.{◌≡◌, ◌≢◌, ℕ, zero, suc, ◌+◌, ◌-◌, ◌*◌, ◌<◌, ◌≤◌, Option, Some, None, List, [], ◌∷◌, length, refl, sym, ap, ◌∙◌, arith, subst, inl, ◌⊎◌, ⊎_elim, ◌^◌, length-set}
+use Rattle.std.specs.Prelude.{slice_get, slice_set, ◌==◌, if◌then◌else◌, slice_index_or, IfSome}
 use Rattle.std.proofs.lemmas.Option.{slice_get-get_or}
 use Rattle.std.proofs.lemmas.List.{get_or-set_same}
-use Rattle.tree_labeller.specs.declared.cells.Cell.{Cell}
-use Rattle.tree_labeller.specs.declared.cells.Key.{Key}
-use Rattle.tree_labeller.specs.declared.cells.Row.{Row}
-use Rattle.lburg_grammar.specs.declared.rule.Rule.{Rule}
-use Rattle.lburg_grammar.specs.declared.pattern.Pattern.{Pattern}
-use Rattle.lburg_grammar.specs.declared.pattern.Pattern.{Nonterminal, Leaf, Unary', Binary'}
+use Rattle.tree_labeller.specs.declared.cell.Cell.{Cell}
+use Rattle.place_queue.specs.declared.key.Key.{Key}
+use Rattle.tree_labeller.specs.Rows.{Row}
+use Rattle.lburg_model.specs.declared.rule.Rule.{Rule}
+use Rattle.lburg_model.specs.declared.pattern.Pattern.{Pattern}
+use Rattle.lburg_model.specs.declared.pattern.Pattern.{Nonterminal, Leaf, Unary', Binary'}
 use Rattle.tree_labeller.specs.Offers.{Offers}
 use Rattle.tree_labeller.specs.Row.{CellAt, Leq3, Relaxed, Taken, Left, Closed, AreCheap, IsCheap, Everywhere, Among}
-use Rattle.lburg_grammar.specs.Tree.{MTree, TLeaf, TOne, TTwo, nodes, kids_of, value_of}
-use Rattle.lburg_grammar.specs.Range.{IsMet}
-use Rattle.lburg_grammar.specs.Pattern.{MPattern, PHole, PLeaf, POne, PTwo, pattern_of}
-use Rattle.tree_labeller.specs.Labelled.{key_of, add, nothing_used, cells_of, end_of, cell, total, area, Sound, Labelled, KidsLabelled, base_total, IsRuleTotal, made_by, Started, Filled}
-use Rattle.tree_labeller.proofs.Totals.{cell_of, fitted, added, nodes_pos, sound_of}
-use Rattle.tree_labeller.proofs.Rows.{Leq_cells, leq_trans, leq_refl, stored, write_lowers, cell_after, among_more, among_all}
+use Rattle.lburg_model.specs.Tree.{MTree, TLeaf, TOne, TTwo, nodes, kids_of, value_of}
+use Rattle.lburg_model.specs.Range.{IsMet}
+use Rattle.lburg_model.specs.Pattern.{MPattern, PHole, PLeaf, POne, PTwo, pattern_of}
+use Rattle.tree_labeller.specs.Labelled.{add, nothing_used, cells_of, end_of, cell, total, area, Sound, Labelled, KidsLabelled, base_total, IsRuleTotal, made_by, Started, Filled}
+use Rattle.tree_labeller.specs.Rows.{key_of}
+use Rattle.tree_labeller.specs.Totals.{cell_of, fitted, added, nodes_pos, sound_of}
+use Rattle.tree_labeller.proofs.Rows.{Leq_cells, leq_trans, leq_refl, stored, write_lowers, cell_after, among_more, among_none, among_all}
 
 abbrev pub Agree : List Row → List Row → ℕ → ℕ → Type 0
 Agree rows rows' lo hi = (i : ℕ) → lo ≤ i → i < hi → slice_get rows' i ≡ slice_get rows i
@@ -97,7 +98,7 @@ module _ (rows rows' : List Row) where
 
 -- what is known of a total
 module _ (rows : List Row) (d : List Rule) (w : ℕ) where
-  total_bounded : (p : MPattern) (t : MTree) (at : ℕ) (k : Key) → Labelled rows d w at t → total rows p t at ≡ Some k → (k.count ≤ area (w + 1) t) × (k.cost ≤ 32768 * k.count)
+  total_bounded : (p : MPattern) (t : MTree) (at : ℕ) (k : Key) → Labelled rows d w at t → total rows p t at ≡ Some k → (k.count ≤ area w t) × (k.cost ≤ 32768 * k.count)
   total_bounded (PHole n) t at k l e =
       let s = sound_of rows d w at t l in
       let a = cell_of (cell rows at n) k e in
@@ -123,7 +124,7 @@ module _ (rows : List Row) (d : List Rule) (w : ℕ) where
       let g = total_bounded q b (at + 1 + nodes a) y l.1.1 ye in
       (omega arith, omega arith)
 
-  pub base_bounded : (p : MPattern) (t : MTree) (at : ℕ) (k : Key) → KidsLabelled rows d w at t → base_total rows p t at ≡ Some k → (k.count + (w + 1) ≤ area (w + 1) t) × (k.cost ≤ 32768 * k.count)
+  pub base_bounded : (p : MPattern) (t : MTree) (at : ℕ) (k : Key) → KidsLabelled rows d w at t → base_total rows p t at ≡ Some k → (k.count + w ≤ area w t) × (k.cost ≤ 32768 * k.count)
   base_bounded (PHole n) t at k l e = cc
   base_bounded (PLeaf op) (TLeaf op' v) at k l e =
       let a = fitted op op' (Some nothing_used) k e in
@@ -144,19 +145,24 @@ module _ (rows : List Row) (d : List Rule) (w : ℕ) where
       let g = total_bounded q b (at + 1 + nodes a) y l.1 ye in
       (omega arith, omega arith)
 
+-- the same of what was told
+pub base_told : (rows : List Row) (d : List Rule) (w : ℕ) (p : MPattern) (t : MTree) (at : ℕ) (o : Option Key) → KidsLabelled rows d w at t → o ≡ base_total rows p t at → IfSome o (λ k. (k.count + w ≤ area w t) × (k.cost ≤ 32768 * k.count))
+base_told rows d w p t at None l e = tt
+base_told rows d w p t at (Some k) l e = base_bounded rows d w p t at k l (sym e)
+
 base_is_total : (rows : List Row) (p : MPattern) (t : MTree) (at : ℕ) (k : Key) → base_total rows p t at ≡ Some k → total rows p t at ≡ Some k
 base_is_total rows (PHole n) t at k e = cc
 base_is_total rows (PLeaf op) t at k e = e
 base_is_total rows (POne op p) t at k e = e
 base_is_total rows (PTwo op p q) t at k e = e
 
-area_more : (w : ℕ) (t : MTree) → w ≤ area w t
+pub area_more : (w : ℕ) (t : MTree) → w ≤ area w t
 area_more w (TLeaf op v) = omega arith
 area_more w (TOne op v a) = omega arith
 area_more w (TTwo op v a b) = omega arith
 
 module _ (rows : List Row) (d : List Rule) (w at : ℕ) (t : MTree) (cells0 : List (Option Cell)) (kids : KidsLabelled rows d w at t) (started : Started rows d at t cells0 Everywhere) where
-  pub bound_short : (n : ℕ) (b : Cell) → CellAt cells0 n b → b.count ≤ area (w + 1) t - w
+  pub bound_short : (n : ℕ) (b : Cell) → CellAt cells0 n b → b.count ≤ area w t + 1 - w
   bound_short n b atb =
       let (j, r, k, is, left, tot, eq) = started.made n b atb in
       let f = base_bounded rows d w (pattern_of r.pattern) t at k kids tot in
@@ -172,8 +178,8 @@ module _ (rows : List Row) (d : List Rule) (w at : ℕ) (t : MTree) (cells0 : Li
       let m = cheap j r is.0 in
       omega arith
 
-  pub bound_fresh : (n : ℕ) (b : Cell) → CellAt cells0 n b → b.done ≡ false
-  bound_fresh n b atb = let (j, r, k, is, left, tot, eq) = started.made n b atb in ap (λ (z : Cell). z.done) eq
+  pub bound_named : ((i : ℕ) (r : Rule) → slice_get d i ≡ Some r → r.left < 2 ^ 16) → (n : ℕ) (b : Cell) → CellAt cells0 n b → n < 2 ^ 16
+  bound_named named n b atb = let (j, r, k, is, left, tot, eq) = started.made n b atb in let a = named j r is.0 in omega arith
 
 -- a write leaves the other rows
 pub other_row : (rows : List Row) (at : ℕ) (row : Row) (i : ℕ) → i ≢ at → slice_get (slice_set rows at row) i ≡ slice_get rows i
@@ -185,7 +191,7 @@ other_row (x ∷ xs) (suc at) row (suc i) ne = other_row xs at row i (λ e. ne (
 
 module _ (rows rows' : List Row) (d : List Rule) (w at : ℕ) (t : MTree) (cells0 cells : List (Option Cell)) (row : Row)
     (kids : KidsLabelled rows d w at t) (started : Started rows d at t cells0 Everywhere) (closed : Closed d (value_of t) cells0 cells)
-    (here : slice_get rows' at ≡ Some row) (is_cells : row.cells.items ≡ cells) (is_end : row.end ≡ at + nodes t)
+    (here : slice_get rows' at ≡ Some row) (is_cells : row.cells ≡ cells) (is_end : row.end ≡ at + nodes t)
     (others : (i : ℕ) → i ≢ at → slice_get rows' i ≡ slice_get rows i) (same : length rows' ≡ length rows)
     (cheap : AreCheap d) (wide : length cells0 ≡ w) where
   agree : Agree rows rows' (at + 1) (at + nodes t)
@@ -228,7 +234,7 @@ module _ (rows rows' : List Row) (d : List Rule) (w at : ℕ) (t : MTree) (cells
   least (Unary' op x a) i r k p is tot = from_base i r k is (ap (λ (q : Pattern). base_total rows' (pattern_of q) t at) p ∙ tot)
   least (Binary' op x a y b) i r k p is tot = from_base i r k is (ap (λ (q : Pattern). base_total rows' (pattern_of q) t at) p ∙ tot)
 
-  started_short : (n : ℕ) (b : Cell) → CellAt cells0 n b → b.count ≤ area (w + 1) t - w
+  started_short : (n : ℕ) (b : Cell) → CellAt cells0 n b → b.count ≤ area w t + 1 - w
   started_short = bound_short rows d w at t cells0 kids started
 
   started_cheap : IsCheap cells0
@@ -239,11 +245,18 @@ module _ (rows rows' : List Row) (d : List Rule) (w at : ℕ) (t : MTree) (cells
     fair = record { made = made; closed = λ i r k is tot. least r.pattern i r k refl is tot };
     end = ap end_of here ∙ is_end;
     within = omega arith;
-    short = λ n c e. let a = closed.many (area (w + 1) t - w) started_short n c (sym (own_cell n) ∙ e) in let b = area_more (w + 1) t in omega arith;
+    short = λ n c e. let a = closed.many (area w t + 1 - w) started_short n c (sym (own_cell n) ∙ e) in let b = area_more w t in omega arith;
     cheap = λ n c e. closed.cheap cheap started_cheap n c (sym (own_cell n) ∙ e);
   })
 
 module _ (rows : List Row) (d : List Rule) (places : List ℕ) (at : ℕ) (t : MTree) where
+  -- at the start nothing was tried
+  pub started_none : (cells : List (Option Cell)) → ((n : ℕ) (c : Cell) → CellAt cells n c → ⊥) → Started rows d at t cells (Among places 0)
+  started_none cells empty = record {
+    made = λ n c here. absurd (empty n c here);
+    closed = λ j r k among is tot. absurd (among_none places j among);
+  }
+
   -- all of them are all that there are
   pub started_all : (cells : List (Option Cell)) → ((j : ℕ) (r : Rule) (k : Key) → slice_get d j ≡ Some r → base_total rows (pattern_of r.pattern) t at ≡ Some k → (x : ℕ) × (slice_get places x ≡ Some j)) → Started rows d at t cells (Among places (length places)) → Started rows d at t cells Everywhere
   started_all cells all s = record {
@@ -284,12 +297,12 @@ module _ (rows : List Row) (d : List Rule) (places : List ℕ) (at : ℕ) (t : M
       subst G3 (sym f) (subst G2 (sym e) (subst G1 kk now)))
       (among_more places x i j here among)
 
-  pub started_take : (cells : List (Option Cell)) (x i : ℕ) (r : Rule) (k : Key) (cells' : List (Option Cell)) → Started rows d at t cells (Among places x) → slice_get places x ≡ Some i → Offers d (value_of t) i r → base_total rows (pattern_of r.pattern) t at ≡ Some k → r.left < length cells → Relaxed cells r.left (made_by k i r) cells' → Started rows d at t cells' (Among places (x + 1))
-  started_take cells x i r k cells' s here is tot h (Left b atb le) = record {
+  pub started_take : (cells : List (Option Cell)) (x i : ℕ) (r : Rule) (k : Key) (cells' : List (Option Cell)) (waiting waiting' : List (Option Key)) → Started rows d at t cells (Among places x) → slice_get places x ≡ Some i → Offers d (value_of t) i r → base_total rows (pattern_of r.pattern) t at ≡ Some k → r.left < length cells → Relaxed cells waiting r.left (made_by k i r) cells' waiting' → Started rows d at t cells' (Among places (x + 1))
+  started_take cells x i r k cells' waiting waiting' s here is tot h (Left b atb le) = record {
     made = s.made;
     closed = closed_on cells cells x i r k s here is tot (λ n b at. (b, at, leq_refl b)) (b, atb, le);
   }
-  started_take cells x i r k cells' s here is tot h (Taken beats) =
+  started_take cells x i r k cells' waiting waiting' s here is tot h (Taken beats) =
       let new = made_by k i r in
       record {
         made = λ n c atc.
@@ -298,13 +311,13 @@ module _ (rows : List Row) (d : List Rule) (places : List ℕ) (at : ℕ) (t : M
       }
 
 -- the cells of a row that was stored
-pub own_cells : (rows : List Row) (at : ℕ) (row : Row) (cells : List (Option Cell)) → at < length rows → row.cells.items ≡ cells → (n : ℕ) → cell (slice_set rows at row) at n ≡ slice_index_or cells n None
+pub own_cells : (rows : List Row) (at : ℕ) (row : Row) (cells : List (Option Cell)) → at < length rows → row.cells ≡ cells → (n : ℕ) → cell (slice_set rows at row) at n ≡ slice_index_or cells n None
 own_cells rows at row cells h is n =
     let here = slice_get-get_or (slice_set rows at row) at row (let e = length-set rows at row in omega arith) ∙ ap Some (get_or-set_same rows at row row h) in
     ap (λ (o : Option Row). slice_index_or (cells_of o) n None) here ∙ ap (λ (l : List (Option Cell)). slice_index_or l n None) is
 
 -- the tree's rows, after its own was stored
-pub stored_row : (rows : List Row) (d : List Rule) (w at : ℕ) (t : MTree) (cells : List (Option Cell)) (row : Row) → KidsLabelled rows d w at t → Filled rows d at t w cells → row.cells.items ≡ cells → row.end ≡ at + nodes t → AreCheap d → at < length rows → Labelled (slice_set rows at row) d w at t
+pub stored_row : (rows : List Row) (d : List Rule) (w at : ℕ) (t : MTree) (cells : List (Option Cell)) (row : Row) → KidsLabelled rows d w at t → Filled rows d at t w cells → row.cells ≡ cells → row.end ≡ at + nodes t → AreCheap d → at < length rows → Labelled (slice_set rows at row) d w at t
 stored_row rows d w at t cells row kids (cells0, started, closed, wide) is_cells is_end cheap h =
     finished rows (slice_set rows at row) d w at t cells0 cells row kids started closed
     (slice_get-get_or (slice_set rows at row) at row (let e = length-set rows at row in omega arith) ∙ ap Some (get_or-set_same rows at row row h))

@@ -1,10 +1,10 @@
 -- What room for a tree gives.
-use Rattle.std.proofs.Common.{◌≡◌, ℕ, ◌+◌, ◌*◌, ◌<◌, ◌≤◌, ◌^◌, length, arith}
-use Rattle.lburg_grammar.specs.Tree.{MTree, TLeaf, TOne, TTwo, nodes}
-use Rattle.lburg_grammar.specs.Description.{MDescription, IsDescription}
+use Rattle.std.proofs.Common.{◌≡◌, ℕ, ◌+◌, ◌-◌, ◌*◌, ◌<◌, ◌≤◌, ◌^◌, length, arith}
+use Rattle.lburg_model.specs.Tree.{MTree, TLeaf, TOne, TTwo, nodes}
+use Rattle.lburg_model.specs.Description.{MDescription, IsDescription}
 use Rattle.tree_labeller.specs.Labelled.{area}
 use Rattle.tree_labeller.specs.AreRules.{AreRules}
-use Rattle.tree_labeller.proofs.Totals.{nodes_pos}
+use Rattle.tree_labeller.specs.Totals.{nodes_pos}
 
 area_is : (w : ℕ) (t : MTree) → area w t ≡ w * nodes t
 area_is w (TLeaf op v) = omega arith
@@ -17,36 +17,25 @@ area_is w (TTwo op v a b) = let e = area_is w a in let f = area_is w b in grow w
     grow : (w x y n m : ℕ) → x ≡ w * n → y ≡ w * m → x + y + w ≡ w * (n + m + 1)
     grow w x y n m e f = grind arith
 
-more : (w a b : ℕ) → a ≤ b → a * w ≤ b * w
+more : (w a b : ℕ) → a ≤ b → w * a ≤ b * w
 more w a b h = grind arith
-
-at_least : (w n : ℕ) → 1 ≤ w → n ≤ n * w
-at_least w n h = grind arith
 
 at_least_width : (w n : ℕ) → 1 ≤ n → w ≤ n * w
 at_least_width w n h = grind arith
 
-product : (w k : ℕ) → (w + 1) * k ≡ k * w + k
-product w k = grind arith
-
 -- a tree that there is room for has no large sums
-pub small_area : (w n : ℕ) (t : MTree) → n * w < 2 ^ 32 → 1 ≤ w → nodes t ≤ n → area (w + 1) t ≤ 2 ^ 46
-small_area w n t h one l =
-    let k = nodes t in
-    let e = area_is (w + 1) t in
-    let p = product w k in
-    let a = more w k n l in
-    let b = at_least w n one in
-    omega arith
+pub small_area : (w n : ℕ) (t : MTree) → n * w < 2 ^ 32 - 1 → nodes t ≤ n → area w t < 2 ^ 32 - 1
+small_area w n t h l = let e = area_is w t in let a = more w (nodes t) n l in omega arith
 
 -- nor has a row many cells
-pub narrow_rows : (w n : ℕ) (t : MTree) → n * w < 2 ^ 32 → nodes t ≤ n → w ≤ 2 ^ 46
+pub narrow_rows : (w n : ℕ) (t : MTree) → n * w < 2 ^ 32 - 1 → nodes t ≤ n → w < 2 ^ 32 - 1
 narrow_rows w n t h l = let a = nodes_pos t in let b = at_least_width w n (omega arith) in omega arith
 
 -- a description's rules are what the labeller needs
-pub are_rules : (d : MDescription) (w : ℕ) → IsDescription d → length d.nonterminals ≤ w → w ≤ 2 ^ 46 → AreRules d.rules w
+pub are_rules : (d : MDescription) (w : ℕ) → IsDescription d → length d.nonterminals ≤ w → w < 2 ^ 32 - 1 → AreRules d.rules w
 are_rules d w is wide narrow = record {
   lefts = λ i r e. let l = (is.rules i r e).left in omega arith;
+  named = λ i r e. let l = (is.rules i r e).left in let m = is.nonterminals in omega arith;
   few = let l = is.rule_limit in omega arith;
   narrow = narrow;
   cheap = λ i r e. let l = (is.rules i r e).cost in omega arith;

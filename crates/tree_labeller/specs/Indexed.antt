@@ -1,11 +1,11 @@
 -- Derivations as families over the nonterminal and the tree, for proofs by recursion on both.
 use Rattle.std.specs.Prelude.{◌≡◌, ℕ, ◌+◌, ◌<◌, ◌⊎◌, Option, ℤ, List, [], ◌∷◌, ◌++◌}
-use Rattle.lburg_grammar.specs.Best.{Earlier}
-use Rattle.lburg_grammar.specs.Tree.{MTree, TLeaf, TOne, TTwo, value_of}
-use Rattle.lburg_grammar.specs.Pattern.{MPattern, PHole, PLeaf, POne, PTwo, pattern_of}
-use Rattle.lburg_grammar.specs.declared.rule.Rule.{Rule}
+use Rattle.lburg_model.specs.Best.{Earlier}
+use Rattle.lburg_model.specs.Tree.{MTree, TLeaf, TOne, TTwo, value_of}
+use Rattle.lburg_model.specs.Pattern.{MPattern, PHole, PLeaf, POne, PTwo, pattern_of}
+use Rattle.lburg_model.specs.declared.rule.Rule.{Rule}
 use Rattle.tree_labeller.specs.Offers.{Offers}
-use Rattle.lburg_grammar.specs.Derivation.{MDerivation, MParts, Apply, NoPart, Part}
+use Rattle.lburg_model.specs.Derivation.{MDerivation, MParts, Apply, NoPart, Part}
 
 mutual
   -- a derivation of the nonterminal n at the tree t: a rule that applies, and parts for its pattern
@@ -51,6 +51,17 @@ abbrev mutual
   numbers_in AtLeaf = []
   numbers_in (AtOne x) = numbers_in x
   numbers_in (AtTwo x y) = numbers_in x ++ numbers_in y
+
+-- each rule's number, with the tree that it is used at, the whole's before its parts'
+abbrev mutual
+  pub visits : {d : List Rule} {n : ℕ} {t : MTree} → Derivation d n t → List (ℕ × MTree)
+  visits {d} {n} {t} (Uses i r is left parts) = (i + 1, t) ∷ visits_in parts
+
+  pub visits_in : {d : List Rule} {p : MPattern} {t : MTree} → Parts d p t → List (ℕ × MTree)
+  visits_in (AtHole e) = visits e
+  visits_in AtLeaf = []
+  visits_in (AtOne x) = visits_in x
+  visits_in (AtTwo x y) = visits_in x ++ visits_in y
 
 -- the parts of the first, then those of the second
 abbrev pub join : MParts → MParts → MParts

@@ -1,9 +1,27 @@
--- What the rows of cells keep.
-use Rattle.std.specs.Prelude.{◌≡◌, ℕ, ◌*◌, ◌<◌, ◌^◌, List, length}
-use Rattle.tree_labeller.specs.declared.cells.Row.{Row}
-use Rattle.tree_labeller.specs.Labelled.{Widths}
+-- What the rows of cells keep, and what the filling of a row works on.
+use Rattle.std.specs.Prelude.{◌≡◌, ℕ, ◌*◌, ◌-◌, ◌<◌, ◌^◌, Option, None, List, length, slice_index_or}
+use Rattle.place_queue.specs.declared.key.Key.{Key}
+use Rattle.tree_labeller.specs.declared.cell.Cell.{Cell}
+use Rattle.tree_labeller.specs.MCells.{MCells, room}
 
-pub record IsCells (width : ℕ) (rows : List Row) (scratch : Row) : Type 0 where
-  pub widths : Widths width rows
-  pub wide : length scratch.cells.items ≡ width
-  pub small : length rows * width < 2 ^ 32
+-- so few cells that a count of rules fits 32 bits
+abbrev pub AreFew : ℕ → ℕ → Type 0
+AreFew nodes width = nodes * width < 2 ^ 32 - 1
+
+-- a row for each node
+pub record IsBoard (width : ℕ) (ends : List ℕ) (cells : List Cell) : Type 0 where
+  pub many : length cells ≡ length ends * width
+  pub small : AreFew (length ends) width
+
+-- no place waits
+abbrev pub IsIdle : ℕ → List (Option Key) → Type 0
+IsIdle width waiting = (length waiting ≡ width) × ((n : ℕ) → slice_index_or waiting n None ≡ None)
+
+pub record IsScratch (width : ℕ) (row : List Cell) (waiting : List (Option Key)) : Type 0 where
+  pub wide : length row ≡ width
+  pub idle : IsIdle width waiting
+
+pub record IsCells (board : MCells) (row : List Cell) (waiting : List (Option Key)) : Type 0 where
+  pub scratch : IsScratch board.nonterminals row waiting
+  pub small : AreFew (room board) board.nonterminals
+  pub reach : room board < 2 ^ 64

@@ -1,6 +1,6 @@
 -- The cells tell the best derivations of a tree and of its subtrees.
-use Rattle.lburg_grammar.specs.Tree.{MTree}
-use Rattle.lburg_grammar.specs.Description.{MDescription}
+use Rattle.lburg_model.specs.Tree.{MTree}
+use Rattle.lburg_model.specs.Description.{MDescription}
 use Rattle.tree_labeller.specs.MCells.{MCells}
 use Rattle.tree_labeller.specs.Labelled.{Labelled}
 

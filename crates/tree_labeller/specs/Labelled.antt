@@ -1,18 +1,14 @@
 -- What the rows of cells say of a tree. The tree's own row is at its place, then come those of its subtrees, left to right.
-use Rattle.std.specs.Prelude.{false, ◌≡◌, ℕ, ◌+◌, ◌*◌, ◌<◌, ◌≤◌, Option, Some, None, List, [], length, slice_get, slice_index_or, ◌==◌, if◌then◌else◌}
-use Rattle.tree_labeller.specs.declared.cells.Cell.{Cell}
-use Rattle.tree_labeller.specs.declared.cells.Key.{Key}
-use Rattle.tree_labeller.specs.declared.cells.Row.{Row}
-use Rattle.lburg_grammar.specs.declared.rule.Rule.{Rule}
+use Rattle.std.specs.Prelude.{◌≡◌, ℕ, ◌+◌, ◌*◌, ◌<◌, ◌≤◌, Option, Some, None, List, [], length, slice_get, slice_index_or, ◌==◌, if◌then◌else◌}
+use Rattle.place_queue.specs.declared.key.Key.{Key}
+use Rattle.tree_labeller.specs.declared.cell.Cell.{Cell}
+use Rattle.tree_labeller.specs.Rows.{Row, key_of}
+use Rattle.lburg_model.specs.declared.rule.Rule.{Rule}
 use Rattle.tree_labeller.specs.Offers.{Offers}
 use Rattle.tree_labeller.specs.Row.{Leq3, CellAt, Closed, Everywhere}
-use Rattle.lburg_grammar.specs.Range.{IsMet}
-use Rattle.lburg_grammar.specs.Tree.{MTree, TLeaf, TOne, TTwo, nodes, value_of}
-use Rattle.lburg_grammar.specs.Pattern.{MPattern, PHole, PLeaf, POne, PTwo, pattern_of}
-
-abbrev pub key_of : Option Cell → Option Key
-key_of None = None
-key_of (Some c) = Some (record { cost = c.cost; count = c.count })
+use Rattle.lburg_model.specs.Range.{IsMet}
+use Rattle.lburg_model.specs.Tree.{MTree, TLeaf, TOne, TTwo, nodes, value_of}
+use Rattle.lburg_model.specs.Pattern.{MPattern, PHole, PLeaf, POne, PTwo, pattern_of}
 
 abbrev pub add : Option Key → Option Key → Option Key
 add None y = None
@@ -24,7 +20,7 @@ nothing_used = record { cost = 0; count = 0 }
 
 abbrev pub cells_of : Option Row → List (Option Cell)
 cells_of None = []
-cells_of (Some r) = r.cells.items
+cells_of (Some r) = r.cells
 
 abbrev pub end_of : Option Row → ℕ
 end_of None = 0
@@ -63,7 +59,7 @@ pub record Sound (rows : List Row) (d : List Rule) (w : ℕ) (at : ℕ) (t : MTr
   pub fair : FairRow rows d at t
   pub end : end_of (slice_get rows at) ≡ at + nodes t
   pub within : at < length rows
-  pub short : (n : ℕ) (c : Cell) → cell rows at n ≡ Some c → c.count ≤ area (w + 1) t
+  pub short : (n : ℕ) (c : Cell) → cell rows at n ≡ Some c → c.count ≤ area w t
   pub cheap : (n : ℕ) (c : Cell) → cell rows at n ≡ Some c → c.cost ≤ 32768 * c.count
 
 -- what holds of the rows of a tree
@@ -84,9 +80,6 @@ Ready rows d w at t (PLeaf op) = KidsLabelled rows d w at t
 Ready rows d w at t (POne op p) = KidsLabelled rows d w at t
 Ready rows d w at t (PTwo op p q) = KidsLabelled rows d w at t
 
-abbrev pub Widths : ℕ → List Row → Type 0
-Widths q rows = (i : ℕ) (r : Row) → slice_get rows i ≡ Some r → length r.cells.items ≡ q
-
 -- the total of a pattern that is no nonterminal alone
 abbrev pub base_total : List Row → MPattern → MTree → ℕ → Option Key
 base_total rows (PHole n) t at = None
@@ -100,7 +93,7 @@ IsRuleTotal rows r t at None = (k : Key) → IsMet r.range (value_of t) → base
 IsRuleTotal rows r t at (Some k) = IsMet r.range (value_of t) × (base_total rows (pattern_of r.pattern) t at ≡ Some k)
 
 abbrev pub made_by : Key → ℕ → Rule → Cell
-made_by k j r = record { cost = k.cost + r.cost; count = k.count + 1; rule = j + 1; done = false }
+made_by k j r = record { cost = k.cost + r.cost; count = k.count + 1; rule = j + 1 }
 
 -- the rules of these places were tried, but for the chain rules
 pub record Started (rows : List Row) (d : List Rule) (at : ℕ) (t : MTree) (cells : List (Option Cell)) (tried : ℕ → Type 0) : Type 0 where

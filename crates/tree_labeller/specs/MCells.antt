@@ -1,6 +1,6 @@
 -- What cells keep: room for so many nonterminals, and a row for each node that there is room for.
 use Rattle.std.specs.Prelude.{◌≡◌, ℕ, List, length}
-use Rattle.tree_labeller.specs.declared.cells.Row.{Row}
+use Rattle.tree_labeller.specs.Rows.{Row}
 
 pub record MCells : Type 0 where
   pub nonterminals : ℕ

@@ -1,9 +1,11 @@
 -- Rows of cells, and their closing under the chain rules.
-use Rattle.std.specs.Prelude.{◌≡◌, ℕ, ◌+◌, ◌*◌, ◌<◌, ◌≤◌, ◌⊎◌, true, false, ℤ, Option, Some, None, List, [], ◌∷◌, length, slice_get, slice_set, slice_index_or, cond}
-use Rattle.tree_labeller.specs.declared.cells.Cell.{Cell}
-use Rattle.lburg_grammar.specs.declared.pattern.Pattern.{Nonterminal}
-use Rattle.lburg_grammar.specs.declared.rule.Rule.{Rule}
-use Rattle.lburg_grammar.specs.Range.{IsMet}
+use Rattle.std.specs.Prelude.{◌≡◌, ℕ, ◌+◌, ◌*◌, ◌<◌, ◌≤◌, ◌⊎◌, ℤ, Option, Some, None, List, length, slice_get, slice_set, slice_index_or}
+use Rattle.place_queue.specs.declared.key.Key.{Key}
+use Rattle.tree_labeller.specs.declared.cell.Cell.{Cell}
+use Rattle.lburg_model.specs.declared.pattern.Pattern.{Nonterminal}
+use Rattle.lburg_model.specs.declared.rule.Rule.{Rule}
+use Rattle.lburg_model.specs.Range.{IsMet}
+use Rattle.tree_labeller.specs.Rows.{key_of}
 use Rattle.tree_labeller.specs.Offers.{Offers}
 
 abbrev pub Leq : ℕ → ℕ → ℕ → ℕ → Type 0
@@ -16,15 +18,10 @@ Leq3 k m r k' m' r' = (k ≤ k') × (k ≡ k' → m ≤ m') × (k ≡ k' → m �
 abbrev pub CellAt : List (Option Cell) → ℕ → Cell → Type 0
 CellAt row n c = slice_index_or row n None ≡ Some c
 
--- the new cell is stored where it is less than the old one
-pub data Relaxed (row : List (Option Cell)) (n : ℕ) (new : Cell) : List (Option Cell) → Type 0 where
-  Taken : ((b : Cell) → CellAt row n b → Leq3 b.cost b.count b.rule new.cost new.count new.rule → ⊥) → Relaxed row n new (slice_set row n (Some new))
-  Left : (b : Cell) → CellAt row n b → Leq3 b.cost b.count b.rule new.cost new.count new.rule → Relaxed row n new row
-
--- the least of the cells that are not done, if there is one
-abbrev pub LeastOpen : List (Option Cell) → Option (ℕ × Cell) → Type 0
-LeastOpen row None = (m : ℕ) (b : Cell) → CellAt row m b → b.done ≡ true
-LeastOpen row (Some (n, c)) = CellAt row n c × (c.done ≡ false) × ((m : ℕ) (b : Cell) → CellAt row m b → b.done ≡ false → Leq c.cost c.count b.cost b.count)
+-- the new cell is stored where it is less than the old one, and waits then
+pub data Relaxed (row : List (Option Cell)) (waiting : List (Option Key)) (n : ℕ) (new : Cell) : List (Option Cell) → List (Option Key) → Type 0 where
+  Taken : ((b : Cell) → CellAt row n b → Leq3 b.cost b.count b.rule new.cost new.count new.rule → ⊥) → Relaxed row waiting n new (slice_set row n (Some new)) (slice_set waiting n (key_of (Some new)))
+  Left : (b : Cell) → CellAt row n b → Leq3 b.cost b.count b.rule new.cost new.count new.rule → Relaxed row waiting n new row waiting
 
 -- the rule of this place is a chain rule from m, and applies at a node with this constant
 abbrev pub IsChain : List Rule → Option ℤ → ℕ → ℕ → Rule → Type 0
@@ -32,7 +29,7 @@ IsChain rules constant i m r = Offers rules constant i r × (r.pattern ≡ Nonte
 
 -- what the rule of place i makes of a cell
 abbrev pub made_from : Cell → ℕ → Rule → Cell
-made_from from i r = record { cost = from.cost + r.cost; count = from.count + 1; rule = i + 1; done = false }
+made_from from i r = record { cost = from.cost + r.cost; count = from.count + 1; rule = i + 1 }
 
 -- what comes of trying the rule of place i on a cell at a node with this constant, none where it doesn't apply there
 abbrev pub IsMade : Option ℤ → Cell → ℕ → Rule → Option Cell → Type 0
@@ -50,32 +47,12 @@ Everywhere i = Unit {0}
 abbrev pub Among : List ℕ → ℕ → ℕ → Type 0
 Among places k i = (j : ℕ) × (j < k) × (slice_get places j ≡ Some i)
 
--- the rules of these places were tried on the cell of m, at a node with this constant
-pub record Spread (rules : List Rule) (constant : Option ℤ) (m : ℕ) (from : Cell) (old row : List (Option Cell)) (tried : ℕ → Type 0) : Type 0 where
+-- the rules of these places were tried on the cell of m, at a node with this constant: each cell that is new waits, and each other waits as it did
+pub record Spread (rules : List Rule) (constant : Option ℤ) (m : ℕ) (from : Cell) (old : List (Option Cell)) (waited : List (Option Key)) (row : List (Option Cell)) (waiting : List (Option Key)) (tried : ℕ → Type 0) : Type 0 where
   pub same_length : length row ≡ length old
   pub lower : (n : ℕ) (b : Cell) → CellAt old n b → (c : Cell) × CellAt row n c × Leq3 c.cost c.count c.rule b.cost b.count b.rule
-  pub made : (n : ℕ) (c : Cell) → CellAt row n c → CellAt old n c ⊎ ((j : ℕ) × (r : Rule) × IsChain rules constant j m r × (r.left ≡ n) × (c ≡ made_from from j r) × Beats old n c)
+  pub made : (n : ℕ) (c : Cell) → CellAt row n c → (CellAt old n c × (slice_index_or waiting n None ≡ slice_index_or waited n None)) ⊎ ((j : ℕ) × (r : Rule) × IsChain rules constant j m r × (r.left ≡ n) × (c ≡ made_from from j r) × Beats old n c × (slice_index_or waiting n None ≡ key_of (Some c)))
   pub closed : (j : ℕ) (r : Rule) → tried j → IsChain rules constant j m r → let new = made_from from j r in (c : Cell) × CellAt row r.left c × Leq3 c.cost c.count c.rule new.cost new.count new.rule
-
--- an open cell that is less than what was found, which is what comes back
-abbrev pub IsBetter : List (Option Cell) → ℕ → Option (ℕ × Cell) → Option Cell → Type 0
-IsBetter row n None None = (b : Cell) → CellAt row n b → b.done ≡ true
-IsBetter row n (Some (m, best)) None = (b : Cell) → CellAt row n b → b.done ≡ false → Leq best.cost best.count b.cost b.count
-IsBetter row n None (Some c) = CellAt row n c × (c.done ≡ false)
-IsBetter row n (Some (m, best)) (Some c) = CellAt row n c × (c.done ≡ false) × Leq c.cost c.count best.cost best.count
-
-abbrev pub LeastUpto : List (Option Cell) → ℕ → Option (ℕ × Cell) → Type 0
-LeastUpto row k None = (m : ℕ) (b : Cell) → m < k → CellAt row m b → b.done ≡ true
-LeastUpto row k (Some (n, c)) = CellAt row n c × (c.done ≡ false) × ((m : ℕ) (b : Cell) → m < k → CellAt row m b → b.done ≡ false → Leq c.cost c.count b.cost b.count)
-
-abbrev pub done_weight : Option Cell → ℕ
-done_weight None = 0
-done_weight (Some c) = cond c.done 1 0
-
--- how many cells are done
-abbrev pub dones : List (Option Cell) → ℕ
-dones [] = 0
-dones (x ∷ xs) = done_weight x + dones xs
 
 -- the cell has these numbers
 abbrev pub Same : Cell → Cell → Type 0
@@ -105,5 +82,5 @@ pub record Closed (rules : List Rule) (constant : Option ℤ) (old row : List (O
   pub lower : (n : ℕ) (b : Cell) → CellAt old n b → (c : Cell) × CellAt row n c × Leq3 c.cost c.count c.rule b.cost b.count b.rule
   pub made : (n : ℕ) (c : Cell) → CellAt row n c → ((b : Cell) × CellAt old n b × Same c b) ⊎ FromChain rules constant row n c
   pub closed : (j : ℕ) (r : Rule) (m : ℕ) (b : Cell) → IsChain rules constant j m r → CellAt row m b → let new = made_from b j r in (c : Cell) × CellAt row r.left c × Leq3 c.cost c.count c.rule new.cost new.count new.rule
-  pub many : (base : ℕ) → ((n : ℕ) (b : Cell) → CellAt old n b → b.count ≤ base) → (n : ℕ) (c : Cell) → CellAt row n c → c.count ≤ base + length old
+  pub many : (base : ℕ) → ((n : ℕ) (b : Cell) → CellAt old n b → b.count ≤ base) → (n : ℕ) (c : Cell) → CellAt row n c → c.count < base + length old
   pub cheap : AreCheap rules → IsCheap old → IsCheap row

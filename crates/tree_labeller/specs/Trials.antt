@@ -2,10 +2,10 @@
 -- at its root, and each chain rule from a nonterminal that has a derivation there.
 -- Source: Aho, Ganapathi and Tjiang, Code generation using tree matching and dynamic programming, 1989.
 use Rattle.std.specs.Prelude.{◌≡◌, ℕ, ◌+◌, List, [], ◌∷◌}
-use Rattle.lburg_grammar.specs.declared.rule.Rule.{Rule}
-use Rattle.lburg_grammar.specs.Tree.{MTree, op_of, kids_of}
-use Rattle.lburg_grammar.specs.Pattern.{MPattern, PHole, PLeaf, POne, PTwo, pattern_of}
-use Rattle.lburg_grammar.specs.Derivation.{MDerivation, Derives}
+use Rattle.lburg_model.specs.declared.rule.Rule.{Rule}
+use Rattle.lburg_model.specs.Tree.{MTree, op_of, kids_of}
+use Rattle.lburg_model.specs.Pattern.{MPattern, PHole, PLeaf, POne, PTwo, pattern_of}
+use Rattle.lburg_model.specs.Derivation.{MDerivation, Derives}
 
 -- a rule of this pattern is tried at the root of the tree
 abbrev pub IsTried : List Rule → MTree → MPattern → Type 0

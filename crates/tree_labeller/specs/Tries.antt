@@ -1,10 +1,10 @@
 -- How many rules the filling of a row tries.
 use Rattle.std.specs.Prelude.{ℕ, ◌+◌, Option, None, Some, List, [], ◌∷◌, slice_index_or}
-use Rattle.lburg_grammar.specs.declared.rule.Rule.{Rule}
-use Rattle.lburg_grammar.specs.Pattern.{MPattern, PHole, PLeaf, POne, PTwo, pattern_of}
-use Rattle.tree_labeller.specs.declared.cells.Cell.{Cell}
-use Rattle.tree_labeller.specs.declared.places.Root.TheVariants.{Operator}
-use Rattle.tree_labeller.specs.Root.{with_root}
+use Rattle.lburg_model.specs.declared.rule.Rule.{Rule}
+use Rattle.lburg_model.specs.Pattern.{MPattern, PHole, PLeaf, POne, PTwo, pattern_of}
+use Rattle.lburg_tables.specs.Root.{Operator}
+use Rattle.lburg_tables.specs.Places.{with_root}
+use Rattle.tree_labeller.specs.declared.cell.Cell.{Cell}
 
 -- 1 for a cell, 0 for none
 abbrev pub cell_weight : Option Cell → ℕ

@@ -1,72 +1,48 @@
-ghost use Rattle.std.specs.Prelude.{◌≡◌, ℕ, ◌+◌, ◌*◌, ◌-◌, ◌^◌, ◌<◌, ◌≤◌, false, List, Option, None, Some, length, slice_get, slice_set, slice_index_or};
-ghost use Rattle.tree_labeller.specs.Row.{CellAt, Relaxed, Leq, LeastOpen, Spread, IsBetter, IsMade, AreCheap, IsCheap, Closed, Everywhere};
+ghost use Rattle.std.specs.Prelude.{◌≡◌, ℕ, ◌+◌, ◌-◌, ◌^◌, ◌<◌, ◌≤◌, length, Option, None, Some};
+ghost use Rattle.lburg_tables.specs.Root.{Chain};
+ghost use Rattle.lburg_tables.specs.Places.{with_root};
+ghost use Rattle.tree_labeller.specs.Row.{CellAt, Relaxed, Spread, IsMade, IsCheap, Closed, Everywhere};
+ghost use Rattle.tree_labeller.specs.Rows.{row_of, waiting_of};
+ghost use Rattle.tree_labeller.specs.Waits.{Matches};
+ghost use Rattle.tree_labeller.specs.IsCells.{IsIdle};
 ghost use Rattle.tree_labeller.specs.AreRules.{AreRules};
-ghost use Rattle.tree_labeller.specs.IsIndex.{IsIndex};
-ghost use Rattle.tree_labeller.specs.Root.{with_root};
 ghost use Rattle.tree_labeller.specs.Tries.{chain_tries};
-ghost use Rattle.tree_labeller.specs.declared.places.Root.TheVariants.{Chain};
+ghost use Rattle.tree_labeller.specs.declared.cell.Cell.{Cell as Cells};
 
-use crate::cells::Cell;
-use crate::places::Index;
-use lburg_grammar::Rule;
+use crate::cell::Cell;
+use lburg_model::Rule;
+use lburg_tables::Tables;
 use lcc_base::Steps;
+use place_queue::Queue;
 use std::sync::ledger::Ledger;
 
-/// Stores a new cell where it is less than the old one by cost, then count, then rule number.
-pub fn relax(row: &mut [Option<Cell>], n: usize, new: Cell)
-    requires { n < length row.old }
-    ensures { Relaxed row.old n new row.new }
+/// Stores a new cell where it is less than the old one by cost, then count, then rule number, and
+/// lets its nonterminal wait.
+pub(crate) fn relax(row: &mut [Cell], queue: &mut Queue, n: usize, new: Cell)
+    requires within { n < length row.old }
+    requires some { 1 ≤ new.rule }
+    requires matches { Matches (row_of row.old) queue.old }
+    ensures relaxed { Relaxed (row_of row.old) queue.old n new (row_of row.new) queue.new }
+    ensures matches { Matches (row_of row.new) queue.new }
 {
-    if let Some(old) = row[n] {
+    if let Some(old) = row[n].seen() {
         if old.is_at_most(&new) {
             return;
         }
     }
-    row[n] = Some(new);
-}
-
-fn is_better(row: &[Option<Cell>], n: usize, found: Option<(usize, Cell)>) -> Option<Cell>
-    requires { n < length row.now }
-    ensures { IsBetter row.now n found result }
-{
-    let cell = row[n]?;
-    if cell.done {
-        return None;
-    }
-    match found {
-        None => Some(cell),
-        Some((_, best)) => {
-            if best.is_at_most(&cell) {
-                None
-            } else {
-                Some(cell)
-            }
-        }
-    }
-}
-
-// The least of the cells that are not done.
-fn least_open(row: &[Option<Cell>]) -> Option<(usize, Cell)>
-    ensures { LeastOpen row.now result }
-{
-    let mut found = None;
-    for n in 0..row.len() {
-        if let Some(cell) = is_better(row, n, found) {
-            found = Some((n, cell));
-        }
-    }
-    found
+    row[n] = new;
+    queue.put(n, new.key());
 }
 
 /// The rules at a node.
 #[derive(Clone, Copy, Debug)]
-pub struct NodeRules<'a> {
-    /// The description's rules.
-    pub rules: &'a [Rule],
-    /// Their places.
-    pub index: &'a Index,
+pub(crate) struct NodeRules<'a> {
+    /// The tables with the rules' places.
+    pub(crate) tables: &'a Tables<'a>,
+    /// The rules.
+    pub(crate) rules: &'a [Rule],
     /// The node's constant, if it has one.
-    pub constant: Option<i64>,
+    pub(crate) constant: Option<i64>,
 }
 
 // What the rule of a place makes of a cell at a node with this constant, none where it does not
@@ -74,7 +50,7 @@ pub struct NodeRules<'a> {
 fn made_from(rule: &Rule, place: u16, constant: Option<i64>, from: Cell) -> Option<Cell>
     requires place { place < 2 ^ 16 - 1 }
     requires cheap { from.cost < 2 ^ 63 }
-    requires short { from.count < 2 ^ 63 }
+    requires short { from.count < 2 ^ 32 - 1 }
     ensures { IsMade constant from place rule.now result }
 {
     if rule.applies(constant) {
@@ -82,7 +58,6 @@ fn made_from(rule: &Rule, place: u16, constant: Option<i64>, from: Cell) -> Opti
             cost: from.cost + rule.cost as u64,
             count: from.count + 1,
             rule: place + 1,
-            done: false,
         })
     } else {
         None
@@ -93,46 +68,53 @@ fn made_from(rule: &Rule, place: u16, constant: Option<i64>, from: Cell) -> Opti
 fn spread<L: Ledger>(
     node: &NodeRules,
     m: usize,
-    row: &mut [Option<Cell>],
     from: Cell,
+    row: &mut [Cell],
+    queue: &mut Queue,
     steps: &mut Steps<L>,
 )
+    requires same { node.now.rules.now ≡ node.now.tables.now.rules }
     requires are { AreRules node.now.rules.now (length row.old) }
-    requires index { IsIndex node.now.rules.now node.now.index.now }
+    requires small { m < 2 ^ 16 }
     requires cheap { from.cost < 2 ^ 63 }
-    requires short { from.count < 2 ^ 63 }
-    ensures spread { Spread node.now.rules.now node.now.constant m from row.old row.new Everywhere }
+    requires short { from.count < 2 ^ 32 - 1 }
+    requires matches { Matches (row_of row.old) queue.old }
+    ensures spread { Spread node.now.rules.now node.now.constant m from (row_of row.old) queue.old (row_of row.new) queue.new Everywhere }
+    ensures matches { Matches (row_of row.new) queue.new }
     ensures steps { steps.new ≡ steps.old + with_root (Chain m) node.now.rules.now }
 {
-    let places = node.index.chains_from(node.rules, m);
+    let places = node.tables.chains_from(m as u16);
     for k in 0..places.len() {
         let place = places[k];
         let rule = &node.rules[place as usize];
         steps.tick();
         if let Some(cell) = made_from(rule, place, node.constant, from) {
-            relax(row, rule.left as usize, cell);
+            relax(row, queue, rule.left as usize, cell);
         }
     }
 }
 
-/// Adds to a node's row what the chain rules make of its cells.
-pub fn close_row<L: Ledger>(node: &NodeRules, row: &mut [Option<Cell>], steps: &mut Steps<L>)
+/// Adds to a node's row, whose cells all wait, what the chain rules make of them. The least cell
+/// that waits is the next to be tried, so that each chain rule is tried on a cell once.
+/// Source: Dijkstra, A note on two problems in connexion with graphs, 1959.
+pub(crate) fn close_row<L: Ledger>(
+    node: &NodeRules,
+    row: &mut [Cell],
+    queue: &mut Queue,
+    steps: &mut Steps<L>,
+)
+    requires same { node.now.rules.now ≡ node.now.tables.now.rules }
     requires are { AreRules node.now.rules.now (length row.old) }
-    requires index { IsIndex node.now.rules.now node.now.index.now }
-    requires fresh { (n : ℕ) (c : Cell) → CellAt row.old n c → c.done ≡ false }
-    requires short { (n : ℕ) (c : Cell) → CellAt row.old n c → c.count ≤ 2 ^ 46 }
-    requires cheap { IsCheap row.old }
-    ensures closed { Closed node.now.rules.now node.now.constant row.old row.new }
-    ensures steps { steps.new ≡ steps.old + chain_tries row.new node.now.rules.now }
+    requires waits { queue.old ≡ waiting_of (row_of row.old) }
+    requires named { (n : ℕ) (c : Cells) → CellAt (row_of row.old) n c → n < 2 ^ 16 }
+    requires short { (n : ℕ) (c : Cells) → CellAt (row_of row.old) n c → c.count + length row.old < 2 ^ 32 }
+    requires cheap { IsCheap (row_of row.old) }
+    ensures closed { Closed node.now.rules.now node.now.constant (row_of row.old) (row_of row.new) }
+    ensures idle { IsIdle (length row.old) queue.new }
+    ensures steps { steps.new ≡ steps.old + chain_tries (row_of row.new) node.now.rules.now }
 {
-    while let Some((m, cell)) = least_open(row) {
-        let from = Cell {
-            cost: cell.cost,
-            count: cell.count,
-            rule: cell.rule,
-            done: true,
-        };
-        row[m] = Some(from);
-        spread(node, m, row, from, steps);
+    while let Some((m, _)) = queue.take() {
+        let from = row[m];
+        spread(node, m, from, row, queue, steps);
     }
 }

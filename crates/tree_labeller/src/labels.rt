@@ -1,23 +1,22 @@
-ghost use Rattle.std.specs.Prelude.{◌≡◌, ◌≢◌, ℕ, ◌+◌, ◌-◌, ◌≤◌, None, Some, length, slice_get};
-ghost use Rattle.lburg_grammar.specs.Tree.{MTree, nodes};
-ghost use Rattle.lburg_grammar.specs.Description.{MDescription};
+ghost use Rattle.std.specs.Prelude.{◌≡◌, ◌≢◌, ◌+◌, ◌-◌, ◌≤◌, None, Some, length, slice_get};
+ghost use Rattle.lburg_model.specs.Tree.{nodes};
 ghost use Rattle.tree_labeller.specs.MCells.{MCells};
 ghost use Rattle.tree_labeller.specs.Labelled.{Labelled, cell};
-ghost use Rattle.tree_labeller.specs.Reduced.{Chosen};
+ghost use Rattle.tree_labeller.specs.Chosen.{Chosen};
 
-use crate::cells::{Cell, Cells, Row};
-use crate::tables::Tables;
-use lburg_grammar::{Rule, TreeNode};
+use crate::board::Board;
+use crate::cell::Cell;
+use crate::cells::Cells;
+use lburg_model::{Rule, TreeNode};
+use lburg_tables::Tables;
 
 /// The rows of a tree, and the rules that it was labelled with.
 #[derive(Clone, Copy, Debug)]
 pub struct Labels<'a> {
     /// The description's rules.
     pub rules: &'a [Rule],
-    /// How many cells a row has.
-    pub width: usize,
     /// The rows: a node's own stands before those of its operands.
-    pub rows: &'a [Row],
+    pub board: &'a Board,
 }
 
 /// The rule at the root of a derivation.
@@ -31,13 +30,11 @@ pub struct Choice<'a> {
 /// The labels in these cells of a tree that was labelled with these tables.
 pub fn labels_in<'a>(t: &'a Tables, cells: &'a Cells) -> Labels<'a>
     ensures rules { result.rules.now ≡ t.now.rules }
-    ensures width { result.width ≡ cells.now.nonterminals }
-    ensures rows { result.rows.now ≡ cells.now.rows }
+    ensures board { result.board.now ≡ cells.now }
 {
     Labels {
         rules: t.description().rules(),
-        width: cells.width,
-        rows: cells.rows.as_slice(),
+        board: &cells.board,
     }
 }
 
@@ -53,30 +50,24 @@ fn rule_of(rules: &[Rule], number: u16) -> &Rule
 impl<'a> Labels<'a> {
     /// The cell of a nonterminal at a place.
     pub fn cell(&self, at: usize, n: usize) -> Option<Cell>
-        ensures { result ≡ cell self.now.rows.now at n }
+        ensures { result ≡ cell self.now.board.now.rows at n }
     {
-        match self.rows.get(at) {
-            Some(row) => match row.cells.get(n) {
-                Some(c) => *c,
-                None => None,
-            },
-            None => None,
-        }
+        self.board.cell(at, n)
     }
 
     /// The place after the rows of the tree at a place.
     pub fn end<N: TreeNode>(&self, tree: &N, at: usize) -> usize
-        requires { Labelled self.now.rows.now self.now.rules.now self.now.width at (N.tree tree.now) }
+        requires { Labelled self.now.board.now.rows self.now.rules.now self.now.board.now.nonterminals at (N.tree tree.now) }
         ensures { result ≡ at + nodes (N.tree tree.now) }
     {
-        self.rows[at].end
+        self.board.end(at)
     }
 
     // The number of the rule that makes a cell.
     fn number<N: TreeNode>(&self, tree: &N, at: usize, n: usize) -> u16
-        requires labelled { Labelled self.now.rows.now self.now.rules.now self.now.width at (N.tree tree.now) }
-        requires some { cell self.now.rows.now at n ≢ None }
-        ensures { Chosen self.now.rows.now self.now.rules.now n (N.tree tree.now) at result }
+        requires labelled { Labelled self.now.board.now.rows self.now.rules.now self.now.board.now.nonterminals at (N.tree tree.now) }
+        requires some { cell self.now.board.now.rows at n ≢ None }
+        ensures { Chosen self.now.board.now.rows self.now.rules.now n (N.tree tree.now) at result }
     {
         match self.cell(at, n) {
             Some(c) => c.rule,
@@ -87,9 +78,9 @@ impl<'a> Labels<'a> {
     /// The rule at the root of a nonterminal's best derivation of the tree at a place, which its
     /// cell tells.
     pub fn choice<N: TreeNode>(&self, tree: &N, at: usize, n: usize) -> Choice<'a>
-        requires labelled { Labelled self.now.rows.now self.now.rules.now self.now.width at (N.tree tree.now) }
-        requires some { cell self.now.rows.now at n ≢ None }
-        ensures chosen { Chosen self.now.rows.now self.now.rules.now n (N.tree tree.now) at result.number }
+        requires labelled { Labelled self.now.board.now.rows self.now.rules.now self.now.board.now.nonterminals at (N.tree tree.now) }
+        requires some { cell self.now.board.now.rows at n ≢ None }
+        ensures chosen { Chosen self.now.board.now.rows self.now.rules.now n (N.tree tree.now) at result.number }
         ensures rule { slice_get self.now.rules.now (result.number - 1) ≡ Some result.rule.now }
     {
         let number = self.number(tree, at, n);

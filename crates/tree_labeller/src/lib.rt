@@ -1,25 +1,19 @@
-//! Tables of a description's rules, the labelling of trees with them, the walk over a tree's best
-//! derivation, and best derivations as values.
+//! The labelling of trees: for each node and nonterminal the least cost of a derivation, and its rule.
 #![tactic(auto)]
 
+mod board;
+mod cell;
 mod cells;
 mod closing;
-mod cost;
-mod derivations;
 mod labeller;
 mod labels;
 mod matching;
-mod places;
-mod reducer;
 mod sizes;
-mod tables;
-#[cfg(test)]
-mod tests;
+mod starting;
 
+pub use board::Board;
+pub use cell::Cell;
 pub use cells::Cells;
-pub use cost::{Cost, best};
-pub use derivations::{best_derivation, best_derivations};
 pub use labeller::label;
-pub use reducer::{Visitor, reduce};
+pub use labels::{Choice, Labels, labels_in};
 pub use sizes::{most_nodes, node_count};
-pub use tables::{Tables, build};

@@ -1,34 +1,33 @@
-ghost use Rattle.std.specs.Prelude.{◌≡◌, ℕ, ◌+◌, ◌*◌, ◌^◌, ◌<◌, ◌≤◌, length, IfSome};
-ghost use Rattle.lburg_grammar.specs.Tree.{MTree, nodes, kids_of};
-ghost use Rattle.lburg_grammar.specs.Pattern.{pattern_of};
-ghost use Rattle.tree_labeller.specs.Labelled.{base_total, IsRuleTotal, KidsLabelled, total, area, Ready, Labelled, cell, key_of};
+ghost use Rattle.std.specs.Prelude.{◌≡◌, ◌+◌, ◌*◌, ◌-◌, ◌^◌, ◌<◌, ◌≤◌, length, IfSome};
+ghost use Rattle.lburg_model.specs.Tree.{nodes};
+ghost use Rattle.lburg_model.specs.Pattern.{pattern_of};
+ghost use Rattle.tree_labeller.specs.Labelled.{base_total, IsRuleTotal, KidsLabelled, total, area, Ready, Labelled, cell};
+ghost use Rattle.tree_labeller.specs.Rows.{key_of};
 
-use crate::cells::Key;
 use crate::labels::Labels;
-use lburg_grammar::{Pattern, Rule, TreeNode};
+use lburg_model::{Pattern, Rule, TreeNode};
+use place_queue::Key;
 
 // What a cell tells of its cost and count.
 fn key_at(labels: &Labels, at: usize, n: usize) -> Option<Key>
-    ensures { result ≡ key_of (cell labels.now.rows.now at n) }
+    ensures { result ≡ key_of (cell labels.now.board.now.rows at n) }
 {
     match labels.cell(at, n) {
-        Some(c) => Some(Key {
-            cost: c.cost,
-            count: c.count,
-        }),
+        Some(cell) => Some(cell.key()),
         None => None,
     }
 }
 
 /// The least cost and count of the parts that a pattern needs at a tree, none where it does not
 /// fit or a part has no derivation.
-#[tactic(auto, using(crate::proofs::Totals::ready_of, crate::proofs::Totals::nodes_pos))]
+#[tactic(auto, using(crate::specs::Totals::ready_of, crate::specs::Totals::nodes_pos))]
 fn total_at<N: TreeNode>(labels: &Labels, pattern: &Pattern, tree: &N, at: usize) -> Option<Key>
-    requires small { area (labels.now.width + 1) (N.tree tree.now) ≤ 2 ^ 46 }
-    requires room { at + nodes (N.tree tree.now) ≤ length labels.now.rows.now }
-    requires ready { Ready labels.now.rows.now labels.now.rules.now labels.now.width at (N.tree tree.now) (pattern_of pattern.now) }
-    ensures value { result ≡ total labels.now.rows.now (pattern_of pattern.now) (N.tree tree.now) at }
-    ensures bounded { IfSome result (λ k. (k.count ≤ area (labels.now.width + 1) (N.tree tree.now)) × (k.cost ≤ 32768 * k.count)) }
+    requires small { area labels.now.board.now.nonterminals (N.tree tree.now) < 2 ^ 32 - 1 }
+    requires room { at + nodes (N.tree tree.now) ≤ length labels.now.board.now.rows }
+    requires reach { length labels.now.board.now.rows < 2 ^ 64 }
+    requires ready { Ready labels.now.board.now.rows labels.now.rules.now labels.now.board.now.nonterminals at (N.tree tree.now) (pattern_of pattern.now) }
+    ensures value { result ≡ total labels.now.board.now.rows (pattern_of pattern.now) (N.tree tree.now) at }
+    ensures bounded { IfSome result (λ k. (k.count ≤ area labels.now.board.now.nonterminals (N.tree tree.now)) × (k.cost ≤ 32768 * k.count)) }
 {
     match pattern {
         Pattern::Nonterminal(n) => key_at(labels, at, *n as usize),
@@ -70,11 +69,12 @@ fn base_total_at<N: TreeNode>(
     tree: &N,
     at: usize,
 ) -> Option<Key>
-    requires small { area (labels.now.width + 1) (N.tree tree.now) ≤ 2 ^ 46 }
-    requires room { at + nodes (N.tree tree.now) ≤ length labels.now.rows.now }
-    requires kids { KidsLabelled labels.now.rows.now labels.now.rules.now labels.now.width at (N.tree tree.now) }
-    ensures value { result ≡ base_total labels.now.rows.now (pattern_of pattern.now) (N.tree tree.now) at }
-    ensures bounded { IfSome result (λ k. (k.count ≤ area (labels.now.width + 1) (N.tree tree.now)) × (k.cost ≤ 32768 * k.count)) }
+    requires small { area labels.now.board.now.nonterminals (N.tree tree.now) < 2 ^ 32 - 1 }
+    requires room { at + nodes (N.tree tree.now) ≤ length labels.now.board.now.rows }
+    requires reach { length labels.now.board.now.rows < 2 ^ 64 }
+    requires kids { KidsLabelled labels.now.board.now.rows labels.now.rules.now labels.now.board.now.nonterminals at (N.tree tree.now) }
+    ensures value { result ≡ base_total labels.now.board.now.rows (pattern_of pattern.now) (N.tree tree.now) at }
+    ensures bounded { IfSome result (λ k. (k.count + labels.now.board.now.nonterminals ≤ area labels.now.board.now.nonterminals (N.tree tree.now)) × (k.cost ≤ 32768 * k.count)) }
 {
     match pattern {
         Pattern::Nonterminal(_) => None,
@@ -87,11 +87,12 @@ fn base_total_at<N: TreeNode>(
 /// The same for a rule's pattern, with none where the rule's range does not contain the constant of
 /// the node.
 pub fn rule_total_at<N: TreeNode>(labels: &Labels, rule: &Rule, tree: &N, at: usize) -> Option<Key>
-    requires small { area (labels.now.width + 1) (N.tree tree.now) ≤ 2 ^ 46 }
-    requires room { at + nodes (N.tree tree.now) ≤ length labels.now.rows.now }
-    requires kids { KidsLabelled labels.now.rows.now labels.now.rules.now labels.now.width at (N.tree tree.now) }
-    ensures value { IsRuleTotal labels.now.rows.now rule.now (N.tree tree.now) at result }
-    ensures bounded { IfSome result (λ k. (k.count ≤ area (labels.now.width + 1) (N.tree tree.now)) × (k.cost ≤ 32768 * k.count)) }
+    requires small { area labels.now.board.now.nonterminals (N.tree tree.now) < 2 ^ 32 - 1 }
+    requires room { at + nodes (N.tree tree.now) ≤ length labels.now.board.now.rows }
+    requires reach { length labels.now.board.now.rows < 2 ^ 64 }
+    requires kids { KidsLabelled labels.now.board.now.rows labels.now.rules.now labels.now.board.now.nonterminals at (N.tree tree.now) }
+    ensures value { IsRuleTotal labels.now.board.now.rows rule.now (N.tree tree.now) at result }
+    ensures bounded { IfSome result (λ k. (k.count + labels.now.board.now.nonterminals ≤ area labels.now.board.now.nonterminals (N.tree tree.now)) × (k.cost ≤ 32768 * k.count)) }
 {
     if rule.applies(tree.value()) {
         base_total_at(labels, &rule.pattern, tree, at)

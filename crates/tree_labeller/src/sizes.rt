@@ -1,7 +1,7 @@
 ghost use Rattle.std.specs.Prelude.{◌≡◌, ◌^◌, ◌≤◌, All};
-ghost use Rattle.lburg_grammar.specs.Tree.{MTree, nodes};
+ghost use Rattle.lburg_model.specs.Tree.{nodes};
 
-use lburg_grammar::TreeNode;
+use lburg_model::TreeNode;
 
 /// How many nodes a tree has, which are few enough for `Cells::reserve` at the 127 nonterminals that
 /// a description may have.

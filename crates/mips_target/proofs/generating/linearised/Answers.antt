@@ -1,7 +1,7 @@
 use Rattle.std.proofs.Common.{◌≤◌, ◌^◌, map, sum_by, ap, sym, ◌∙◌, subst, arith}
 use Rattle.op_forest.specs.Nodes.{nodes, tree_of}
-use Rattle.lburg_grammar.specs.DerivationOf.{derivation_of}
-use Rattle.tree_labeller.specs.AreBest.{AreBest}
+use Rattle.lburg_model.specs.DerivationOf.{derivation_of}
+use Rattle.reducer.specs.AreBest.{AreBest}
 use Rattle.vcode.specs.Roots.{AreDerived}
 use Rattle.mips_target.proofs.Selection.{each_small, covered, derived_of, best_of, selected}
 use Rattle.mips_target.proofs.generating.linearised.Goals as goal

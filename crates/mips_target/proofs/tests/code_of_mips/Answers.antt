@@ -1,6 +1,6 @@
 use Rattle.std.proofs.Common.{◌≤◌, ◌^◌, map, sum_by, ap, sym, ◌∙◌, subst, arith}
 use Rattle.op_forest.specs.Nodes.{nodes}
-use Rattle.lburg_grammar.specs.DerivationOf.{derivation_of}
+use Rattle.lburg_model.specs.DerivationOf.{derivation_of}
 use Rattle.vcode.specs.Roots.{AreDerived}
 use Rattle.mips_target.proofs.Emission.{code_names_kept}
 use Rattle.mips_target.proofs.Selection.{each_small, covered, derived_of}

@@ -1,4 +1,4 @@
-use Rattle.lburg_grammar.specs.Tree.{nodes}
+use Rattle.lburg_model.specs.Tree.{nodes}
 use Rattle.plain_cover.proofs.plain.+room_of.Given as goal
 
 abbrev pub decreases-room_of : goal.decreases-room_of

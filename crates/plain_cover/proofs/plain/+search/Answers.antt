@@ -1,9 +1,9 @@
 use Rattle.std.proofs.Common.{◌≡◌, ℕ, ◌+◌, length, Option, Some, None, IsTrue, false, refl, sym, ap, ◌∙◌, subst, arith}
 use Rattle.std.proofs.lemmas.Option.{slice_get-get_or}
-use Rattle.lburg_grammar.specs.declared.pattern.Pattern.{Pattern}
-use Rattle.lburg_grammar.specs.Range.{IsMet}
-use Rattle.lburg_grammar.specs.Tree.{value_of}
-use Rattle.lburg_grammar.specs.Pattern.{PHole, PLeaf, POne, PTwo, pattern_of}
+use Rattle.lburg_model.specs.declared.pattern.Pattern.{Pattern}
+use Rattle.lburg_model.specs.Range.{IsMet}
+use Rattle.lburg_model.specs.Tree.{value_of}
+use Rattle.lburg_model.specs.Pattern.{PHole, PLeaf, POne, PTwo, pattern_of}
 use Rattle.plain_cover.specs.declared.plain.Found.{Found}
 use Rattle.plain_cover.specs.Told.{told, told_of_parts, told_of_none, told_of_both}
 use Rattle.plain_cover.specs.IsLeastOf.{IsLeastOf}

@@ -1,5 +1,5 @@
 use Rattle.std.proofs.Common.{◌+◌, ◌*◌}
-use Rattle.lburg_grammar.specs.Pattern.{pattern_of, pattern_nodes}
+use Rattle.lburg_model.specs.Pattern.{pattern_of, pattern_nodes}
 use Rattle.plain_cover.specs.Told.{told}
 use Rattle.plain_cover.specs.IsLeastOf.{IsLeastOf}
 use Rattle.plain_cover.specs.Within.{WithinFirst}

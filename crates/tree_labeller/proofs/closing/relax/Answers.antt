@@ -1,18 +1,48 @@
-use Rattle.std.proofs.Common.{◌≡◌, IsTrue, Some, subst, sym, ◌∙◌, false, refl}
-use Rattle.tree_labeller.specs.declared.cells.Cell.{Cell}
-use Rattle.tree_labeller.specs.Row.{Taken, Left, Leq3}
+use Rattle.std.proofs.Common.{◌∙◌, List, Option, Some, IsTrue, false, refl, sym, ap, subst}
+use Rattle.std.specs.Prelude.{slice_set}
+use Rattle.place_queue.specs.declared.key.Key.{Key}
+use Rattle.tree_labeller.specs.declared.cell.Cell.{Cell}
+use Rattle.tree_labeller.specs.Row.{Taken, Left, Beats, Relaxed}
+use Rattle.tree_labeller.specs.Rows.{row_of, key_of}
+use Rattle.tree_labeller.specs.Waits.{Matches}
+use Rattle.tree_labeller.proofs.Rows.{seen_at, seen_set, key_lower, match_after, beats_none, beats_greater, row_within}
 use Rattle.tree_labeller.proofs.closing.relax.Goals.{in-Some+else-is_at_most, in_default}
 use Rattle.tree_labeller.proofs.closing.relax.Goals as goal
 
-pub returns-then-is_at_most : goal.returns-then-is_at_most
-returns-then-is_at_most c = Left c.in-Some.old c.in-Some.is (c.if-is_at_most.ensures.0 refl)
+pub returns-then-is_at_most-clause-relaxed : goal.returns-then-is_at_most-clause-relaxed
+returns-then-is_at_most-clause-relaxed c = Left c.in-Some.old (seen_at c.args.row.now c.args.n _ c.requires.within ∙ sym c.in-Some.ensures) (c.if-is_at_most.ensures.0 refl)
 
-pub returns : goal.returns
-returns c = Taken (λ b at le. elim c.match-row-n.branch [
-  | in-Some+else-is_at_most w ↦
-      let e : b ≡ w.in-Some.old = (let f : Some b ≡ Some w.in-Some.old = sym at ∙ w.in-Some.is in cc) in
-      let P : Cell → Type 0 = λ x. Leq3 x.cost x.count x.rule c.args.new.cost c.args.new.count c.args.new.rule in
-      let no : IsTrue false = w.if-is_at_most.ensures.1 (subst P e le) in
-      cc
-  | in_default w ↦ cc
-])
+pub put-requires-clause-lower : goal.put-requires-clause-lower
+put-requires-clause-lower c =
+    let row = c.args.row.now in
+    let Beating : Type 0 = Beats (row_of row) c.args.n c.args.new in
+    let beats : Beating = elim c.match-seen.branch [
+      | in-Some+else-is_at_most w ↦ beats_greater row c.args.n _ c.args.new w.in-Some.old c.requires.within w.in-Some.ensures (λ le. let no : IsTrue false = w.if-is_at_most.ensures.1 le in cc)
+      | in_default w ↦ beats_none row c.args.n _ c.args.new c.requires.within (sym w.in_default.ensures)
+    ] in
+    λ old waits. key_lower (row_of row) c.args.queue.now c.args.n c.args.new c.key.result old c.requires.matches beats c.key.ensures waits
+
+pub returns-clause-relaxed : goal.returns-clause-relaxed
+returns-clause-relaxed c =
+    let row = c.args.row.now in
+    let n = c.args.n in
+    let new = c.args.new in
+    let beats : Beats (row_of row) n new = elim c.match-seen.branch [
+      | in-Some+else-is_at_most w ↦ beats_greater row n _ new w.in-Some.old c.requires.within w.in-Some.ensures (λ le. let no : IsTrue false = w.if-is_at_most.ensures.1 le in cc)
+      | in_default w ↦ beats_none row n _ new c.requires.within (sym w.in_default.ensures)
+    ] in
+    let Row : List (Option Cell) → Type 0 = λ x. Relaxed (row_of row) c.args.queue.now n new x (slice_set c.args.queue.now n (key_of (Some new))) in
+    let Waiting : List (Option Key) → Type 0 = λ x. Relaxed (row_of row) c.args.queue.now n new (row_of (slice_set row n new)) x in
+    let waits = c.put.ensures ∙ ap (slice_set c.args.queue.now n) c.key.ensures in
+    subst Waiting (sym waits) (subst Row (sym (seen_set row n new c.requires.some)) (Taken beats))
+
+pub returns-clause-matches : goal.returns-clause-matches
+returns-clause-matches c =
+    let row = c.args.row.now in
+    let n = c.args.n in
+    let new = c.args.new in
+    let Row : List (Option Cell) → Type 0 = λ x. Matches x (slice_set c.args.queue.now n (key_of (Some new))) in
+    let Waiting : List (Option Key) → Type 0 = λ x. Matches (row_of (slice_set row n new)) x in
+    let waits = c.put.ensures ∙ ap (slice_set c.args.queue.now n) c.key.ensures in
+    let inside = row_within row n c.requires.within in
+    subst Waiting (sym waits) (subst Row (sym (seen_set row n new c.requires.some)) (match_after (row_of row) c.args.queue.now n new inside c.requires.matches))

@@ -1,5 +1,5 @@
 use Rattle.std.proofs.Common.{◌+◌, ◌*◌}
-use Rattle.lburg_grammar.specs.Tree.{nodes}
+use Rattle.lburg_model.specs.Tree.{nodes}
 use Rattle.tree_labeller.proofs.labeller.+label.Given as goal
 
 abbrev pub decreases-label_at : goal.decreases-label_at

@@ -1,45 +1,40 @@
 use Rattle.std.proofs.Common.{◌≡◌, ◌*◌, ◌≤◌, List, length, sym, ap, ◌∙◌, subst, arith}
-use Rattle.lburg_grammar.specs.declared.rule.Rule.{Rule}
-use Rattle.lburg_grammar.specs.Description.{MDescription}
+use Rattle.lburg_model.specs.declared.rule.Rule.{Rule}
+use Rattle.lburg_model.specs.Description.{MDescription}
+use Rattle.lburg_model.specs.Tree.{nodes}
 use Rattle.tree_labeller.specs.MCells.{MCells}
 use Rattle.tree_labeller.specs.AreRules.{AreRules}
-use Rattle.tree_labeller.proofs.Room.{are_rules, small_area, narrow_rows}
-use Rattle.lburg_grammar.specs.Tree.{nodes}
 use Rattle.tree_labeller.specs.ChainRules.{chain_rules}
+use Rattle.tree_labeller.proofs.Room.{are_rules, small_area, narrow_rows}
 use Rattle.tree_labeller.proofs.Counting.{most_trials, step_bound}
 use Rattle.tree_labeller.proofs.labeller.label.Goals as goal
 
 pub label_at-requires-clause-are : goal.label_at-requires-clause-are
 label_at-requires-clause-are g c =
-    let w = c.cells.inside.width in
+    let board = c.cells.inside.board in
     let d = c.description.result.now in
     let tree = g.N.TreeNode.tree c.args.tree.now in
     let wide = ap (λ (k : MCells). k.nonterminals) c.cells.view_is in
     let many = ap (λ (k : MCells). length k.rows) c.cells.view_is in
-    let names = ap (λ (z : MDescription). length z.nonterminals) c.description.ensures in
+    let names = ap (λ (z : MDescription). length z.nonterminals) c.description.ensures.value in
     let room = c.requires.nodes in
     let enough = c.requires.nonterminals in
-    let F : List Rule → Type 0 = λ rs. AreRules rs w in
+    let F : List Rule → Type 0 = λ rs. AreRules rs board.nonterminals in
     subst F (sym c.rules.ensures.value)
-    (are_rules d w c.rules.ensures.is (omega arith) (narrow_rows w (length c.cells.inside.rows.items) tree c.cells.invariant.small (omega arith)))
+    (are_rules d board.nonterminals c.rules.ensures.is (omega arith) (narrow_rows board.nonterminals (length board.rows) tree c.cells.invariant.small (omega arith)))
 
 pub label_at-requires-clause-small : goal.label_at-requires-clause-small
 label_at-requires-clause-small g c =
-    let w = c.cells.inside.width in
-    let tree = g.N.TreeNode.tree c.args.tree.now in
-    let wide = ap (λ (k : MCells). k.nonterminals) c.cells.view_is in
+    let board = c.cells.inside.board in
     let many = ap (λ (k : MCells). length k.rows) c.cells.view_is in
-    let names = ap (λ (z : MDescription). length z.nonterminals) c.description.ensures in
     let room = c.requires.nodes in
-    let enough = c.requires.nonterminals in
-    let start = c.rules.ensures.is.start in
-    small_area w (length c.cells.inside.rows.items) tree c.cells.invariant.small (omega arith) (omega arith)
+    small_area board.nonterminals (length board.rows) (g.N.TreeNode.tree c.args.tree.now) c.cells.invariant.small (omega arith)
 
 pub returns-clause-steps : goal.returns-clause-steps
 returns-clause-steps g c =
     let d = c.args.t.now in
     let tree = g.N.TreeNode.tree c.args.tree.now in
     let tried = c.label_at.ensures.trials in
-    let same : c.rules.result.now ≡ d.rules = c.rules.ensures.value ∙ ap (λ (z : MDescription). z.rules) c.description.ensures in
+    let same : c.rules.result.now ≡ d.rules = c.rules.ensures.value ∙ ap (λ (z : MDescription). z.rules) c.description.ensures.value in
     let Most : List Rule → Type 0 = λ rules. tried.0 ≤ nodes tree * length rules in
     step_bound c.args.steps.now c.label_at.new.steps tried.0 (nodes tree) (length d.rules) (length d.nonterminals * chain_rules d.rules) (subst Most same (most_trials c.rules.result.now tree tried.0 tried.1)) tried.2

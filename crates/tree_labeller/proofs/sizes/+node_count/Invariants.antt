@@ -1,4 +1,4 @@
-use Rattle.lburg_grammar.specs.Tree.{nodes}
+use Rattle.lburg_model.specs.Tree.{nodes}
 use Rattle.tree_labeller.proofs.sizes.+node_count.Given as goal
 
 abbrev pub decreases-node_count : goal.decreases-node_count

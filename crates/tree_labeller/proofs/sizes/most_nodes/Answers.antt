@@ -2,7 +2,7 @@ use Rattle.std.proofs.Common.{◌≤◌, List, length, take, ap, subst, rules, a
 use Rattle.std.specs.Prelude.{All}
 use Rattle.std.proofs.lemmas.List.{take_all}
 use Rattle.std.proofs.lemmas.List.Elements.{All-weaker, All-more}
-use Rattle.lburg_grammar.specs.Tree.{nodes}
+use Rattle.lburg_model.specs.Tree.{nodes}
 use Rattle.tree_labeller.proofs.sizes.most_nodes.Goals as goal
 
 pub loop-tree-preserved : goal.loop-tree-preserved

@@ -1,6 +1,6 @@
 use Rattle.std.proofs.Common.{◌^◌, ◌≤◌, take}
 use Rattle.std.specs.Prelude.{All}
-use Rattle.lburg_grammar.specs.Tree.{nodes}
+use Rattle.lburg_model.specs.Tree.{nodes}
 use Rattle.tree_labeller.proofs.sizes.most_nodes.Given as goal
 
 abbrev pub invariant-loop-tree : goal.invariant-loop-tree

@@ -1,0 +1,4 @@
+pub mod Runs
+pub mod Reduced
+pub mod Built
+pub mod AreBest

@@ -1,0 +1,44 @@
+use Rattle.std.proofs.Common.{◌≡◌, ◌*◌, List, length, refl, sym, ap, ◌∙◌, arith}
+use Rattle.std.specs.Prelude.{slice_set}
+use Rattle.std.proofs.lemmas.List.{with_items_is}
+use Rattle.tree_labeller.specs.declared.cell.Cell.{Cell}
+use Rattle.tree_labeller.specs.MCells.{MCells}
+use Rattle.tree_labeller.specs.Rows.{row_of, rows_of, with_row}
+use Rattle.tree_labeller.proofs.FlatRows.{room_is, row_within, row_stored}
+use Rattle.tree_labeller.proofs.board.Board.store.Goals as goal
+
+pub overflow_mul-at : goal.overflow_mul-at
+overflow_mul-at c =
+    let b = c.self.inside in
+    let many = room_is c.args.self.now b.width b.ends.items b.cells.items (sym c.self.view_is) in
+    let small = c.self.invariant.small in
+    let inside = row_within b.width (length b.ends.items) c.args.at (omega arith) in
+    omega arith
+
+pub copy_row-requires : goal.copy_row-requires
+copy_row-requires c =
+    let b = c.self.inside in
+    let many = room_is c.args.self.now b.width b.ends.items b.cells.items (sym c.self.view_is) in
+    let inside = row_within b.width (length b.ends.items) c.args.at (omega arith) in
+    let cells = c.self.invariant.many in
+    let wide = ap (λ (z : MCells). z.nonterminals) c.self.view_is in
+    let row = c.requires.wide in
+    let same = ap (λ (l : List Cell). length l) c.deref_mut.ensures.value in
+    omega arith
+
+pub index_mut-requires : goal.index_mut-requires
+index_mut-requires c = let b = c.self.inside in let many = room_is c.args.self.now b.width b.ends.items b.cells.items (sym c.self.view_is) in omega arith
+
+pub returns-clause-rows : goal.returns-clause-rows
+returns-clause-rows c =
+    let b = c.self.inside in
+    let many = room_is c.args.self.now b.width b.ends.items b.cells.items (sym c.self.view_is) in
+    let wide = ap (λ (z : MCells). z.nonterminals) c.self.view_is in
+    let row = c.args.row.now in
+    let stored = row_stored b.width b.ends.items b.cells.items row c.args.at c.args.end (c.args.at * b.width) refl (omega arith) (omega arith) c.self.invariant.many in
+    let ends = slice_set b.ends.items c.args.at c.args.end in
+    let start = c.args.at * b.width in
+    let items = with_items_is b.cells c.copy_row.new.cells (c.copy_row.auto.cells ∙ c.deref_mut.ensures.len) in
+    let within : length row ≡ b.width = omega arith in
+    let cells = c.copy_row.ensures ∙ ap (λ (l : List Cell). with_row start (length row) l row) c.deref_mut.ensures.value ∙ ap (λ k. with_row start k b.cells.items row) within in
+    ap (rows_of b.width ends) (items ∙ cells) ∙ stored ∙ ap (λ (z : MCells). slice_set z.rows c.args.at (record { end = c.args.end; cells = row_of row })) c.self.view_is
