@@ -14,7 +14,7 @@ use Rattle.lcc_top.specs.Outcome.{refusal_status, refusal_line, status_of, line_
 use Rattle.lcc_top.specs.Commands.{AreWordsOf, Writes, Refuses, Accepts}
 use Rattle.lcc_top.specs.Call.{Call, ReadAll, Asked, Done, InputRefused, IsCaused, IsFree, NoFault}
 use Rattle.lcc_top.specs.Answers.{IsEndStatus, HasDone, IsTold}
-use Rattle.lcc_top.proofs.CommandLaws.{CoverLaws, one_command, apart, one_refusal}
+use Rattle.lcc_top.proofs.CommandLaws.{TextLaws, one_command, apart, one_refusal}
 
 -- ---- what was read
 
@@ -85,7 +85,7 @@ done_or_memory c call outcome.InputTooLong bytes report report_after h words is 
 -- ---- refusals
 
 -- nothing is written for a refused input
-pub refused_kept : CoverLaws → (c : Command) (call : Call) (o : Outcome) (bytes : List ℕ) (why : Refusal) → IsCaused call o → AreWordsOf c call.words → call.left ≡ Some bytes → Refuses c bytes why → Keeps call.taken call.taken_after
+pub refused_kept : TextLaws → (c : Command) (call : Call) (o : Outcome) (bytes : List ℕ) (why : Refusal) → IsCaused call o → AreWordsOf c call.words → call.left ≡ Some bytes → Refuses c bytes why → Keeps call.taken call.taken_after
 refused_kept laws c call (outcome.Done end) bytes why h words is refuses = absurd (apart laws c bytes h.text end why (its_text c call bytes h.text h.command h.input end h.asked h.writes words is) refuses)
 refused_kept laws c call (outcome.Refused other) bytes why h words is refuses = h.nothing
 refused_kept laws c call outcome.Usage bytes why h words is refuses = h.nothing
@@ -99,7 +99,7 @@ told_so why other report report_after same told =
     record { answered = ap refusal_status same; reported = subst (λ r. Appends report report_after (refusal_line r)) same told }
 
 -- and the refusal is told
-pub told_or_free : CoverLaws → (c : Command) (call : Call) (o : Outcome) (bytes : List ℕ) (why : Refusal) (report report_after : Option (List ℕ)) → IsCaused call o → AreWordsOf c call.words → call.left ≡ Some bytes → length bytes ≤ 16777216 → Refuses c bytes why → NoFault call.read_faults call.read_faults_after → Appends report report_after (line_of o) → IsTold why report report_after (status_of o) ⊎ IsFree (status_of o)
+pub told_or_free : TextLaws → (c : Command) (call : Call) (o : Outcome) (bytes : List ℕ) (why : Refusal) (report report_after : Option (List ℕ)) → IsCaused call o → AreWordsOf c call.words → call.left ≡ Some bytes → length bytes ≤ 16777216 → Refuses c bytes why → NoFault call.read_faults call.read_faults_after → Appends report report_after (line_of o) → IsTold why report report_after (status_of o) ⊎ IsFree (status_of o)
 told_or_free laws c call (outcome.Done end) bytes why report report_after h words is small refuses fine told = absurd (apart laws c bytes h.text end why (its_text c call bytes h.text h.command h.input end h.asked h.writes words is) refuses)
 told_or_free laws c call (outcome.Refused other) bytes why report report_after h words is small refuses fine told =
     inl (told_so why other report report_after (one_refusal laws c bytes other why (its_refusal c call bytes other h words is) refuses) told)

@@ -1,9 +1,9 @@
 -- Lines of a cover, one more at the end.
 use Rattle.std.proofs.Common.{◌≡◌, ℕ, ◌+◌, ◌<◌, List, [], ◌∷◌, ◌++◌, length, take, get_or, refl, sym, ap, subst, ◌∙◌, append_assoc, append-nil, arith}
 use Rattle.std.proofs.lemmas.List.{take_more, length-take}
-use Rattle.lburg_grammar.specs.Tree.{MTree}
-use Rattle.lburg_grammar.specs.Description.{MDescription}
-use Rattle.lburg_grammar.specs.CoverText.{IsCoverLine, AreCoverLines}
+use Rattle.lburg_model.specs.Tree.{MTree}
+use Rattle.lburg_model.specs.Description.{MDescription}
+use Rattle.lburg_model.specs.CoverText.{IsCoverLine, AreCoverLines}
 
 line_at_end : (d : MDescription) (k j : ℕ) (ts : List MTree) (t : MTree) (text line : List ℕ) (n here : ℕ) → j ≡ k + length ts → AreCoverLines d k ts text n → IsCoverLine d j t line here → AreCoverLines d k (ts ++ t ∷ []) (text ++ line) (n + here)
 line_at_end d k j [] t text line n here e (is, none) h =

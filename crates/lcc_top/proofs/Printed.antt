@@ -1,9 +1,9 @@
 -- What several prints add, one after another.
 use Rattle.std.proofs.Common.{◌≡◌, ℕ, false, List, [], ◌∷◌, ◌++◌, map, sym, ap, subst, ◌∙◌, append_assoc, append-nil}
 use Rattle.std.specs.Prelude.{codes, decimal}
-use Rattle.lburg_grammar.specs.Tree.{MTree}
-use Rattle.lburg_grammar.specs.CoverText.{spaced}
-use Rattle.tree_labeller.specs.Runs.{Runs}
+use Rattle.lburg_model.specs.Tree.{MTree}
+use Rattle.lburg_model.specs.CoverText.{spaced}
+use Rattle.reducer.specs.Runs.{Runs}
 use Rattle.lcc_top.specs.declared.printer.Printer.{Printer}
 use Rattle.lcc_top.specs.Printing.{Adds, AddsNumber}
 

@@ -1,16 +1,18 @@
 -- The commands: what each does, and what is said of them all.
 use Rattle.std.specs.Prelude.{ℕ, List}
 use Rattle.lcc_top.specs.declared.words.Command.{Command}
-use Rattle.lcc_top.specs.declared.words.Command.TheVariants.{Cover, Simrun, Rcc}
+use Rattle.lcc_top.specs.declared.words.Command.TheVariants.{Cover, Tables, Simrun, Rcc}
 use Rattle.lcc_top.specs.declared.outcome.End.{End}
 use Rattle.lcc_top.specs.declared.outcome.Refusal.{Refusal}
 use Rattle.lcc_top.specs.Behaviour.{Behaviour}
 use Rattle.lcc_top.specs.Cover.{cover_behaviour}
+use Rattle.lcc_top.specs.Tables.{tables_behaviour}
 use Rattle.lcc_top.specs.Simulation.{simrun_behaviour}
 use Rattle.lcc_top.specs.Compilation.{rcc_behaviour}
 
 abbrev pub behaviour_of : Command → Behaviour
 behaviour_of Cover = cover_behaviour
+behaviour_of Tables = tables_behaviour
 behaviour_of Simrun = simrun_behaviour
 behaviour_of Rcc = rcc_behaviour
 

@@ -1,19 +1,19 @@
 -- What `lburg cover` makes of the bytes of its input.
 use Rattle.std.specs.Prelude.{◌≡◌, ◌<◌, ◌⊎◌, ℕ, [], ◌∷◌, List, codes}
-use Rattle.lburg_grammar.specs.Tree.{MTree}
-use Rattle.lburg_grammar.specs.Description.{MDescription}
-use Rattle.lburg_grammar.specs.CoverText.{IsCoverText}
+use Rattle.lburg_model.specs.Tree.{MTree}
+use Rattle.lburg_model.specs.Description.{MDescription}
+use Rattle.lburg_model.specs.CoverText.{IsCoverText}
 use Rattle.lburg_faults.specs.declared.desc_fault.DescFault.{DescFault}
 use Rattle.lburg_faults.specs.FirstFault.{FirstFault}
 use Rattle.lburg_trees.specs.declared.tree_fault.TreeFault.{TreeFault}
 use Rattle.lburg_trees.specs.FirstFault.{FirstFault as FirstTreeFault}
 use Rattle.lburg_trees.specs.TailText.{IsTail}
-use Rattle.lburg_text.specs.DescriptionText.{IsText}
+use Rattle.lburg_grammar.specs.DescriptionText.{IsText}
 use Rattle.lcc_top.specs.declared.outcome.End.{End}
 use Rattle.lcc_top.specs.declared.outcome.End.TheVariants as ends
 use Rattle.lcc_top.specs.declared.outcome.Refusal.{Refusal}
-use Rattle.lcc_top.specs.declared.cover_fault.CoverFault.TheVariants.{Refused}
-use Rattle.lcc_top.specs.CoverFaults.{of_description, of_trees}
+use Rattle.lcc_top.specs.declared.text_fault.TextFault.TheVariants.{Refused}
+use Rattle.lcc_top.specs.TextFaults.{of_description, of_trees}
 use Rattle.lcc_top.specs.Behaviour.{Behaviour}
 
 -- lburg cover

@@ -1,12 +1,13 @@
 pub mod Behaviour
 pub mod Cover
+pub mod Tables
 pub mod Simulation
 pub mod Compilation
 pub mod Room
 pub mod Commands
 pub mod Status
 pub mod FaultName
-pub mod CoverFaults
+pub mod TextFaults
 pub mod Outcome
 pub mod InputFaults
 pub mod Work

@@ -1,8 +1,8 @@
 -- What a printer printed.
 use Rattle.std.specs.Prelude.{◌≡◌, false, ℕ, List, ◌++◌, codes, decimal}
-use Rattle.lburg_grammar.specs.Tree.{MTree}
-use Rattle.lburg_grammar.specs.Description.{MDescription}
-use Rattle.lburg_grammar.specs.CoverText.{IsCoverLine}
+use Rattle.lburg_model.specs.Tree.{MTree}
+use Rattle.lburg_model.specs.Description.{MDescription}
+use Rattle.lburg_model.specs.CoverText.{IsCoverLine}
 use Rattle.lcc_top.specs.declared.printer.Printer.{Printer}
 
 -- where no allocation was refused, the text has these bytes more

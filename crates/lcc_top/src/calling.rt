@@ -16,16 +16,17 @@ use crate::outcome::status;
 use crate::report::write_line;
 use crate::status::Status;
 use crate::work::run;
-use lburg_text::{one_description, one_fault, one_tree_fault};
+use lburg_grammar::{one_description, one_fault, one_tree_fault};
 use lcc_base::{Failed, Sink, Source};
 use std::alloc::Global;
 
 /// All the work of the program: does what the words behind the program's name ask, with the
 /// input, the output and the report that it is given.
 ///
-/// It knows three commands so far. `lburg cover` reads a description with trees in its tail, at most
+/// It knows four commands so far. `lburg cover` reads a description with trees in its tail, at most
 /// 16,777,216 bytes, and writes a line for each tree: its least-cost derivation from the start
-/// symbol, or that it has none. `simrun --target mipseb` reads MIPS assembly and runs it, for
+/// symbol, or that it has none. `lburg tables` reads a description, whatever its tail is, and writes the
+/// text of its tables. `simrun --target mipseb` reads MIPS assembly and runs it, for
 /// 10,000,000 steps in big-endian order with a stack of 1,048,576 bytes; what it prints is written.
 /// `rcc --target mipseb` reads a program of the first form of C and writes its MIPS assembly.
 /// Nothing is written before all memory is taken. The report takes one line that tells how the

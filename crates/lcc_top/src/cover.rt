@@ -1,30 +1,30 @@
 ghost use Rattle.std.specs.Prelude.{◌≡◌, ◌+◌, ◌<◌, ◌≤◌, ◌-◌, All, length, IfOk, IfErr, IsErrOf};
-ghost use Rattle.lburg_grammar.specs.Tree.{nodes};
-ghost use Rattle.lburg_grammar.specs.CoverText.{IsCoverText, no_cover_line};
-ghost use Rattle.lburg_grammar.specs.Derivation.{MDerivation, cost};
-ghost use Rattle.lburg_grammar.specs.Best.{IsBest};
-ghost use Rattle.lburg_text.specs.DescriptionText.{IsText};
+ghost use Rattle.lburg_model.specs.Tree.{nodes};
+ghost use Rattle.lburg_model.specs.CoverText.{IsCoverText, no_cover_line};
+ghost use Rattle.lburg_model.specs.Derivation.{MDerivation, cost};
+ghost use Rattle.lburg_model.specs.Best.{IsBest};
+ghost use Rattle.lburg_grammar.specs.DescriptionText.{IsText};
 ghost use Rattle.tree_labeller.specs.IsLabelled.{IsLabelled};
 ghost use Rattle.tree_labeller.specs.MCells.{room, HasRoom};
 ghost use Rattle.lcc_top.specs.Printing.{Adds, AddsNumber, AddsLine};
 ghost use Rattle.lcc_top.specs.Cover.{IsCover, CoverEnds, RefusesTail, RefusesCover};
 ghost use Rattle.lcc_top.specs.Work.{IsWorked};
-ghost use Rattle.lcc_top.specs.declared.cover_fault.CoverFault.TheVariants.{Refused, Memory};
+ghost use Rattle.lcc_top.specs.declared.text_fault.TextFault.TheVariants.{Refused, Memory};
 ghost use Rattle.lcc_top.specs.declared.outcome.Refusal.{Refusal as Refusals};
 
-use crate::cover_fault::CoverFault;
 use crate::outcome::{End, Outcome};
 use crate::printer::Printer;
+use crate::text_fault::TextFault;
 use crate::words::Command;
 use crate::writing::write_text;
-use lburg_grammar::{Description, TextTree, TreeNode};
-use lburg_text::read;
-use lburg_trees::read_trees;
+use lburg_grammar::{Description, TextTree, TreeNode, read, read_trees};
+use lburg_tables::{Tables, build};
 use lcc_base::{Bytes, Sink, Steps};
+use reducer::{Cost, Visitor, best, reduce};
 use std::alloc::Global;
 use std::marker::Brand;
 use std::sync::ledger::{Blank, Ledger};
-use tree_labeller::{Cells, Cost, Tables, Visitor, best, build, label, most_nodes, reduce};
+use tree_labeller::{Cells, label, most_nodes};
 
 /// The text of a cover, and how many trees have no derivation.
 #[derive(Drop)]
@@ -106,7 +106,7 @@ fn cover_trees<L: Ledger>(
     trees: &[TextTree],
     cells: &mut Cells,
     steps: &mut Steps<L>,
-) -> Result<Cover, CoverFault>
+) -> Result<Cover, TextFault>
     requires nodes { All (λ t. nodes t ≤ room cells.old) trees.now }
     requires nonterminals { length tables.now.nonterminals ≤ cells.old.nonterminals }
     ensures found { IfOk result (λ c. IsCoverText tables.now trees.now c.text c.uncovered) }
@@ -121,7 +121,7 @@ fn cover_trees<L: Ledger>(
     }
     let Printer { text, is_refused } = printer;
     if is_refused {
-        return Err(CoverFault::Memory);
+        return Err(TextFault::Memory);
     }
     Ok(Cover { text, uncovered })
 }
@@ -132,7 +132,7 @@ fn cover_all<L: Ledger>(
     blank: Blank,
     description: &Description,
     trees: &[TextTree],
-) -> Result<Cover, CoverFault>
+) -> Result<Cover, TextFault>
     requires name { blank.name ≡ L.name }
     requires parts { blank.parts ≡ L.parts }
     requires some { 0 < blank.parts }
@@ -148,7 +148,7 @@ fn cover_all<L: Ledger>(
 }
 
 /// The cover of the trees in the tail of a description's text.
-fn cover_tail(alloc: Global, description: &Description, input: &[u8]) -> Result<Cover, CoverFault>
+fn cover_tail(alloc: Global, description: &Description, input: &[u8]) -> Result<Cover, TextFault>
     requires text { IsText description.now input.now }
     requires within { length input.now ≤ 16777216 }
     ensures found { IfOk result (λ c. IsCover input.now c.text c.uncovered) }
@@ -159,7 +159,7 @@ fn cover_tail(alloc: Global, description: &Description, input: &[u8]) -> Result<
 }
 
 /// The cover that a description's text with a tail of trees asks for.
-pub(crate) fn cover_text(alloc: Global, input: &[u8]) -> Result<Cover, CoverFault>
+pub(crate) fn cover_text(alloc: Global, input: &[u8]) -> Result<Cover, TextFault>
     requires { length input.now ≤ 16777216 }
     ensures found { IfOk result (λ c. IsCover input.now c.text c.uncovered) }
     ensures refused { (why : Refusals) → IsErrOf result (Refused why) → RefusesCover input.now why }
@@ -187,7 +187,7 @@ pub(crate) fn cover_input<K: Sink>(alloc: Global, input: &[u8], output: &mut K) 
 {
     match cover_text(alloc, input) {
         Ok(cover) => write_text(cover.text.as_slice(), end_of(cover.uncovered), output),
-        Err(CoverFault::Refused(why)) => Outcome::Refused(why),
-        Err(CoverFault::Memory) => Outcome::Memory,
+        Err(TextFault::Refused(why)) => Outcome::Refused(why),
+        Err(TextFault::Memory) => Outcome::Memory,
     }
 }

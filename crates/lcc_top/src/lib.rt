@@ -3,7 +3,6 @@
 
 mod calling;
 mod cover;
-mod cover_fault;
 mod fault_name;
 mod input_fault;
 mod outcome;
@@ -12,6 +11,8 @@ mod rcc;
 mod report;
 mod simulate;
 mod status;
+mod tables;
+mod text_fault;
 mod words;
 mod work;
 mod writing;

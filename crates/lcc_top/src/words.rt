@@ -1,5 +1,6 @@
 ghost use Rattle.std.specs.Prelude.{◌≡◌, ◌↔◌, IsTrue, IfSome, IfNone, map, string_bytes};
 ghost use Rattle.lcc_top.specs.Cover.{AreCover};
+ghost use Rattle.lcc_top.specs.Tables.{AreTables};
 ghost use Rattle.lcc_top.specs.Simulation.{AreSimrun};
 ghost use Rattle.lcc_top.specs.Compilation.{AreRcc};
 ghost use Rattle.lcc_top.specs.Commands.{AreWordsOf, AreAccepted};
@@ -9,6 +10,8 @@ ghost use Rattle.lcc_top.specs.Commands.{AreWordsOf, AreAccepted};
 pub(crate) enum Command {
     /// `lburg cover`
     Cover,
+    /// `lburg tables`
+    Tables,
     /// `simrun --target mipseb`
     Simrun,
     /// `rcc --target mipseb`
@@ -26,6 +29,13 @@ fn are_cover(words: &[String]) -> bool
     ensures { IsTrue result ↔ AreCover (map string_bytes words.now) }
 {
     words.len() == 2 && is(&words[0], "lburg") && is(&words[1], "cover")
+}
+
+#[tactic(auto, using(crate::proofs::SomeWords::two_words))]
+fn are_tables(words: &[String]) -> bool
+    ensures { IsTrue result ↔ AreTables (map string_bytes words.now) }
+{
+    words.len() == 2 && is(&words[0], "lburg") && is(&words[1], "tables")
 }
 
 #[tactic(auto, using(crate::proofs::SomeWords::three_words))]
@@ -52,6 +62,9 @@ pub(crate) fn command_of(words: &[String]) -> Option<Command>
 {
     if are_cover(words) {
         return Some(Command::Cover);
+    }
+    if are_tables(words) {
+        return Some(Command::Tables);
     }
     if are_simrun(words) {
         return Some(Command::Simrun);

@@ -6,6 +6,7 @@ use crate::cover::cover_input;
 use crate::outcome::Outcome;
 use crate::rcc::compile_input;
 use crate::simulate::run_input;
+use crate::tables::tables_input;
 use crate::words::{Command, command_of};
 use lcc_base::{ReadEnd, Sink, Source, read_all};
 use std::alloc::Global;
@@ -21,6 +22,7 @@ fn work<K: Sink>(alloc: Global, command: Command, input: &[u8], output: &mut K) 
 {
     match command {
         Command::Cover => cover_input(alloc, input, output),
+        Command::Tables => tables_input(alloc, input, output),
         Command::Simrun => run_input(alloc, input, output),
         Command::Rcc => compile_input(alloc, input, output),
     }

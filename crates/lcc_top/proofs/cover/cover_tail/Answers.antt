@@ -1,6 +1,6 @@
 use Rattle.std.proofs.Common.{List, sym, subst}
 use Rattle.std.specs.Prelude.{All, ◌≤◌}
-use Rattle.lburg_grammar.specs.Tree.{MTree, nodes}
+use Rattle.lburg_model.specs.Tree.{MTree, nodes}
 use Rattle.lcc_top.proofs.Refused.{never_refused, tail_told}
 use Rattle.lcc_top.proofs.Tails.{tail_small}
 use Rattle.lcc_top.proofs.cover.cover_tail.Goals as goal

@@ -1,5 +1,5 @@
 use Rattle.std.proofs.Common.{◌≡◌, ◌+◌, ◌≤◌, false, take}
-use Rattle.lburg_grammar.specs.CoverText.{AreCoverLines}
+use Rattle.lburg_model.specs.CoverText.{AreCoverLines}
 use Rattle.tree_labeller.specs.MCells.{room}
 use Rattle.lcc_top.proofs.cover.cover_trees.Given as goal
 

@@ -1,7 +1,7 @@
 use Rattle.std.proofs.Common.{◌≡◌, ℕ, List, refl, ap, subst, ◌∙◌, inl}
-use Rattle.lburg_grammar.specs.Derivation.{MDerivation, cost, numbers, applied}
-use Rattle.lburg_grammar.specs.CoverText.{spaced, cost_line}
-use Rattle.lburg_grammar.specs.Laws.{numbers_applied, one_best}
+use Rattle.lburg_model.specs.Derivation.{MDerivation, cost, numbers, applied}
+use Rattle.lburg_model.specs.CoverText.{spaced, cost_line}
+use Rattle.lburg_model.specs.Laws.{numbers_applied, one_best}
 use Rattle.lcc_top.specs.Printing.{Adds}
 use Rattle.lcc_top.proofs.Printed.{adds_then, run_adds}
 use Rattle.lcc_top.proofs.cover.print_covered.Goals as goal

@@ -1,17 +1,16 @@
 ghost use Rattle.std.specs.Prelude.{◌≡◌};
-ghost use Rattle.lcc_top.specs.CoverFaults.{of_description, of_trees};
-ghost use Rattle.lcc_top.specs.declared.cover_fault.CoverFault.TheVariants as fault;
+ghost use Rattle.lcc_top.specs.TextFaults.{of_description, of_trees};
+ghost use Rattle.lcc_top.specs.declared.text_fault.TextFault.TheVariants as fault;
 
 use crate::fault_name::FaultName;
 use crate::outcome::Refusal;
-use lburg_text::DescFault;
-use lburg_trees::TreeFault;
+use lburg_grammar::{DescFault, TreeFault};
 use lcc_base::{Memory, Which};
 use thiserror::Error;
 
-/// Why a text has no cover.
+/// Why nothing is made of a description's text with its tail.
 #[derive(Clone, Copy, Debug, PartialEq, Eq, Error)]
-pub(crate) enum CoverFault {
+pub(crate) enum TextFault {
     /// It is refused.
     #[error("the text is refused")]
     Refused(Refusal),
@@ -21,28 +20,28 @@ pub(crate) enum CoverFault {
 }
 
 /// The refusal of a fault in a line.
-fn at(line: u32, name: FaultName) -> CoverFault
+fn at(line: u32, name: FaultName) -> TextFault
     ensures { result ≡ fault.Refused (Refusal.Fault line name) }
 {
-    CoverFault::Refused(Refusal::Fault { line, name })
+    TextFault::Refused(Refusal::Fault { line, name })
 }
 
 /// The refusal of a limit that is passed in a line.
-fn past(line: u32, which: Which) -> CoverFault
+fn past(line: u32, which: Which) -> TextFault
     ensures { result ≡ fault.Refused (Refusal.Limit line which) }
 {
-    CoverFault::Refused(Refusal::Limit { line, which })
+    TextFault::Refused(Refusal::Limit { line, which })
 }
 
-impl From<Memory> for CoverFault {
+impl From<Memory> for TextFault {
     ghost from_gives = { λ _ e. e ≡ fault.Memory };
 
     fn from(_: Memory) -> Self {
-        CoverFault::Memory
+        TextFault::Memory
     }
 }
 
-impl From<DescFault> for CoverFault {
+impl From<DescFault> for TextFault {
     ghost from_gives = { λ why e. e ≡ of_description why };
 
     fn from(why: DescFault) -> Self {
@@ -56,12 +55,12 @@ impl From<DescFault> for CoverFault {
             DescFault::CostForm { line } => at(line, FaultName::CostForm),
             DescFault::CostTooLarge { line } => at(line, FaultName::CostTooLarge),
             DescFault::Limit { line, which } => past(line, which),
-            DescFault::Memory => CoverFault::Memory,
+            DescFault::Memory => TextFault::Memory,
         }
     }
 }
 
-impl From<TreeFault> for CoverFault {
+impl From<TreeFault> for TextFault {
     ghost from_gives = { λ why e. e ≡ of_trees why };
 
     fn from(why: TreeFault) -> Self {
@@ -71,7 +70,7 @@ impl From<TreeFault> for CoverFault {
             TreeFault::WrongArity { line } => at(line, FaultName::WrongArity),
             TreeFault::TooLarge { line } => past(line, Which::Nodes),
             TreeFault::TooHigh { line } => past(line, Which::Height),
-            TreeFault::Memory => CoverFault::Memory,
+            TreeFault::Memory => TextFault::Memory,
         }
     }
 }

@@ -7,10 +7,10 @@ use Rattle.lburg_trees.specs.declared.tree_fault.TreeFault.{TreeFault}
 use Rattle.lburg_trees.specs.declared.tree_fault.TreeFault.TheVariants as tree
 use Rattle.lcc_top.specs.declared.fault_name.FaultName.TheVariants as name
 use Rattle.lcc_top.specs.declared.outcome.Refusal.TheVariants.{Fault, Limit}
-use Rattle.lcc_top.specs.declared.cover_fault.CoverFault.{CoverFault}
-use Rattle.lcc_top.specs.declared.cover_fault.CoverFault.TheVariants.{Refused, Memory}
+use Rattle.lcc_top.specs.declared.text_fault.TextFault.{TextFault}
+use Rattle.lcc_top.specs.declared.text_fault.TextFault.TheVariants.{Refused, Memory}
 
-abbrev pub of_description : DescFault → CoverFault
+abbrev pub of_description : DescFault → TextFault
 of_description (description.BadToken n) = Refused (Fault n name.BadToken)
 of_description (description.BadRule n) = Refused (Fault n name.BadRule)
 of_description (description.UnknownTerminal n) = Refused (Fault n name.UnknownTerminal)
@@ -22,7 +22,7 @@ of_description (description.CostTooLarge n) = Refused (Fault n name.CostTooLarge
 of_description (description.Limit n passed) = Refused (Limit n passed)
 of_description description.Memory = Memory
 
-abbrev pub of_trees : TreeFault → CoverFault
+abbrev pub of_trees : TreeFault → TextFault
 of_trees (tree.BadTree n) = Refused (Fault n name.BadTree)
 of_trees (tree.UnknownOp n) = Refused (Fault n name.UnknownOp)
 of_trees (tree.WrongArity n) = Refused (Fault n name.WrongArity)
