@@ -1,0 +1,5 @@
+use Rattle.asm_lines.proofs.OneStatement.{one, apart, one_fault}
+use Rattle.asm_lines.proofs.laws.one_statement.Goals as goal
+
+pub returns : goal.returns
+returns c = record { one = one; apart = apart; fault = one_fault }

@@ -1,0 +1,7 @@
+use Rattle.std.proofs.lemmas.Result.{on_ok_weaker}
+use Rattle.asm_lines.specs.Statements.{told}
+use Rattle.asm_lines.proofs.Printed.{statement_back}
+use Rattle.asm_lines.proofs.printing.print_statement.Goals as goal
+
+pub returns-clause-read_back : goal.returns-clause-read_back
+returns-clause-read_back c = on_ok_weaker c.push.result (λ e p. statement_back (told c.args.statement.now) c.in_ok-add_statement.ensures.within p) c.push.ensures.ok

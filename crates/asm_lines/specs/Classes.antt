@@ -1,0 +1,10 @@
+-- The kinds of bytes that assembly has beside decimal digits. Letters and digits are ASCII's.
+use Rattle.std.specs.Prelude.{ℕ, Bool, ◌||◌, ◌==◌}
+use Rattle.std.specs.Char.{is_ascii_digit, is_ascii_alphabetic, is_ascii_hexdigit}
+use Rattle.asm_lines.specs.declared.class.AsmClass.{AsmClass}
+use Rattle.asm_lines.specs.declared.class.AsmClass.TheVariants.{Space, Symbol, HexDigit}
+
+abbrev pub in_asm : AsmClass → ℕ → Bool
+in_asm Space b = b == 32 || b == 9
+in_asm Symbol b = ((is_ascii_alphabetic b || is_ascii_digit b) || b == 95) || b == 46
+in_asm HexDigit b = is_ascii_hexdigit b

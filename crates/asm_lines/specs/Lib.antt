@@ -1,0 +1,12 @@
+pub mod Classes
+pub mod Tokens
+pub mod Spelling
+pub mod Numbers
+pub mod Words
+pub mod Operands
+pub mod Statements
+pub mod KnownWords
+pub mod Printed
+pub mod Within
+pub mod Printable
+pub mod ReadBack
