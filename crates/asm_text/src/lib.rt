@@ -1,40 +1,34 @@
-//! Texts of assembly: the programs that they make, the lines of which they are printed, and what a machine answers.
+//! Assembly texts: lines, the programs that they make, and what a machine answers.
 #![tactic(auto)]
 
-mod adding;
-mod addresses;
 mod asm_fault;
-mod assembly;
-mod datum;
-mod finishing;
+mod assembling;
+mod class;
+mod fitting;
+mod instruction;
 mod isa;
-mod labels;
-mod laws;
-mod line_adding;
-mod lines;
-mod linking;
-mod name_table;
-mod naming;
-mod place;
+mod lexing;
+mod line;
+mod line_reader;
+mod mnemonic;
+mod operand_reader;
 mod printing;
 mod program;
 mod reading;
+mod register;
+mod row_reader;
 mod running;
-mod uses;
+mod statement_reader;
+mod token;
 
-pub use addresses::{CODE_START, DATA_START, END_AT, EXIT_AT, GETCHAR_AT, PUTCHAR_AT, STACK_TOP};
 pub use asm_fault::AsmFault;
-pub use asm_lines::{
-    Address, BinaryOp, Condition, Instruction, Item, LoadOp, Register, Statement, StoreOp, Target,
-    UnaryOp, Value,
-};
+pub use instruction::{Address, BinaryOp, Instruction, LoadOp, Operand, StoreOp, Target, UnaryOp};
 pub use isa::Isa;
-pub use laws::{one_fault, one_program};
-pub use lines::Lines;
-pub use linking::Linked;
+pub use line::{Directive, Line, Lines, Statement};
 pub use printing::print;
-pub use program::Program;
+pub use program::{Label, Program};
 pub use reading::read;
+pub use register::Register;
 pub use running::{Input, Step, StuckCause};
 
 #[cfg(test)]

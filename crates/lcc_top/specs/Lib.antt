@@ -1,8 +1,6 @@
 pub mod Behaviour
 pub mod Cover
 pub mod Tables
-pub mod RunWords
-pub mod InputMark
 pub mod Simulation
 pub mod Compilation
 pub mod Room

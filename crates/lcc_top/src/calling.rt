@@ -3,10 +3,9 @@ ghost use Rattle.std.specs.Io.KnownBytes.{Keeps};
 ghost use Rattle.lcc_base.specs.Faults.{Rose};
 ghost use Rattle.lcc_top.specs.declared.words.Command.{Command};
 ghost use Rattle.lcc_top.specs.declared.outcome.Refusal.{Refusal};
-ghost use Rattle.lcc_top.specs.declared.run_options.RunOptions.{RunOptions};
 ghost use Rattle.lcc_top.specs.declared.outcome.Outcome.{Outcome};
 ghost use Rattle.lcc_top.specs.Cover.{AreCover};
-ghost use Rattle.lcc_top.specs.RunWords.{AreSimrun};
+ghost use Rattle.lcc_top.specs.Simulation.{AreSimrun};
 ghost use Rattle.lcc_top.specs.Compilation.{AreRcc};
 ghost use Rattle.lcc_top.specs.Commands.{AreWordsOf, Refuses, Accepts, AreAccepted};
 ghost use Rattle.lcc_top.specs.Call.{Call, IsCaused, IsReported, IsFree, NoFault};
@@ -27,10 +26,8 @@ use std::alloc::Global;
 /// It knows four commands so far. `lburg cover` reads a description with trees in its tail, at most
 /// 16,777,216 bytes, and writes a line for each tree: its least-cost derivation from the start
 /// symbol, or that it has none. `lburg tables` reads a description, whatever its tail is, and writes the
-/// text of its tables. `simrun --target mipseb` or `mipsel` reads MIPS assembly, with what its program
-/// reads behind a line `%%`, and runs it in big-endian or little-endian order; what it prints is written.
-/// `--steps N` behind that gives the most steps, 1 to 4,294,967,295 (10,000,000), and `--stack N` behind
-/// both the bytes of the stack, 4,096 to 16,777,216 (1,048,576).
+/// text of its tables. `simrun --target mipseb` reads MIPS assembly and runs it, for
+/// 10,000,000 steps in big-endian order with a stack of 1,048,576 bytes; what it prints is written.
 /// `rcc --target mipseb` reads a program of the first form of C and writes its MIPS assembly.
 /// Nothing is written before all memory is taken. The report takes one line that tells how the
 /// call ended, or nothing.
@@ -67,9 +64,9 @@ pub fn top<S: Source, K: Sink, E: Sink>(
         → CoverHeadline bytes (K.taken output.old) (K.taken output.new) (E.taken report.old) (E.taken report.new) result }
 
     // The headline of `simrun`, where the input tells what it had left.
-    ensures simrun_headline { (o : RunOptions) (bytes : List ℕ) → AreSimrun o (map string_bytes words.now) → S.left input.old ≡ Some bytes
+    ensures simrun_headline { (bytes : List ℕ) → AreSimrun (map string_bytes words.now) → S.left input.old ≡ Some bytes
         → IsRunStatus result
-        → RunHeadline o bytes (K.taken output.old) (K.taken output.new) (E.taken report.old) (E.taken report.new) result }
+        → RunHeadline bytes (K.taken output.old) (K.taken output.new) (E.taken report.old) (E.taken report.new) result }
 
     // The headline of `rcc`, where the input tells what it had left.
     ensures compiler_headline { (bytes : List ℕ) → AreRcc (map string_bytes words.now) → S.left input.old ≡ Some bytes
@@ -80,9 +77,6 @@ pub fn top<S: Source, K: Sink, E: Sink>(
     ensures read_fault { result ≡ Status.ReadFault → Rose (S.faults input.old) (S.faults input.new) }
     ensures unbroken { S.faults input.old < S.faults input.new
         → (result ≡ Status.ReadFault) ⊎ (result ≡ Status.WriteFault) }
-    // A fault of the output or of the report gives no other answer than that of writing.
-    ensures output_unbroken { K.faults output.old < K.faults output.new → result ≡ Status.WriteFault }
-    ensures report_unbroken { E.faults report.old < E.faults report.new → result ≡ Status.WriteFault }
     ensures write_fault { result ≡ Status.WriteFault
         → Rose (K.faults output.old) (K.faults output.new) ⊎ Rose (E.faults report.old) (E.faults report.new) }
 

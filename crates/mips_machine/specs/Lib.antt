@@ -1,7 +1,10 @@
-pub mod State
-pub mod Operations
+pub mod Addresses
 pub mod Memory
+pub mod State
 pub mod StepTable
 pub mod Run
+pub mod Acted
 pub mod Did
+pub mod Resolved
 pub mod Stepped
+pub mod KnownNames

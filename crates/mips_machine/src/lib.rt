@@ -1,14 +1,15 @@
 //! The MIPS machine: a loaded program, and its steps.
 #![tactic(auto)]
 
-mod acting;
-mod built_ins;
+mod action;
+mod addresses;
+mod labels;
 mod load_fault;
 mod loading;
 mod machine;
 mod memory;
-mod operations;
 mod processor;
+mod resolve;
 #[cfg(test)]
 mod tests;
 

@@ -1,4 +1,4 @@
-use crate::arithmetic::Arithmetic;
+use asm_text::BinaryOp;
 
 /// What a rule adds to the code and hands up.
 #[derive(Clone, Copy, Debug, PartialEq, Eq)]
@@ -14,7 +14,7 @@ pub enum Action {
     /// `li` of its one part, a constant; it hands up the node's register, and so do the next three.
     LoadConstant,
     /// An operation on its two parts, a register, and a register or a constant.
-    Combine(Arithmetic),
+    Combine(BinaryOp),
     /// The negative of its one part, a register.
     Negate,
     /// A call of its one part, a name.

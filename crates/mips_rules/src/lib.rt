@@ -2,7 +2,6 @@
 #![tactic(auto)]
 
 mod action;
-mod arithmetic;
 mod expansion;
 mod instr;
 mod mips;
@@ -12,7 +11,6 @@ mod part;
 mod rule_line;
 mod terminal_line;
 
-pub use arithmetic::Arithmetic;
 pub use instr::{Instr, Source};
 pub use mips::Mips;
 pub use mips_description::description;

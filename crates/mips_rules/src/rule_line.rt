@@ -1,5 +1,5 @@
 use crate::action::Action;
-use crate::arithmetic::Arithmetic;
+use asm_text::BinaryOp;
 
 /// The pattern of a rule, which has at most one operator. A nonterminal is given by its place among
 /// the nonterminals, from 0, and an operator by its number.
@@ -112,21 +112,21 @@ pub const RULES: [RuleLine; 13] = [
         form: Form::Binary(ADDI, REG, RC),
         template: b"addu $%c,$%0,%1\\n",
         cost: 1,
-        action: Action::Combine(Arithmetic::Add),
+        action: Action::Combine(BinaryOp::Add),
     },
     RuleLine {
         left: REG,
         form: Form::Binary(SUBI, REG, RC),
         template: b"subu $%c,$%0,%1\\n",
         cost: 1,
-        action: Action::Combine(Arithmetic::Subtract),
+        action: Action::Combine(BinaryOp::Subtract),
     },
     RuleLine {
         left: REG,
         form: Form::Binary(MULI, REG, RC),
         template: b"mul $%c,$%0,%1\\n",
         cost: 1,
-        action: Action::Combine(Arithmetic::Multiply),
+        action: Action::Combine(BinaryOp::Multiply),
     },
     RuleLine {
         left: REG,
