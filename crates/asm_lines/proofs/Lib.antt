@@ -7,12 +7,14 @@ pub mod ItemReads
 pub mod Next
 pub mod NumberReads
 pub mod Numerals
+pub mod OneFault
 pub mod OneOperand
 pub mod OneStatement
 pub mod OneWord
 pub mod OperandReads
 pub mod Printed
 pub mod PrintedTokens
+pub mod Sections
 pub mod Spelled
 pub mod StatementReads
 pub mod Suffixes

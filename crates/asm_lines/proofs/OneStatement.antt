@@ -1,4 +1,4 @@
--- Two readings of a line are one: the same statement or the same fault.
+-- Tokens are one statement at most.
 use Rattle.std.proofs.Common.{◌≡◌, ℕ, Option, Some, None, List, [], ◌∷◌, refl, sym, ap, subst, ◌∙◌, inl, inr}
 use Rattle.asm_lines.specs.declared.instruction.Address.{Address}
 use Rattle.asm_lines.specs.declared.instruction.Value.{Value}
@@ -7,14 +7,13 @@ use Rattle.asm_lines.specs.declared.instruction.Instruction.TheVariants.{LoadAdd
 use Rattle.asm_lines.specs.declared.mnemonic.DirectiveWord.TheVariants as directive
 use Rattle.asm_lines.specs.declared.statement_reader.Word.{Word as KnownWord}
 use Rattle.asm_lines.specs.declared.statement_reader.Word.TheVariants as known
-use Rattle.asm_lines.specs.declared.fault.StatementFault.{StatementFault}
-use Rattle.asm_lines.specs.declared.fault.StatementFault.TheVariants as fault
 use Rattle.asm_lines.specs.Tokens.{Tok, Word, Spaced}
 use Rattle.asm_lines.specs.Numbers.{IsNumber}
 use Rattle.asm_lines.specs.Operands.{RegisterThen, NameThen, CommaThen, RegisterComma, ValueThen, IsAddress, AreOperands}
 use Rattle.asm_lines.specs.Words.{head_of}
 use Rattle.asm_lines.specs.KnownWords.{text_of}
-use Rattle.asm_lines.specs.Statements.{MStatement, Nothing, Text, Data, Global, Align, Words, Halves, Bytes, Space, Does, IsRow, IsStatement, IsKnown, StartsWith, IsBadLine, FaultStands}
+use Rattle.asm_lines.specs.Statements.{MStatement, Nothing, Text, Data, Global, Align, Words, Halves, Bytes, Space, Does, IsRow, IsStatement}
+use Rattle.asm_lines.specs.Faults.{IsKnown}
 use Rattle.asm_lines.proofs.OneOperand.{one_number, one_count, one_register, one_name, one_comma, one_register_comma, one_value, one_target, one_address, one_words, one_parts}
 use Rattle.asm_lines.proofs.OneWord.{one_text}
 
@@ -128,7 +127,7 @@ one_row word ts s u p q =
     let e : a.0 ≡ b.0 = one_text a.0 b.0 (sym a.2 ∙ b.2) in
     same_rows word ts s u (a.1 ∙ ap Some e ∙ sym b.1) p q
 
--- ---- statements and faults
+-- ---- statements
 
 pub same_word : (t : Tok) (a b : List ℕ) → t ≡ Word a → t ≡ Word b → a ≡ b
 same_word t a b p q = let e : Word a ≡ Word b = sym p ∙ q in cc
@@ -138,58 +137,3 @@ one [] s u p q = p ∙ sym q
 one (t ∷ ts) s u p q =
     let P : List ℕ → Type 0 = λ w. IsRow w ts u in
     one_row p.0 ts s u p.3 (subst P (sym (same_word t.tok p.0 q.0 p.1 q.1)) q.3)
-
-one_start : (ts : List Spaced) (a b : List ℕ) → StartsWith ts a → StartsWith ts b → a ≡ b
-one_start [] a b p q = absurd p
-one_start (t ∷ ts) a b p q = same_word t.tok a b p q
-
-known_start : (ts : List Spaced) (a b : List ℕ) → StartsWith ts a → StartsWith ts b → IsKnown a → IsKnown b
-known_start ts a b p q k = let P : List ℕ → Type 0 = λ w. IsKnown w in subst P (one_start ts a b p q) k
-
-bad_line_apart : (ts : List Spaced) (s : MStatement) → IsStatement ts s → IsBadLine ts → ⊥
-bad_line_apart [] s p q = elim q [
-  | inl a ↦ a.0 refl
-  | inr a ↦ a.1
-]
-bad_line_apart (t ∷ ts) s p q = elim q [
-  | inl a ↦ a.1 p.0 p.1
-  | inr a ↦ a.3 p.2
-]
-
-unknown_apart : (ts : List Spaced) (s : MStatement) → IsStatement ts s → FaultStands ts fault.UnknownInstruction → ⊥
-unknown_apart [] s p q = q.1
-unknown_apart (t ∷ ts) s p q = q.2 (known_start (t ∷ ts) p.0 q.0 p.1 q.1 (row_known p.0 ts s p.3))
-
-pub apart : (ts : List Spaced) (s : MStatement) (f : StatementFault) → IsStatement ts s → FaultStands ts f → ⊥
-apart ts s fault.BadLine p q = bad_line_apart ts s p q
-apart ts s fault.UnknownInstruction p q = unknown_apart ts s p q
-apart ts s fault.BadOperand p q = q.4 s p
-apart ts s fault.Memory p q = q
-
-line_or_unknown : (ts : List Spaced) → IsBadLine ts → FaultStands ts fault.UnknownInstruction → ⊥
-line_or_unknown ts p q = elim p [
-  | inl a ↦ a.1 q.0 q.1
-  | inr a ↦ q.2 (known_start ts a.0 q.0 a.1 q.1 a.2)
-]
-
-line_or_operand : (ts : List Spaced) → IsBadLine ts → FaultStands ts fault.BadOperand → ⊥
-line_or_operand ts p q = elim p [
-  | inl a ↦ a.1 q.0 q.1
-  | inr a ↦ a.3 q.3
-]
-
-unknown_or_operand : (ts : List Spaced) → FaultStands ts fault.UnknownInstruction → FaultStands ts fault.BadOperand → ⊥
-unknown_or_operand ts p q = p.2 (known_start ts q.0 p.0 q.1 p.1 q.2)
-
-pub one_fault : (ts : List Spaced) (f g : StatementFault) → FaultStands ts f → FaultStands ts g → f ≡ g
-one_fault ts fault.BadLine fault.BadLine p q = refl
-one_fault ts fault.UnknownInstruction fault.UnknownInstruction p q = refl
-one_fault ts fault.BadOperand fault.BadOperand p q = refl
-one_fault ts fault.Memory g p q = absurd p
-one_fault ts f fault.Memory p q = absurd q
-one_fault ts fault.BadLine fault.UnknownInstruction p q = absurd (line_or_unknown ts p q)
-one_fault ts fault.UnknownInstruction fault.BadLine p q = absurd (line_or_unknown ts q p)
-one_fault ts fault.BadLine fault.BadOperand p q = absurd (line_or_operand ts p q)
-one_fault ts fault.BadOperand fault.BadLine p q = absurd (line_or_operand ts q p)
-one_fault ts fault.UnknownInstruction fault.BadOperand p q = absurd (unknown_or_operand ts p q)
-one_fault ts fault.BadOperand fault.UnknownInstruction p q = absurd (unknown_or_operand ts q p)

@@ -1,5 +1,5 @@
 -- Printed labels and statements are read back.
-use Rattle.std.proofs.Common.{◌≡◌, ◌≤◌, ◌<◌, ◌%◌, ◌^◌, ℕ, Bool, true, false, Option, List, [], ◌∷◌, ◌++◌, decimal, refl, ap, subst, ◌∙◌, append_assoc, arith}
+use Rattle.std.proofs.Common.{◌≡◌, ◌≤◌, ◌<◌, ◌%◌, ◌^◌, ℕ, Bool, true, false, Option, List, [], ◌∷◌, ◌++◌, decimal, refl, sym, ap, subst, ◌∙◌, append_assoc, arith}
 use Rattle.std.specs.Prelude.{All, ◌&&◌, not}
 use Rattle.std.proofs.lemmas.List.{append-nil}
 use Rattle.std.proofs.lemmas.List.Elements.{All-head, All-tail}
@@ -25,7 +25,7 @@ use Rattle.asm_lines.specs.Printed.{printed_label, operands_text, item_text, mor
 use Rattle.asm_lines.specs.Within.{IsWithin}
 use Rattle.asm_lines.specs.Printable.{IsNamed, IsPrintable}
 use Rattle.asm_lines.specs.ReadBack.{NoFeed, ReadsBack}
-use Rattle.asm_lines.proofs.Written.{spaced, written, Fits, spelled, tab_spelled, word_spelled, feed_append, name_feed, no_feed, line_break}
+use Rattle.asm_lines.proofs.Written.{spaced, written, Fits, tab_spelled, word_spelled, label_spelled, feed_append, name_feed, no_feed, line_break}
 use Rattle.asm_lines.proofs.PrintedTokens.{number_token, place_tokens, operand_tokens, place_written, operands_written, number_token_is, place_fits, operands_fit, is_count, is_sum, is_place, are_operands}
 
 -- ---- words are names
@@ -86,12 +86,12 @@ back Is line ts h s i = record {
   is = i;
 }
 
-pub label_back : (name : List ℕ) → IsName name → ReadsBack (printed_label name) (λ ts. IsLabelled ts name [])
-label_back name h =
-    let ts : List Tok = Word name ∷ Colon ∷ [] in
-    let f : Fits ts = (h, refl, (tt, tt, tt)) in
-    let P : List ℕ → Type 0 = λ l. ReadsBack l (λ us. IsLabelled us name []) in
-    subst P (append_assoc name (58 ∷ []) (10 ∷ [])) (back (λ us. IsLabelled us name []) (written ts) (spaced false ts) (no_feed ts f) (spelled ts f) (refl, refl, refl))
+-- a label before a line that is read back
+pub label_back : (name : List ℕ) → IsName name → (text : List ℕ) (tokens : List Spaced) → ReadsBack text (λ ts. ts ≡ tokens) → ReadsBack (printed_label name ++ text) (λ ts. IsLabelled ts name tokens)
+label_back name h text tokens r =
+    let P : List ℕ → Type 0 = λ l. ReadsBack l (λ us. IsLabelled us name tokens) in
+    let e : (name ++ 58 ∷ r.line) ++ 10 ∷ [] ≡ printed_label name ++ text = append_assoc name (58 ∷ r.line) (10 ∷ []) ∙ ap (λ (l : List ℕ). name ++ 58 ∷ l) (sym r.ends) ∙ sym (append_assoc name (58 ∷ []) text) in
+    subst P e (back (λ us. IsLabelled us name tokens) (name ++ 58 ∷ r.line) (record { tok = Word name; is_spaced = false } ∷ record { tok = Colon; is_spaced = false } ∷ r.tokens) (feed_append name (58 ∷ r.line) (name_feed name h) (refl, r.no_feed)) (label_spelled name r.line r.tokens h r.spelled) (refl, refl, r.is))
 
 is_apart : (ts : List Tok) → IsApart (spaced true ts)
 is_apart [] = tt

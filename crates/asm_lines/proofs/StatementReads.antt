@@ -1,21 +1,25 @@
 -- What a line is that begins with a word, or breaks.
 use Rattle.std.proofs.Common.{◌≡◌, ℕ, Some, List, ◌∷◌, refl, sym, ap, subst, ◌∙◌, inl, inr}
-use Rattle.std.specs.Prelude.{◌⊎◌, Result, Ok, Err, IfErr}
+use Rattle.std.specs.Prelude.{◌⊎◌, Result, Ok, Err, IfOk, IfErr}
 use Rattle.asm_lines.specs.declared.token.Kind.TheVariants as kind
 use Rattle.asm_lines.specs.declared.token.Token.{Token}
 use Rattle.asm_lines.specs.declared.instruction.Instruction.{Instruction}
 use Rattle.asm_lines.specs.declared.mnemonic.Mnemonic.{Mnemonic}
-use Rattle.asm_lines.specs.declared.mnemonic.DirectiveWord.{DirectiveWord}
 use Rattle.asm_lines.specs.declared.statement_reader.Word.{Word as KnownWord}
 use Rattle.asm_lines.specs.declared.statement_reader.Word.TheVariants as known
+use Rattle.asm_lines.specs.declared.section.Section.{Section}
 use Rattle.asm_lines.specs.declared.fault.StatementFault.{StatementFault}
 use Rattle.asm_lines.specs.declared.fault.StatementFault.TheVariants as fault
 use Rattle.asm_lines.specs.Tokens.{Word, Spaced, view, views}
 use Rattle.asm_lines.specs.Operands.{AreOperands}
-use Rattle.asm_lines.specs.Words.{word_of, directive_text, head_of}
+use Rattle.asm_lines.specs.Words.{head_of}
 use Rattle.asm_lines.specs.KnownWords.{text_of}
-use Rattle.asm_lines.specs.Statements.{MStatement, Does, IsApart, IsRow, IsStatement, IsKnown, StartsWith, OperandsApart, FaultStands}
-use Rattle.asm_lines.proofs.OneStatement.{same_word, text_known, spoken, row_of, apart}
+use Rattle.asm_lines.specs.Statements.{MStatement, Does, IsApart, IsRow, IsStatement}
+use Rattle.asm_lines.specs.Sections.{IsElsewhere, StandsIn}
+use Rattle.asm_lines.specs.Faults.{IsKnown, StartsWith, OperandsApart, FaultStands}
+use Rattle.asm_lines.proofs.OneStatement.{same_word, text_known, spoken, row_of}
+use Rattle.asm_lines.proofs.OneFault.{apart}
+use Rattle.asm_lines.proofs.Sections.{row_stands}
 
 -- a word stands first, and rest behind it
 abbrev pub Begins : List Spaced → List ℕ → List Spaced → Type 0
@@ -45,36 +49,63 @@ pub row_read : (ts : List Spaced) (word : List ℕ) (rest : List Spaced) (w : Kn
 row_read ts word rest w s b e p = let P : List ℕ → Type 0 = λ l. IsRow l rest s in subst P e (row_behind ts word rest s b p)
 
 -- no statement stands where a fault does
-pub only_memory : (ts : List Spaced) (f : StatementFault) → FaultStands ts f → (s : MStatement) → IsStatement ts s → f ≡ fault.Memory
-only_memory ts f q s p = absurd (apart ts s f p q)
+pub only_memory : (section : Section) (ts : List Spaced) (f : StatementFault) → FaultStands section ts f → (s : MStatement) → IsStatement ts s → StandsIn section s → f ≡ fault.Memory
+only_memory section ts f q s p k = absurd (apart section ts s f p k q)
 
-pub unknown : (ts : List Spaced) (word : List ℕ) (rest : List Spaced) → Begins ts word rest → (IsKnown word → ⊥) → FaultStands ts fault.UnknownInstruction
-unknown ts word rest b h = (word, starts ts word rest b, h)
+pub unknown : (section : Section) (ts : List Spaced) (word : List ℕ) (rest : List Spaced) → Begins ts word rest → (IsKnown word → ⊥) → FaultStands section ts fault.UnknownInstruction
+unknown section ts word rest b h = (word, starts ts word rest b, h)
 
-pub unspaced : (ts : List Spaced) (word : List ℕ) (rest : List Spaced) (w : KnownWord) → Begins ts word rest → word ≡ text_of w → (IsApart rest → ⊥) → FaultStands ts fault.BadLine
-unspaced ts word rest w b e h = inr (word, starts ts word rest b, text_known w word e, λ a. h (apart_out ts word rest b a))
+pub unspaced : (section : Section) (ts : List Spaced) (word : List ℕ) (rest : List Spaced) (w : KnownWord) → Begins ts word rest → word ≡ text_of w → (IsApart rest → ⊥) → FaultStands section ts fault.BadLine
+unspaced section ts word rest w b e h = inr (inl (word, starts ts word rest b, text_known w word e, λ a. h (apart_out ts word rest b a)))
 
-pub no_row : (ts : List Spaced) (word : List ℕ) (rest : List Spaced) (w : KnownWord) → Begins ts word rest → word ≡ text_of w → IsApart rest → ((s : MStatement) → IsRow (text_of w) rest s → ⊥) → FaultStands ts fault.BadOperand
-no_row ts word rest w b e a h = (word, starts ts word rest b, text_known w word e, apart_in ts word rest b a, λ s p. h s (row_read ts word rest w s b e p))
+pub misplaced : (section : Section) (ts : List Spaced) (word : List ℕ) (rest : List Spaced) (w : KnownWord) → Begins ts word rest → word ≡ text_of w → IsElsewhere section (text_of w) → FaultStands section ts fault.BadLine
+misplaced section ts word rest w b e h = let P : List ℕ → Type 0 = λ l. IsElsewhere section l in inr (inr (word, starts ts word rest b, subst P (sym e) h))
 
-no_instruction_row : (rest : List Spaced) (m : Mnemonic) → ((i : Instruction (List ℕ)) → head_of i ≡ m → AreOperands rest i → ⊥) → (s : MStatement) → IsRow (word_of m) rest s → ⊥
-no_instruction_row rest m h s p = row s (row_of (known.Instruction m) rest s p) p where
-  row : (u : MStatement) → spoken u ≡ Some (known.Instruction m) → IsRow (word_of m) rest u → ⊥
-  row (Does i) e q = h i (cc) q.1
-  row u e q = cc
+-- ---- a known word that has its place in the section, and its operands behind blanks
 
-pub no_instruction : (ts : List Spaced) (word : List ℕ) (rest : List Spaced) (w : KnownWord) (m : Mnemonic) → Begins ts word rest → word ≡ text_of w → w ≡ known.Instruction m → IsApart rest → ((i : Instruction (List ℕ)) → head_of i ≡ m → AreOperands rest i → ⊥) → FaultStands ts fault.BadOperand
-no_instruction ts word rest w m b e k a h =
-    no_row ts word rest (known.Instruction m) b (e ∙ ap text_of k) a (no_instruction_row rest m h)
+pub record Known (section : Section) (ts : List Spaced) (word : List ℕ) (rest : List Spaced) (w : KnownWord) : Type 0 where
+  pub begins : Begins ts word rest
+  pub text : word ≡ text_of w
+  pub is_apart : IsApart rest
+  pub is_here : IsElsewhere section (text_of w) → ⊥
 
-pub directive_only : {A : Type 0} (r : Result A StatementFault) (ts : List Spaced) (word : List ℕ) (rest : List Spaced) (w : KnownWord) (d : DirectiveWord) → Begins ts word rest → word ≡ text_of w → w ≡ known.Directive d → ((s : MStatement) → IsRow (directive_text d) rest s → IfErr r (λ e. e ≡ fault.Memory)) → (s : MStatement) → IsStatement ts s → IfErr r (λ e. e ≡ fault.Memory)
-directive_only {A} r ts word rest w d b e k only s p = only s (row_read ts word rest (known.Directive d) s b (e ∙ ap text_of k) p)
+pub known_here : (section : Section) (ts : List Spaced) (word : List ℕ) (rest : List Spaced) (w : KnownWord) → Begins ts word rest → word ≡ text_of w → IsApart rest → (IsElsewhere section (text_of w) → ⊥) → Known section ts word rest w
+known_here section ts word rest w b e a h = record { begins = b; text = e; is_apart = a; is_here = h }
 
-pub directive_fault : {A : Type 0} (r : Result A StatementFault) (ts : List Spaced) (word : List ℕ) (rest : List Spaced) (w : KnownWord) (d : DirectiveWord) → Begins ts word rest → word ≡ text_of w → w ≡ known.Directive d → IsApart rest → ((s : MStatement) → IsRow (directive_text d) rest s → IfErr r (λ e. e ≡ fault.Memory)) → IfErr r (λ e. (e ≡ fault.Memory) ⊎ (e ≡ fault.BadOperand)) → IfErr r (λ f. (f ≡ fault.Memory) ⊎ FaultStands ts f)
-directive_fault {A} (Ok x) ts word rest w d b e k a only h = tt
-directive_fault {A} (Err f) ts word rest w d b e k a only h = elim h [
+no_row : (section : Section) (ts : List Spaced) (word : List ℕ) (rest : List Spaced) (w : KnownWord) → Known section ts word rest w → ((s : MStatement) → IsRow (text_of w) rest s → ⊥) → FaultStands section ts fault.BadOperand
+no_row section ts word rest w k h =
+    let P : List ℕ → Type 0 = λ l. IsElsewhere section l in
+    (word, starts ts word rest k.begins, text_known w word k.text, apart_in ts word rest k.begins k.is_apart, (λ p. k.is_here (subst P k.text p)), λ s p. h s (row_read ts word rest w s k.begins k.text p))
+
+statement_of : (ts : List Spaced) (word : List ℕ) (rest : List Spaced) (s : MStatement) → Begins ts word rest → IsApart rest → IsRow word rest s → IsStatement ts s
+statement_of ts word rest s b a r = let P : List Spaced → Type 0 = λ l. IsStatement l s in subst P (sym b.1) (word, b.2, a, r)
+
+pub row_found : {A : Type 0} (r : Result A StatementFault) (seen : A → MStatement) (section : Section) (ts : List Spaced) (word : List ℕ) (rest : List Spaced) (w : KnownWord) → Known section ts word rest w → IfOk r (λ s. IsRow (text_of w) rest (seen s)) → IfOk r (λ s. IsStatement ts (seen s))
+row_found {A} (Ok x) seen section ts word rest w k h =
+    let P : List ℕ → Type 0 = λ l. IsRow l rest (seen x) in
+    statement_of ts word rest (seen x) k.begins k.is_apart (subst P (sym k.text) h)
+row_found {A} (Err f) seen section ts word rest w k h = tt
+
+pub row_here : {A : Type 0} (r : Result A StatementFault) (seen : A → MStatement) (section : Section) (ts : List Spaced) (word : List ℕ) (rest : List Spaced) (w : KnownWord) → Known section ts word rest w → IfOk r (λ s. IsRow (text_of w) rest (seen s)) → IfOk r (λ s. StandsIn section (seen s))
+row_here {A} (Ok x) seen section ts word rest w k h = row_stands section (text_of w) rest (seen x) h k.is_here
+row_here {A} (Err f) seen section ts word rest w k h = tt
+
+pub row_only : {A : Type 0} (r : Result A StatementFault) (section : Section) (ts : List Spaced) (word : List ℕ) (rest : List Spaced) (w : KnownWord) → Known section ts word rest w → ((s : MStatement) → IsRow (text_of w) rest s → IfErr r (λ e. e ≡ fault.Memory)) → (s : MStatement) → IsStatement ts s → IfErr r (λ e. e ≡ fault.Memory)
+row_only {A} r section ts word rest w k only s p = only s (row_read ts word rest w s k.begins k.text p)
+
+pub row_fault : {A : Type 0} (r : Result A StatementFault) (section : Section) (ts : List Spaced) (word : List ℕ) (rest : List Spaced) (w : KnownWord) → Known section ts word rest w → ((s : MStatement) → IsRow (text_of w) rest s → IfErr r (λ e. e ≡ fault.Memory)) → IfErr r (λ e. (e ≡ fault.Memory) ⊎ (e ≡ fault.BadOperand)) → IfErr r (λ f. (f ≡ fault.Memory) ⊎ FaultStands section ts f)
+row_fault {A} (Ok x) section ts word rest w k only h = tt
+row_fault {A} (Err f) section ts word rest w k only h = elim h [
   | inl m ↦ inl m
   | inr o ↦
-      let P : StatementFault → Type 0 = λ g. FaultStands ts g in
-      inr (subst P (sym o) (no_row ts word rest (known.Directive d) b (e ∙ ap text_of k) a (λ s p. let m = only s p in cc)))
+      let P : StatementFault → Type 0 = λ g. FaultStands section ts g in
+      inr (subst P (sym o) (no_row section ts word rest w k (λ s p. let m = only s p in cc)))
 ]
+
+-- ---- rows
+
+pub no_instruction_row : (rest : List Spaced) (w : KnownWord) (m : Mnemonic) → w ≡ known.Instruction m → ((i : Instruction (List ℕ)) → head_of i ≡ m → AreOperands rest i → ⊥) → (s : MStatement) → IsRow (text_of w) rest s → ⊥
+no_instruction_row rest w m e h s p = row s (row_of w rest s p ∙ ap Some e) p where
+  row : (u : MStatement) → spoken u ≡ Some (known.Instruction m) → IsRow (text_of w) rest u → ⊥
+  row (Does i) e q = h i (cc) q.1
+  row u e q = cc

@@ -116,6 +116,10 @@ tab_spelled (t ∷ ts) f = (9 ∷ [], text_of t ++ written ts, (refl, tt), start
 pub word_spelled : (word : List ℕ) (ts : List Spaced) (bytes : List ℕ) → IsName word → Spells ts (9 ∷ bytes) → Spells (record { tok = Word word; is_spaced = true } ∷ ts) (9 ∷ (word ++ 9 ∷ bytes))
 word_spelled word ts bytes p s = (9 ∷ [], word ++ 9 ∷ bytes, (refl, tt), starts_of (Word word) (9 ∷ bytes) p, refl, refl, inl (9 ∷ bytes, word_is_next word (9 ∷ bytes) p refl, s))
 
+-- a name and a colon before what is spelled
+pub label_spelled : (name line : List ℕ) (ts : List Spaced) → IsName name → Spells ts line → Spells (record { tok = Word name; is_spaced = false } ∷ record { tok = Colon; is_spaced = false } ∷ ts) (name ++ 58 ∷ line)
+label_spelled name line ts p s = ([], name ++ 58 ∷ line, tt, starts_of (Word name) (58 ∷ line) p, refl, refl, inl (58 ∷ line, word_is_next name (58 ∷ line) p refl, ([], 58 ∷ line, tt, starts_of Colon line tt, refl, refl, inl (line, sign_next kinds.Colon 58 line tt refl, s))))
+
 -- ---- line feeds
 
 pub feed_append : (a b : List ℕ) → NoFeed a → NoFeed b → NoFeed (a ++ b)

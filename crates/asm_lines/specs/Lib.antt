@@ -5,8 +5,11 @@ pub mod Numbers
 pub mod Words
 pub mod Operands
 pub mod Statements
+pub mod Sections
+pub mod Faults
 pub mod KnownWords
 pub mod Printed
 pub mod Within
 pub mod Printable
 pub mod ReadBack
+pub mod LabelBack

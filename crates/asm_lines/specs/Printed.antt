@@ -1,5 +1,6 @@
--- How labels and statements are printed: a label in a line of its own; a statement with a tab before its word and
--- before its first operand, commas without blanks between operands, registers by their numbers, and unsigned numbers.
+-- How labels and statements are printed: a label as its name and a colon, behind which the line goes on; a statement with
+-- a tab before its word and before its first operand, commas without blanks between operands, registers by their numbers,
+-- and unsigned numbers.
 use Rattle.std.specs.Prelude.{ℕ, ◌==◌, Option, Some, None, List, [], ◌∷◌, ◌++◌, decimal, if◌then◌else◌}
 use Rattle.asm_lines.specs.declared.instruction.Address.{Address}
 use Rattle.asm_lines.specs.declared.instruction.Target.{Target}
@@ -13,7 +14,7 @@ use Rattle.asm_lines.specs.Words.{word_of, directive_text, head_of}
 use Rattle.asm_lines.specs.Statements.{MStatement, Nothing, Text, Data, Global, Align, Words, Halves, Bytes, Space, Does}
 
 abbrev pub printed_label : List ℕ → List ℕ
-printed_label name = name ++ 58 ∷ (10 ∷ [])
+printed_label name = name ++ 58 ∷ []
 
 -- ---- operands
 

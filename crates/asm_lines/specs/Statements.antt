@@ -1,18 +1,15 @@
--- The statement behind the labels of a line, and what a line breaks that has none.
-use Rattle.std.specs.Prelude.{◌≡◌, ◌≤◌, ◌⊎◌, true, ℕ, Option, option_map, List, [], ◌∷◌, map}
+-- The statement behind the labels of a line, and its labels.
+use Rattle.std.specs.Prelude.{◌≡◌, ◌≤◌, true, ℕ, Option, option_map, List, [], ◌∷◌, map}
+use Rattle.std.specs.Borrow.{Bor}
 use Rattle.asm_lines.specs.declared.instruction.Address.{Address}
 use Rattle.asm_lines.specs.declared.instruction.Target.{Target}
 use Rattle.asm_lines.specs.declared.instruction.Target.TheVariants as target
 use Rattle.asm_lines.specs.declared.instruction.Instruction.{Instruction}
 use Rattle.asm_lines.specs.declared.instruction.Instruction.TheVariants.{LoadAddress, LoadNumber, Move, Unary, Binary, Load, Store, Branch, BranchIf, Jump, Call}
-use Rattle.asm_lines.specs.declared.mnemonic.Mnemonic.{Mnemonic}
-use Rattle.asm_lines.specs.declared.mnemonic.DirectiveWord.{DirectiveWord}
 use Rattle.asm_lines.specs.declared.mnemonic.DirectiveWord.TheVariants as directive
 use Rattle.asm_lines.specs.declared.statement.Statement.{Statement}
 use Rattle.asm_lines.specs.declared.statement.Statement.TheVariants as statement
 use Rattle.asm_lines.specs.declared.statement.Item.{Item}
-use Rattle.asm_lines.specs.declared.fault.StatementFault.{StatementFault}
-use Rattle.asm_lines.specs.declared.fault.StatementFault.TheVariants as fault
 use Rattle.asm_lines.specs.Tokens.{Word, Colon, Spaced}
 use Rattle.asm_lines.specs.Numbers.{CountStands}
 use Rattle.asm_lines.specs.Operands.{NameThen, AreOperands, Listed, IsWordItem, IsPartItem}
@@ -52,21 +49,28 @@ instruction_with f (BranchIf c s t n) = BranchIf c s t (f n)
 instruction_with f (Jump to) = Jump (target_with f to)
 instruction_with f (Call to) = Call (target_with f to)
 
-abbrev pub item_of : Item → Option (List ℕ) × ℕ
-item_of i = (option_map (λ n. n.now) i.name, i.value)
+abbrev pub item_by : {N : Type 0} → (N → List ℕ) → Item N → Option (List ℕ) × ℕ
+item_by f i = (option_map f i.name, i.value)
 
--- the statement that a value tells
-abbrev pub told : Statement → MStatement
-told statement.Nothing = Nothing
-told statement.Text = Text
-told statement.Data = Data
-told (statement.Global name) = Global name.now
-told (statement.Align n) = Align n
-told (statement.Words items) = Words (map item_of items)
-told (statement.Halves halves) = Halves halves
-told (statement.Bytes bytes) = Bytes bytes
-told (statement.Space n) = Space n
-told (statement.Instruction i) = Does (instruction_with (λ n. n.now) i)
+-- the statement that a value tells, where names stand for bytes
+abbrev pub told_by : {N : Type 0} → (N → List ℕ) → Statement N → MStatement
+told_by f statement.Nothing = Nothing
+told_by f statement.Text = Text
+told_by f statement.Data = Data
+told_by f (statement.Global name) = Global (f name)
+told_by f (statement.Align n) = Align n
+told_by f (statement.Words items) = Words (map (item_by f) items)
+told_by f (statement.Halves halves) = Halves halves
+told_by f (statement.Bytes bytes) = Bytes bytes
+told_by f (statement.Space n) = Space n
+told_by f (statement.Instruction i) = Does (instruction_with f i)
+
+-- where names are slices of bytes
+abbrev pub item_of : Item (Bor (List ℕ)) → Option (List ℕ) × ℕ
+item_of = item_by (λ n. n.now)
+
+abbrev pub told : Statement (Bor (List ℕ)) → MStatement
+told = told_by (λ n. n.now)
 
 -- ---- what is a statement
 
@@ -92,35 +96,6 @@ IsRow word ts (Does i) = (word ≡ word_of (head_of i)) × AreOperands ts i
 abbrev pub IsStatement : List Spaced → MStatement → Type 0
 IsStatement [] s = s ≡ Nothing
 IsStatement (t ∷ ts) s = (word : List ℕ) × (t.tok ≡ Word word) × IsApart ts × IsRow word ts s
-
--- ---- what is none
-
--- an instruction's word, or a directive's
-abbrev pub IsKnown : List ℕ → Type 0
-IsKnown word = ((m : Mnemonic) × (word ≡ word_of m)) ⊎ ((d : DirectiveWord) × (word ≡ directive_text d))
-
--- a word stands first
-abbrev pub StartsWith : List Spaced → List ℕ → Type 0
-StartsWith [] word = ⊥
-StartsWith (t ∷ ts) word = t.tok ≡ Word word
-
-abbrev pub OperandsApart : List Spaced → Type 0
-OperandsApart [] = Unit {0}
-OperandsApart (t ∷ ts) = IsApart ts
-
--- Something stands there, but no word first, or a known one without blanks before its operands.
-abbrev pub IsBadLine : List Spaced → Type 0
-IsBadLine ts =
-    ((ts ≡ [] → ⊥) × ((word : List ℕ) → StartsWith ts word → ⊥))
-    ⊎ ((word : List ℕ) × StartsWith ts word × IsKnown word × (OperandsApart ts → ⊥))
-
--- The fault stands: BadLine; a word that isn't known; or a known word whose operands, behind blanks, are of no form that
--- it asks for.
-abbrev pub FaultStands : List Spaced → StatementFault → Type 0
-FaultStands ts fault.BadLine = IsBadLine ts
-FaultStands ts fault.UnknownInstruction = (word : List ℕ) × StartsWith ts word × (IsKnown word → ⊥)
-FaultStands ts fault.BadOperand = (word : List ℕ) × StartsWith ts word × IsKnown word × OperandsApart ts × ((s : MStatement) → IsStatement ts s → ⊥)
-FaultStands ts fault.Memory = ⊥
 
 -- ---- labels
 

@@ -28,7 +28,7 @@ fn nothing(operands: &[Token]) -> Result<(), StatementFault>
     }
 }
 
-fn global<'a>(operands: &[Token<'a>]) -> Result<Statement<'a>, StatementFault>
+fn global<'a>(operands: &[Token<'a>]) -> Result<Statement<&'a [u8]>, StatementFault>
     ensures found { IfOk result (λ s. IsRow (directive_text DirectiveWord.Global) (views operands.now) (told s)) }
     ensures fault { IfErr result (λ e. (e ≡ StatementFault.BadOperand) × ((s : MStatement) → IsRow (directive_text DirectiveWord.Global) (views operands.now) s → ⊥)) }
 {
@@ -38,7 +38,7 @@ fn global<'a>(operands: &[Token<'a>]) -> Result<Statement<'a>, StatementFault>
     }
 }
 
-fn align<'a>(operands: &[Token<'a>]) -> Result<Statement<'a>, StatementFault>
+fn align<'a>(operands: &[Token<'a>]) -> Result<Statement<&'a [u8]>, StatementFault>
     ensures found { IfOk result (λ s. IsRow (directive_text DirectiveWord.Align) (views operands.now) (told s)) }
     ensures fault { IfErr result (λ e. (e ≡ StatementFault.BadOperand) × ((s : MStatement) → IsRow (directive_text DirectiveWord.Align) (views operands.now) s → ⊥)) }
 {
@@ -54,7 +54,7 @@ fn align<'a>(operands: &[Token<'a>]) -> Result<Statement<'a>, StatementFault>
     }
 }
 
-fn space<'a>(operands: &[Token<'a>]) -> Result<Statement<'a>, StatementFault>
+fn space<'a>(operands: &[Token<'a>]) -> Result<Statement<&'a [u8]>, StatementFault>
     ensures found { IfOk result (λ s. IsRow (directive_text DirectiveWord.Space) (views operands.now) (told s)) }
     ensures fault { IfErr result (λ e. (e ≡ StatementFault.BadOperand) × ((s : MStatement) → IsRow (directive_text DirectiveWord.Space) (views operands.now) s → ⊥)) }
 {
@@ -69,7 +69,7 @@ pub(crate) fn directive<'a>(
     alloc: Global,
     word: DirectiveWord,
     operands: &[Token<'a>],
-) -> Result<Statement<'a>, StatementFault>
+) -> Result<Statement<&'a [u8]>, StatementFault>
     ensures found { IfOk result (λ s. IsRow (directive_text word) (views operands.now) (told s)) }
     ensures only { (s : MStatement) → IsRow (directive_text word) (views operands.now) s → IfErr result (λ e. e ≡ StatementFault.Memory) }
     ensures fault { IfErr result (λ e. (e ≡ StatementFault.Memory) ⊎ (e ≡ StatementFault.BadOperand)) }

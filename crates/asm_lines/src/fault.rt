@@ -7,7 +7,7 @@ use thiserror::Error;
 /// Why no statement was read.
 #[derive(Clone, Copy, Debug, PartialEq, Eq, Error)]
 pub enum StatementFault {
-    /// The line has no such form.
+    /// No word stands first, or a known one without blanks before its operands, or one that has no place in the section.
     #[error("no line has this form")]
     BadLine,
     /// Its word is neither an instruction's nor a directive's.

@@ -17,7 +17,7 @@ use std::alloc::Global;
 pub(crate) fn words<'a>(
     alloc: Global,
     tokens: &[Token<'a>],
-) -> Result<Items<Item<'a>>, StatementFault>
+) -> Result<Items<Item<&'a [u8]>>, StatementFault>
     ensures found { IfOk result (λ items. Listed IsWordItem (views tokens.now) (map item_of items)) }
     ensures only { (items : List (Option (List ℕ) × ℕ)) → Listed IsWordItem (views tokens.now) items → IfErr result (λ e. e ≡ StatementFault.Memory) }
     ensures fault { IfErr result (λ e. (e ≡ StatementFault.Memory) ⊎ (e ≡ StatementFault.BadOperand)) }

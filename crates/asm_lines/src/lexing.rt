@@ -166,7 +166,7 @@ fn is_remark(bytes: &[u8]) -> bool
 
 /// Adds the tokens that a line spells, each the longest that stands there, to a list that has none. Where no token
 /// begins, the last is `Bad`. The list's room may serve one line after another. `Memory` comes where an allocation is
-/// refused.
+/// refused: the list then has a part of the tokens, and is to be given up.
 pub fn add_tokens<'a>(tokens: &mut Vec<Token<'a>>, line: &'a [u8]) -> Result<(), Memory>
     requires { tokens.old.items ≡ [] }
     ensures { OnOk result (Spells (views tokens.new.items) line.now) }

@@ -1,5 +1,5 @@
-//! The lines of MIPS assembly: their tokens, labels, directives and instructions, and what a line that is none breaks.
-//! Names are slices of the text.
+//! The lines of MIPS assembly: their tokens, labels, directives and instructions, and what a line breaks that has none in
+//! its section. Names that are read are slices of the text.
 #![tactic(auto)]
 
 mod address_reader;
@@ -18,6 +18,7 @@ mod operand_reader;
 mod operator;
 mod printing;
 mod register;
+mod section;
 mod statement;
 mod statement_reader;
 mod token;
@@ -29,8 +30,9 @@ pub use laws::{one_spelling, one_statement};
 pub use lexing::add_tokens;
 pub use mnemonic::{DirectiveWord, Mnemonic, directive_word, mnemonic_word};
 pub use operator::{BinaryOp, Condition, LoadOp, StoreOp, UnaryOp};
-pub use printing::{print_label, print_statement};
+pub use printing::{print_bytes, print_halves, print_label, print_statement, print_words};
 pub use register::Register;
+pub use section::Section;
 pub use statement::{Item, Statement};
 pub use statement_reader::read_statement;
 pub use token::{Kind, Token};

@@ -1,6 +1,6 @@
 //! Labels and statements as text.
-ghost use Rattle.std.specs.Prelude.{◌≡◌, ◌<◌, ◌≤◌, ◌^◌, ◌++◌, ◌∷◌, [], All, decimal, map, option_map, OnOk};
-ghost use Rattle.asm_lines.specs.Tokens.{IsName};
+ghost use Rattle.std.specs.Prelude.{◌≡◌, ◌<◌, ◌≤◌, ◌^◌, ◌++◌, ◌∷◌, [], ℕ, List, All, decimal, map, option_map, OnOk};
+ghost use Rattle.asm_lines.specs.Tokens.{Spaced, IsName};
 ghost use Rattle.asm_lines.specs.Words.{directive_text, head_of};
 ghost use Rattle.asm_lines.specs.Statements.{IsLabelled, IsStatement, told, item_of, address_with, target_with, instruction_with};
 ghost use Rattle.asm_lines.specs.Printed.{
@@ -271,7 +271,7 @@ fn add_bytes(out: &mut Bytes, bytes: &[u8]) -> Result<(), Memory>
     add_more_bytes(out, more)
 }
 
-fn add_item(out: &mut Bytes, item: Item) -> Result<(), Memory>
+fn add_item(out: &mut Bytes, item: Item<&[u8]>) -> Result<(), Memory>
     ensures text { OnOk result (out.new ≡ out.old ++ item_text (item_of item.entry)) }
     ensures within { OnOk result (item.entry.value ≤ 4294967295) }
 {
@@ -279,7 +279,7 @@ fn add_item(out: &mut Bytes, item: Item) -> Result<(), Memory>
 }
 
 #[tactic(auto, using(crate::proofs::Commas::more_done))]
-fn add_more_words(out: &mut Bytes, items: &[Item]) -> Result<(), Memory>
+fn add_more_words(out: &mut Bytes, items: &[Item<&[u8]>]) -> Result<(), Memory>
     ensures text { OnOk result (out.new ≡ out.old ++ more_text (λ i. item_text (item_of i)) items.now) }
     ensures within { OnOk result (All (λ i. i.value ≤ 4294967295) items.now) }
 {
@@ -290,7 +290,7 @@ fn add_more_words(out: &mut Bytes, items: &[Item]) -> Result<(), Memory>
     Ok(())
 }
 
-fn add_words(out: &mut Bytes, items: &[Item]) -> Result<(), Memory>
+fn add_words(out: &mut Bytes, items: &[Item<&[u8]>]) -> Result<(), Memory>
     ensures text { OnOk result (out.new ≡ out.old ++ listed_text item_text (map item_of items.now)) }
     ensures within { OnOk result (All (λ i. i.1 ≤ 4294967295) (map item_of items.now)) }
 {
@@ -342,7 +342,37 @@ fn add_instruction(out: &mut Bytes, instruction: &Instruction<&[u8]>) -> Result<
     add_operands(out, instruction)
 }
 
-fn add_statement(out: &mut Bytes, statement: &Statement) -> Result<(), Memory>
+fn end_line(out: &mut Bytes) -> Result<(), Memory>
+    ensures { OnOk result (out.new ≡ out.old ++ 10 ∷ []) }
+{
+    out.push(b'\n')
+}
+
+fn add_words_row(out: &mut Bytes, items: &[Item<&[u8]>]) -> Result<(), Memory>
+    ensures text { OnOk result (out.new ≡ out.old ++ statement_text (told (Statement.Words items.now))) }
+    ensures within { OnOk result (IsWithin (told (Statement.Words items.now))) }
+{
+    add_word(out, directive_word(DirectiveWord::Word))?;
+    add_words(out, items)
+}
+
+fn add_halves_row(out: &mut Bytes, halves: &[u16]) -> Result<(), Memory>
+    ensures text { OnOk result (out.new ≡ out.old ++ statement_text (told (Statement.Halves halves.now))) }
+    ensures within { OnOk result (IsWithin (told (Statement.Halves halves.now))) }
+{
+    add_word(out, directive_word(DirectiveWord::Half))?;
+    add_halves(out, halves)
+}
+
+fn add_bytes_row(out: &mut Bytes, bytes: &[u8]) -> Result<(), Memory>
+    ensures text { OnOk result (out.new ≡ out.old ++ statement_text (told (Statement.Bytes bytes.now))) }
+    ensures within { OnOk result (IsWithin (told (Statement.Bytes bytes.now))) }
+{
+    add_word(out, directive_word(DirectiveWord::Byte))?;
+    add_bytes(out, bytes)
+}
+
+fn add_statement(out: &mut Bytes, statement: &Statement<&[u8]>) -> Result<(), Memory>
     ensures text { OnOk result (out.new ≡ out.old ++ statement_text (told statement.now)) }
     ensures within { OnOk result (IsWithin (told statement.now)) }
 {
@@ -352,44 +382,72 @@ fn add_statement(out: &mut Bytes, statement: &Statement) -> Result<(), Memory>
         Statement::Data => add_alone(out, DirectiveWord::Data),
         Statement::Global(name) => add_global(out, name),
         Statement::Align(n) => add_count(out, DirectiveWord::Align, u32::from(*n)),
-        Statement::Words(items) => {
-            add_word(out, directive_word(DirectiveWord::Word))?;
-            add_words(out, items.as_slice())
-        }
-        Statement::Halves(halves) => {
-            add_word(out, directive_word(DirectiveWord::Half))?;
-            add_halves(out, halves.as_slice())
-        }
-        Statement::Bytes(bytes) => {
-            add_word(out, directive_word(DirectiveWord::Byte))?;
-            add_bytes(out, bytes.as_slice())
-        }
+        Statement::Words(items) => add_words_row(out, items.as_slice()),
+        Statement::Halves(halves) => add_halves_row(out, halves.as_slice()),
+        Statement::Bytes(bytes) => add_bytes_row(out, bytes.as_slice()),
         Statement::Space(n) => add_count(out, DirectiveWord::Space, *n),
         Statement::Instruction(instruction) => add_instruction(out, instruction),
     }
 }
 
-/// Adds a label in a line of its own: the name, a colon and a line feed. `Memory` comes where an allocation is refused.
-#[tactic(auto, using(crate::proofs::Printed::label_back))]
+/// Adds a label: the name and a colon, with no line feed, so that the text of another label or of a statement may be
+/// added behind it. `Memory` comes where an allocation is refused: `out` then has a part of the text, and is to be given
+/// up.
 pub fn print_label(out: &mut Bytes, name: &[u8]) -> Result<(), Memory>
     // It is what is added.
     ensures text { OnOk result (out.new ≡ out.old ++ printed_label name.now) }
-    // The line is read back as the label, with nothing behind it.
-    ensures read_back { OnOk result (IsName name.now → ReadsBack (printed_label name.now) (λ ts. IsLabelled ts name.now [])) }
+    // A line that is read back as some tokens is read back, behind the label, as the label and those tokens.
+    ensures read_back { OnOk result (IsName name.now → (text : List ℕ) (tokens : List Spaced) → ReadsBack text (λ ts. ts ≡ tokens) → ReadsBack (printed_label name.now ++ text) (λ ts. IsLabelled ts name.now tokens)) }
 {
     out.extend(name)?;
-    out.extend(b":\n")
+    out.push(b':')
 }
 
 /// Adds a statement in a line of its own: a tab before its word and before its first operand, commas without blanks
 /// between operands, registers by their numbers, unsigned numbers, and a line feed. An address with no part is written
-/// as 0. `Memory` comes where an allocation is refused.
-pub fn print_statement(out: &mut Bytes, statement: &Statement) -> Result<(), Memory>
+/// as 0. `Memory` comes where an allocation is refused: `out` then has a part of the text, and is to be given up.
+pub fn print_statement(out: &mut Bytes, statement: &Statement<&[u8]>) -> Result<(), Memory>
     // It is what is added.
     ensures text { OnOk result (out.new ≡ out.old ++ printed_statement (told statement.now)) }
     // The line is read back as the statement.
     ensures read_back { OnOk result (IsPrintable (told statement.now) → ReadsBack (printed_statement (told statement.now)) (λ ts. IsStatement ts (told statement.now))) }
 {
     add_statement(out, statement)?;
-    out.push(b'\n')
+    end_line(out)
+}
+
+/// Adds a statement `.word` with these items in a line of its own, as `print_statement` does. `Memory` comes where an
+/// allocation is refused: `out` then has a part of the text, and is to be given up.
+pub fn print_words(out: &mut Bytes, items: &[Item<&[u8]>]) -> Result<(), Memory>
+    // It is what is added.
+    ensures text { OnOk result (out.new ≡ out.old ++ printed_statement (told (Statement.Words items.now))) }
+    // The line is read back as the statement.
+    ensures read_back { OnOk result (IsPrintable (told (Statement.Words items.now)) → ReadsBack (printed_statement (told (Statement.Words items.now))) (λ ts. IsStatement ts (told (Statement.Words items.now)))) }
+{
+    add_words_row(out, items)?;
+    end_line(out)
+}
+
+/// Adds a statement `.half` with these halves in a line of its own, as `print_statement` does. `Memory` comes where an
+/// allocation is refused: `out` then has a part of the text, and is to be given up.
+pub fn print_halves(out: &mut Bytes, halves: &[u16]) -> Result<(), Memory>
+    // It is what is added.
+    ensures text { OnOk result (out.new ≡ out.old ++ printed_statement (told (Statement.Halves halves.now))) }
+    // The line is read back as the statement.
+    ensures read_back { OnOk result (IsPrintable (told (Statement.Halves halves.now)) → ReadsBack (printed_statement (told (Statement.Halves halves.now))) (λ ts. IsStatement ts (told (Statement.Halves halves.now)))) }
+{
+    add_halves_row(out, halves)?;
+    end_line(out)
+}
+
+/// Adds a statement `.byte` with these bytes in a line of its own, as `print_statement` does. `Memory` comes where an
+/// allocation is refused: `out` then has a part of the text, and is to be given up.
+pub fn print_bytes(out: &mut Bytes, bytes: &[u8]) -> Result<(), Memory>
+    // It is what is added.
+    ensures text { OnOk result (out.new ≡ out.old ++ printed_statement (told (Statement.Bytes bytes.now))) }
+    // The line is read back as the statement.
+    ensures read_back { OnOk result (IsPrintable (told (Statement.Bytes bytes.now)) → ReadsBack (printed_statement (told (Statement.Bytes bytes.now))) (λ ts. IsStatement ts (told (Statement.Bytes bytes.now)))) }
+{
+    add_bytes_row(out, bytes)?;
+    end_line(out)
 }

@@ -1,9 +1,9 @@
 use crate::instruction::Instruction;
 use lcc_base::{Bytes, Items};
 
-/// What stands behind the labels of a line.
+/// What stands behind the labels of a line, in which places have names of some kind.
 #[derive(Debug, Drop)]
-pub enum Statement<'a> {
+pub enum Statement<N> {
     /// Nothing.
     Nothing,
     /// `.text`: what follows is code.
@@ -11,11 +11,11 @@ pub enum Statement<'a> {
     /// `.data`: what follows is data.
     Data,
     /// `.globl name`: the name is seen from outside.
-    Global(&'a [u8]),
+    Global(N),
     /// `.align n`: to a multiple of 2^n bytes, n from 0 to 4.
     Align(u8),
     /// `.word items`: words of four bytes.
-    Words(Items<Item<'a>>),
+    Words(Items<Item<N>>),
     /// `.half items`: the low two bytes of each sum.
     Halves(Items<u16>),
     /// `.byte items`: the low byte of each sum.
@@ -23,12 +23,12 @@ pub enum Statement<'a> {
     /// `.space n`: so many bytes that are zero.
     Space(u32),
     /// An instruction.
-    Instruction(Instruction<&'a [u8]>),
+    Instruction(Instruction<N>),
 }
 
 /// A word of data: the sum, modulo 2^32, of the place of a name, if there is one, and a number.
-#[derive(Clone, Copy, Debug)]
-pub struct Item<'a> {
-    pub name: Option<&'a [u8]>,
+#[derive(Clone, Copy, Debug, PartialEq, Eq)]
+pub struct Item<N> {
+    pub name: Option<N>,
     pub value: u32,
 }

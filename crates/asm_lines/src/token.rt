@@ -1,7 +1,8 @@
 /// A token of a line of assembly.
 #[derive(Clone, Copy, Debug)]
 pub struct Token<'a> {
-    /// A word's or name's bytes, the digits of a number, or what stands behind a register's `$`; nothing for a sign.
+    /// A word's or name's bytes, the digits of a number, or what stands behind a register's `$`. Of a sign and of `Bad` it
+    /// says nothing.
     pub text: &'a [u8],
     pub kind: Kind,
     /// Whether blanks stand before it.

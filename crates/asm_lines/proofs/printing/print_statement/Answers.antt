@@ -4,4 +4,4 @@ use Rattle.asm_lines.proofs.Printed.{statement_back}
 use Rattle.asm_lines.proofs.printing.print_statement.Goals as goal
 
 pub returns-clause-read_back : goal.returns-clause-read_back
-returns-clause-read_back c = on_ok_weaker c.push.result (λ e p. statement_back (told c.args.statement.now) c.in_ok-add_statement.ensures.within p) c.push.ensures.ok
+returns-clause-read_back c = on_ok_weaker c.end_line.result (λ e p. statement_back (told c.args.statement.now) c.in_ok-add_statement.ensures.within p) c.end_line.ensures
