@@ -1,0 +1,17 @@
+//! The MIPS machine: a loaded program, and its steps.
+#![tactic(auto)]
+
+mod acting;
+mod built_ins;
+mod load_fault;
+mod loading;
+mod machine;
+mod memory;
+mod operations;
+mod processor;
+#[cfg(test)]
+mod tests;
+
+pub use load_fault::LoadFault;
+pub use loading::load;
+pub use machine::Machine;

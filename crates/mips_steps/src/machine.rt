@@ -1,0 +1,125 @@
+ghost use Rattle.std.specs.Prelude.{◌≡◌, ℕ, ◌<◌, ◌≤◌, List, [], Some, None, Option, drop, length, IfSome, slice_get};
+ghost use Rattle.std.specs.Option.{option_copied};
+ghost use Rattle.asm_lines.specs.declared.instruction.Instruction.{Instruction};
+ghost use Rattle.asm_programs.specs.Addresses.{data_start};
+ghost use Rattle.asm_programs.specs.declared.running.Input.{Input};
+ghost use Rattle.mips_steps.specs.StepTable.{fetched, prints, takes};
+ghost use Rattle.mips_steps.specs.Stepped.{IsStepped, scene, step_of, printed_by};
+
+use crate::built_ins::next_byte;
+use crate::processor::Processor;
+use asm_programs::{
+    CODE_START, END_AT, EXIT_AT, GETCHAR_AT, Input, Instruction, PUTCHAR_AT, Step, StuckCause,
+};
+use lcc_base::{Order, Sink};
+use std::marker::Model;
+
+/// A MIPS machine with its program, which contracts see as the code, in which names are addresses, the order of bytes,
+/// the registers, the data, the stack and the address of the next instruction.
+#[derive(Drop)]
+pub struct Machine {
+    code: Vec<Instruction<u32>>,
+    order: Order,
+    processor: Processor,
+}
+
+impl Model for Machine {
+    ghost use Rattle.std.specs.Prelude.{◌≤◌, length};
+    ghost use Rattle.mips_steps.specs.State.{MMachine};
+
+    ghost Value = { MMachine };
+
+    ghost view = { λ m. record { code = m.code.items; order = m.order; cpu = m.processor } };
+
+    ghost invariant = { λ m. length m.code.items ≤ 4194304 };
+}
+
+impl Machine {
+    /// The machine with this code, in this state.
+    pub(crate) fn new(code: Vec<Instruction<u32>>, order: Order, processor: Processor) -> Self
+        requires { length code.items ≤ 4194304 }
+        ensures { result ≡ record { code = code.items; order = order; cpu = processor } }
+    {
+        Machine {
+            code,
+            order,
+            processor,
+        }
+    }
+
+    /// One step: an instruction, a built-in function or the end.
+    ///
+    /// `putchar` writes a byte, and the answer is `Failed` where the write fails. `getchar` takes the next byte of the
+    /// input. After any answer but `Went` the machine and the input are as they were. A step takes no memory (Kane and
+    /// Heinrich, MIPS RISC Architecture).
+    pub fn step<K: Sink>(&mut self, input: &mut Input, out: &mut K) -> Step
+        ensures stepped { IsStepped (step_of self.old input.old) (scene self.old input.old (K.taken out.old) (K.faults out.old)) (scene self.new input.new (K.taken out.new) (K.faults out.new)) result }
+        ensures later { K.faults out.old ≤ K.faults out.new }
+        ensures silent { printed_by (step_of self.old input.old) ≡ [] → out.new ≡ out.old }
+    {
+        match fetch(&self.code, self.processor.pc()) {
+            Some(instruction) => self.processor.act(self.order, instruction),
+            None => self.call_built_in(input, out),
+        }
+    }
+
+    /// A step that is no instruction: a built-in function or the end.
+    fn call_built_in<K: Sink>(&mut self, input: &mut Input, out: &mut K) -> Step
+        requires { fetched self.old.code self.old.cpu.pc ≡ None }
+        ensures stepped { IsStepped (step_of self.old input.old) (scene self.old input.old (K.taken out.old) (K.faults out.old)) (scene self.new input.new (K.taken out.new) (K.faults out.new)) result }
+        ensures later { K.faults out.old ≤ K.faults out.new }
+        ensures silent { printed_by (step_of self.old input.old) ≡ [] → out.new ≡ out.old }
+    {
+        match self.processor.pc() {
+            END_AT => Step::Ended(self.processor.register(2).cast_signed()),
+            PUTCHAR_AT => self.print(out),
+            GETCHAR_AT => self.read(input),
+            EXIT_AT => Step::Ended(self.processor.register(4).cast_signed()),
+            pc => Step::Stuck(StuckCause::BadJump, pc),
+        }
+    }
+
+    /// `putchar`: writes the low byte of its argument.
+    fn print<K: Sink>(&mut self, out: &mut K) -> Step
+        ensures stepped { (input : Input) → IsStepped (prints self.old.cpu) (scene self.old input (K.taken out.old) (K.faults out.old)) (scene self.new input (K.taken out.new) (K.faults out.new)) result }
+        ensures later { K.faults out.old ≤ K.faults out.new }
+    {
+        let byte = (self.processor.register(4) & 0xff) as u8;
+        match out.write(&[byte]) {
+            Ok(_) => {
+                self.processor.go_back(byte as u32);
+                Step::Went
+            }
+            Err(_) => Step::Failed,
+        }
+    }
+
+    /// `getchar`: takes the next byte of the input, or gives -1 at its end.
+    fn read(&mut self, input: &mut Input) -> Step
+        ensures { (taken : Option (List ℕ)) (faults : ℕ) → IsStepped (takes self.old.cpu (drop input.old.place input.old.bytes)) (scene self.old input.old taken faults) (scene self.new input.new taken faults) result }
+    {
+        match next_byte(input) {
+            Some(byte) => self.processor.go_back(byte as u32),
+            None => self.processor.go_back(u32::MAX),
+        }
+        Step::Went
+    }
+}
+
+/// The place of an instruction in the code, by its address. An address that is no multiple of 4, or is below the code,
+/// gives a place above the end of any code.
+fn place_of(pc: u32) -> usize
+    ensures is { (code : List (Instruction ℕ)) → length code ≤ 4194304 → slice_get code result ≡ fetched code pc }
+    ensures low { result < 4194304 → pc < data_start }
+{
+    pc.wrapping_sub(CODE_START).rotate_right(2) as usize
+}
+
+/// The instruction at an address, if one is there.
+fn fetch(code: &[Instruction<u32>], pc: u32) -> Option<&Instruction<u32>>
+    requires { length code.now ≤ 4194304 }
+    ensures is { option_copied result ≡ fetched code.now pc }
+    ensures low { IfSome result (λ _. pc < data_start) }
+{
+    code.get(place_of(pc))
+}
