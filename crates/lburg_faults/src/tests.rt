@@ -314,7 +314,7 @@ fn nonterminals(rt: HostRuntime) -> Result<(), Fail> {
 }
 
 #[test]
-fn two_on_a_line(rt: HostRuntime) -> Result<(), Fail> {
+fn two_in_a_declaration(rt: HostRuntime) -> Result<(), Fail> {
     let cases = [
         (
             b"%term A=1 A=2 B=2147483648\n%%\ns: A \"\"\n".as_slice(),
@@ -336,6 +336,16 @@ fn two_on_a_line(rt: HostRuntime) -> Result<(), Fail> {
             b"%start A x\n%term A=1\n%%\ns: A \"\"\n".as_slice(),
             "line 1: BadRule",
         ),
+    ];
+    for (text, want) in cases {
+        assert_eq!(rt; told(&rt, text)?.as_str(), want);
+    }
+    Ok(())
+}
+
+#[test]
+fn two_in_a_rule(rt: HostRuntime) -> Result<(), Fail> {
+    let cases = [
         (
             b"%term A=1 B=2\n%%\ns: t(A) \"\" x\n".as_slice(),
             "line 3: UnknownTerminal",

@@ -1,5 +1,5 @@
 //! A description as a text.
-ghost use Rattle.std.specs.Prelude.{◌≡◌, ◌++◌, take, codes, decimal, IfOk, OnOk};
+ghost use Rattle.std.specs.Prelude.{◌≡◌, ◌++◌, codes, decimal, IfOk, OnOk};
 ghost use Rattle.std.specs.Fmt.{signed_decimal};
 ghost use Rattle.lburg_model.specs.Pattern.{pattern_of};
 ghost use Rattle.lburg_grammar.specs.DescriptionText.{IsText};

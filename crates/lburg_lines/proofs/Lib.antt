@@ -1,5 +1,3 @@
-pub mod FirstBytes
-pub mod Next
 pub mod Blanks
 pub mod Once
 pub mod Places

@@ -173,7 +173,7 @@ fn arities(rt: HostRuntime) -> Result<(), Fail> {
 }
 
 #[test]
-fn kinds(rt: HostRuntime) -> Result<(), Fail> {
+fn kinds_of_operands(rt: HostRuntime) -> Result<(), Fail> {
     let cases = [
         // An operand gives no value.
         ([FIVE, ARG, NEG].as_slice(), 0),
@@ -191,6 +191,16 @@ fn kinds(rt: HostRuntime) -> Result<(), Fail> {
         ([ADDRESS, FIVE, SUB].as_slice(), 0),
         ([FIVE, ADDRESS, MUL, NEG].as_slice(), 0),
         ([ADDRESS, ARG, ADDRESS, CALL].as_slice(), 0),
+    ];
+    for (parts, root) in cases {
+        assert_eq!(rt; fault(&rt, parts)?, Some(ForestFault::Kind { root }));
+    }
+    Ok(())
+}
+
+#[test]
+fn kinds_of_symbols(rt: HostRuntime) -> Result<(), Fail> {
+    let cases = [
         // A constant or a symbol is missing, of another kind, or doesn't fit.
         ([Part::With(Op::Cnst, Suffix::I, NAME, None)].as_slice(), 0),
         // A constant with a symbol.
@@ -228,6 +238,16 @@ fn kinds(rt: HostRuntime) -> Result<(), Fail> {
             [Part::With(Op::Addrg, Suffix::P, BEHIND, None), CALL].as_slice(),
             0,
         ),
+    ];
+    for (parts, root) in cases {
+        assert_eq!(rt; fault(&rt, parts)?, Some(ForestFault::Kind { root }));
+    }
+    Ok(())
+}
+
+#[test]
+fn kinds_of_roots(rt: HostRuntime) -> Result<(), Fail> {
+    let cases = [
         // An address alone.
         ([ADDRESS].as_slice(), 0),
         ([FIVE, RET, ADDRESS, FIVE, RET].as_slice(), 1),

@@ -1,4 +1,4 @@
--- The longest token of each kind.
+-- Laws of tokens: when what stands at the front is the longest token of its kind, and when none begins.
 use Rattle.std.proofs.Common.{◌≡◌, ◌≤◌, ◌+◌, ℕ, suc, Bool, true, false, ◌==◌, ◌||◌, List, [], ◌∷◌, ◌++◌, length, take, drop, refl, sym, ap, subst, ◌∙◌, append_assoc, arith}
 use Rattle.std.proofs.lemmas.List.{take-append-drop, length-append}
 use Rattle.std.proofs.Math.Seq.{drop-append_seam, take-append_seam}
@@ -10,7 +10,7 @@ use Rattle.lcc_text.proofs.Runs.{longest_run, run_exact, run_pos, starts_take}
 use Rattle.lburg_lines.specs.declared.token.Sign.{Sign}
 use Rattle.lburg_lines.specs.Tokens.{Tok, Word, Number, Negative, Template, Keyword, Mark, Bound, Wrong, text_of, IsToken, is_quoted, escapes_well, sign_code}
 use Rattle.lburg_lines.specs.Spelling.{IsNext, NoToken}
-use Rattle.lburg_lines.proofs.FirstBytes.{kind, kind_of, first_kind, same_kind, other_kind}
+use Rattle.lburg_lines.specs.FirstBytes.{kind, kind_of, first_kind, same_kind, other_kind}
 
 or_left : (x y z : Bool) → x ≡ true → ((x || y) || z) ≡ true
 or_left true y z h = refl
