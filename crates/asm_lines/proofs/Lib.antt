@@ -4,9 +4,7 @@ pub mod Commas
 pub mod DirectiveReads
 pub mod InstructionReads
 pub mod ItemReads
-pub mod Next
 pub mod NumberReads
-pub mod Numerals
 pub mod OneFault
 pub mod OneOperand
 pub mod OneStatement
@@ -20,4 +18,3 @@ pub mod StatementReads
 pub mod Suffixes
 pub mod TokenKinds
 pub mod WordTables
-pub mod Written

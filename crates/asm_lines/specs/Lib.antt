@@ -1,6 +1,9 @@
 pub mod Classes
 pub mod Tokens
 pub mod Spelling
+pub mod Numerals
+pub mod Next
+pub mod Written
 pub mod Numbers
 pub mod Words
 pub mod Operands

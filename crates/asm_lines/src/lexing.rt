@@ -21,7 +21,7 @@ struct Next<'a> {
 }
 
 /// The kind of the sign that is this byte.
-#[tactic(auto, using(crate::proofs::Next::no_sign))]
+#[tactic(auto, using(crate::specs::Next::no_sign))]
 fn sign_of(byte: u8) -> Option<Kind>
     ensures some { IfSome result (λ k. IsToken (tok_of k []) × (text_of (tok_of k []) ≡ byte ∷ [])) }
     ensures none { IfNone result ((k : Kinds) → IsToken (tok_of k []) → text_of (tok_of k []) ≢ byte ∷ []) }
@@ -38,7 +38,7 @@ fn sign_of(byte: u8) -> Option<Kind>
 }
 
 /// The name at the front.
-#[tactic(auto, using(crate::proofs::Next::word_next, lcc_text::proofs::Runs::run_pos))]
+#[tactic(auto, using(crate::specs::Next::word_next, lcc_text::proofs::Runs::run_pos))]
 fn word<'a>(bytes: &'a [u8]) -> Next<'a>
     requires symbol { StartsIn (in_asm Symbol) bytes.now }
     requires no_digit { StopsIn (in_class Digit) bytes.now }
@@ -54,7 +54,7 @@ fn word<'a>(bytes: &'a [u8]) -> Next<'a>
 }
 
 /// The hexadecimal digits behind `0x` at the front.
-#[tactic(auto, using(crate::proofs::Next::hex_behind, crate::proofs::Next::no_hex))]
+#[tactic(auto, using(crate::specs::Next::hex_behind, crate::specs::Next::no_hex))]
 fn hexadecimal<'a>(bytes: &'a [u8]) -> Option<Next<'a>>
     ensures some { IfSome result (λ x. IsNext bytes.now (tok_of x.kind x.text.now) x.rest.now) }
     ensures shorter { IfSome result (λ x. length x.rest.now < length bytes.now) }
@@ -77,7 +77,7 @@ fn hexadecimal<'a>(bytes: &'a [u8]) -> Option<Next<'a>>
 }
 
 /// The number at the front.
-#[tactic(auto, using(crate::proofs::Next::decimal_next, lcc_text::proofs::Runs::run_pos))]
+#[tactic(auto, using(crate::specs::Next::decimal_next, lcc_text::proofs::Runs::run_pos))]
 fn number<'a>(bytes: &'a [u8]) -> Next<'a>
     requires { StartsIn (in_class Digit) bytes.now }
     ensures next { IsNext bytes.now (tok_of result.kind result.text.now) result.rest.now }
@@ -97,7 +97,7 @@ fn number<'a>(bytes: &'a [u8]) -> Next<'a>
 }
 
 /// The name of a register, whose dollar sign is gone.
-#[tactic(auto, using(crate::proofs::Next::dollar_next, crate::proofs::Next::no_dollar))]
+#[tactic(auto, using(crate::specs::Next::dollar_next, crate::specs::Next::no_dollar))]
 fn dollar<'a>(bytes: &'a [u8]) -> Option<Next<'a>>
     ensures some { IfSome result (λ x. IsNext (36 ∷ bytes.now) (tok_of x.kind x.text.now) x.rest.now) }
     ensures shorter { IfSome result (λ x. length x.rest.now ≤ length bytes.now) }
@@ -115,7 +115,7 @@ fn dollar<'a>(bytes: &'a [u8]) -> Option<Next<'a>>
 }
 
 /// The longest token at the front, and the bytes behind it. None where no token begins.
-#[tactic(auto, using(crate::proofs::Next::sign_next, crate::proofs::Next::none_next, crate::proofs::Next::none_empty))]
+#[tactic(auto, using(crate::specs::Next::sign_next, crate::specs::Next::none_next, crate::specs::Next::none_empty))]
 fn next_token<'a>(bytes: &'a [u8]) -> Option<Next<'a>>
     ensures some { IfSome result (λ x. IsNext bytes.now (tok_of x.kind x.text.now) x.rest.now) }
     ensures shorter { IfSome result (λ x. length x.rest.now < length bytes.now) }

@@ -1,34 +1,40 @@
-//! Assembly texts: lines, the programs that they make, and what a machine answers.
+//! Texts of assembly: the programs that they make, the lines of which they are printed, and what a machine answers.
 #![tactic(auto)]
 
+mod adding;
+mod addresses;
 mod asm_fault;
-mod assembling;
-mod class;
-mod fitting;
-mod instruction;
+mod assembly;
+mod datum;
+mod finishing;
 mod isa;
-mod lexing;
-mod line;
-mod line_reader;
-mod mnemonic;
-mod operand_reader;
+mod labels;
+mod laws;
+mod line_adding;
+mod lines;
+mod linking;
+mod name_table;
+mod naming;
+mod place;
 mod printing;
 mod program;
 mod reading;
-mod register;
-mod row_reader;
 mod running;
-mod statement_reader;
-mod token;
+mod uses;
 
+pub use addresses::{CODE_START, DATA_START, END_AT, EXIT_AT, GETCHAR_AT, PUTCHAR_AT, STACK_TOP};
 pub use asm_fault::AsmFault;
-pub use instruction::{Address, BinaryOp, Instruction, LoadOp, Operand, StoreOp, Target, UnaryOp};
+pub use asm_lines::{
+    Address, BinaryOp, Condition, Instruction, Item, LoadOp, Register, Statement, StoreOp, Target,
+    UnaryOp, Value,
+};
 pub use isa::Isa;
-pub use line::{Directive, Line, Lines, Statement};
+pub use laws::{one_fault, one_program};
+pub use lines::Lines;
+pub use linking::Linked;
 pub use printing::print;
-pub use program::{Label, Program};
+pub use program::Program;
 pub use reading::read;
-pub use register::Register;
 pub use running::{Input, Step, StuckCause};
 
 #[cfg(test)]

@@ -1,221 +1,163 @@
 //! Lines as text.
-ghost use Rattle.std.specs.Prelude.{◌≡◌, ◌<◌, ◌≤◌, ◌++◌, ◌∷◌, [], List, map, decimal, IfOk, OnOk};
+ghost use Rattle.std.specs.Prelude.{◌≡◌, ◌++◌, map, length, All, IfOk, OnOk};
 ghost use Rattle.lcc_text.specs.Lines.{lines_of};
-ghost use Rattle.asm_text.specs.declared.program.Program.{Program as Programs};
-ghost use Rattle.asm_text.specs.Tokens.{Number, text_of};
-ghost use Rattle.asm_text.specs.Instructions.{AreLines, two, three};
-ghost use Rattle.asm_text.specs.Program.{Makes};
+ghost use Rattle.asm_lines.specs.Printed.{printed_statement};
+ghost use Rattle.asm_lines.specs.Statements.{told_by, item_of, item_by, instruction_with};
 ghost use Rattle.asm_text.specs.AssemblyText.{IsText};
-ghost use Rattle.asm_text.specs.Words.{head_word};
+ghost use Rattle.asm_text.specs.LineBack.{IsLabelBack, IsStatementBack, IsLineBack};
+ghost use Rattle.asm_text.specs.LineTable.{lines_behind, numbers_of_items, numbers_in, AreLineTable};
+ghost use Rattle.asm_text.specs.Lines.{AreLines};
+ghost use Rattle.asm_text.specs.Makes.{Makes};
+ghost use Rattle.asm_text.specs.Names.{name_at, name_in, names_of_instruction};
 ghost use Rattle.asm_text.specs.Printable.{ArePrintable};
-ghost use Rattle.asm_text.specs.Printed.{
-  joined,
-  register_token,
-  operand_token,
-  target_token,
-  address_tokens,
-  operand_tokens,
-  label_tokens,
-  statement_tokens,
-  written,
-  line_text,
-  IsOperandWithin,
-  IsTargetWithin,
-  IsAddressWithin,
-  IsInstructionWithin,
-  IsStatementWithin,
-  IsLineWithin,
-};
+ghost use Rattle.asm_text.specs.Printed.{labels_text, lines_text};
+ghost use Rattle.asm_text.specs.Program.{MProgram};
+ghost use Rattle.asm_text.specs.ProgramTable.{AreBelow};
 
-use crate::instruction::{Address, Instruction, Operand, Target};
-use crate::line::{Directive, Line, Lines, Statement};
-use crate::mnemonic::{Mnemonic, Operation, text_of_operation, text_of_word};
-use crate::register::Register;
-use itoa::Buffer;
+use crate::lines::{Line, Lines};
+use crate::name_table::NameTable;
+use crate::naming::{name_of, named};
+use asm_lines::{
+    Instruction, Item, Statement, print_bytes, print_halves, print_label, print_statement,
+    print_words,
+};
 use lcc_base::{Bytes, Memory};
 use std::alloc::Global;
 
-fn push_number(out: &mut Bytes, number: u32) -> Result<(), Memory>
-    ensures text { OnOk result (out.new ≡ out.old ++ decimal number) }
-    ensures within { number ≤ 4294967295 }
+/// The instruction with its name, if it has one.
+fn named_instruction<'n>(
+    names: &'n NameTable,
+    instruction: &Instruction<u32>,
+) -> Instruction<&'n [u8]>
+    requires { AreBelow (length names.now) (names_of_instruction instruction.now) }
+    ensures { instruction_with (λ n. n.now) result ≡ instruction_with (name_at names.now) instruction.now }
 {
-    let mut buffer = Buffer::new();
-    out.extend(buffer.format(number).as_bytes())
-}
-
-fn push_register(out: &mut Bytes, register: Register) -> Result<(), Memory>
-    ensures text { OnOk result (out.new ≡ out.old ++ text_of (register_token register)) }
-    ensures within { OnOk result (register < 32) }
-{
-    out.push(b'$')?;
-    push_number(out, u32::from(register.number()))
-}
-
-fn push_operand(out: &mut Bytes, operand: Operand) -> Result<(), Memory>
-    ensures text { OnOk result (out.new ≡ out.old ++ text_of (operand_token operand)) }
-    ensures within { OnOk result (IsOperandWithin operand) }
-{
-    match operand {
-        Operand::Register(register) => push_register(out, register),
-        Operand::Number(number) => push_number(out, number),
+    match name_of(instruction) {
+        Some(number) => named(instruction, names.name(number as usize)),
+        None => named(instruction, &[]),
     }
 }
 
-fn push_target(out: &mut Bytes, target: &Target) -> Result<(), Memory>
-    ensures text { OnOk result (out.new ≡ out.old ++ text_of (target_token target.now)) }
-    ensures within { OnOk result (IsTargetWithin target.now) }
+/// The item with its name, if it has one.
+fn named_item<'n>(names: &'n NameTable, item: Item<u32>) -> Item<&'n [u8]>
+    requires { AreBelow (length names.now) (name_in item.name) }
+    ensures { item_of result ≡ item_by (name_at names.now) item }
 {
-    match target {
-        Target::Label(name) => out.extend(name.as_slice()),
-        Target::Register(register) => push_register(out, *register),
+    Item {
+        name: match item.name {
+            Some(number) => Some(names.name(number as usize)),
+            None => None,
+        },
+        value: item.value,
     }
 }
 
-/// The word of a statement between tabs.
-fn push_word(out: &mut Bytes, word: &[u8]) -> Result<(), Memory>
-    ensures { OnOk result (out.new ≡ out.old ++ (9 ∷ word.now) ++ 9 ∷ []) }
+/// The items with their names.
+fn named_items<'n>(
+    alloc: Global,
+    names: &'n NameTable,
+    items: &[Item<u32>],
+) -> Result<Vec<Item<&'n [u8]>>, Memory>
+    requires { AreBelow (length names.now) (numbers_of_items items.now) }
+    ensures { IfOk result (λ v. map item_of v.items ≡ map (item_by (name_at names.now)) items.now) }
 {
-    out.push(b'\t')?;
-    out.extend(word)?;
-    out.push(b'\t')
-}
-
-fn push_two(out: &mut Bytes, to: Register, from: Register) -> Result<(), Memory>
-    ensures text { OnOk result (out.new ≡ out.old ++ written (map joined (two (register_token to) (register_token from)))) }
-    ensures within { OnOk result ((to < 32) × (from < 32)) }
-{
-    push_register(out, to)?;
-    out.push(b',')?;
-    push_register(out, from)
-}
-
-fn push_register_and_number(out: &mut Bytes, to: Register, number: u32) -> Result<(), Memory>
-    ensures text { OnOk result (out.new ≡ out.old ++ written (map joined (two (register_token to) (Number (decimal number))))) }
-    ensures within { OnOk result ((to < 32) × (number ≤ 4294967295)) }
-{
-    push_register(out, to)?;
-    out.push(b',')?;
-    push_number(out, number)
-}
-
-fn push_three(out: &mut Bytes, to: Register, from: Register, operand: Operand) -> Result<(), Memory>
-    ensures text { OnOk result (out.new ≡ out.old ++ written (map joined (three (register_token to) (register_token from) (operand_token operand)))) }
-    ensures within { OnOk result ((to < 32) × (from < 32) × IsOperandWithin operand) }
-{
-    push_two(out, to, from)?;
-    out.push(b',')?;
-    push_operand(out, operand)
-}
-
-fn push_address(out: &mut Bytes, register: Register, address: Address) -> Result<(), Memory>
-    ensures text { OnOk result (out.new ≡ out.old ++ written (map joined (address_tokens register address))) }
-    ensures within { OnOk result ((register < 32) × IsAddressWithin address) }
-{
-    push_register_and_number(out, register, address.offset)?;
-    out.push(b'(')?;
-    push_register(out, address.base)?;
-    out.push(b')')
-}
-
-fn push_operands(out: &mut Bytes, instruction: &Instruction) -> Result<(), Memory>
-    ensures text { OnOk result (out.new ≡ out.old ++ written (map joined (operand_tokens instruction.now))) }
-    ensures within { OnOk result (IsInstructionWithin instruction.now) }
-{
-    match instruction {
-        Instruction::LoadNumber(to, number) => push_register_and_number(out, *to, *number),
-        Instruction::Move(to, from) => push_two(out, *to, *from),
-        Instruction::Binary(_, to, from, operand) => push_three(out, *to, *from, *operand),
-        Instruction::Unary(_, to, from) => push_two(out, *to, *from),
-        Instruction::Load(_, to, address) => push_address(out, *to, *address),
-        Instruction::Store(_, from, address) => push_address(out, *from, *address),
-        Instruction::Branch(name) => out.extend(name.as_slice()),
-        Instruction::Jump(target) => push_target(out, target),
-        Instruction::Call(target) => push_target(out, target),
+    let mut found = Vec::with_capacity(alloc, items.len())?;
+    for item in items {
+        found.push(named_item(names, *item))?;
     }
+    Ok(found)
 }
 
-/// The word of the instruction.
-fn word_of_instruction(instruction: &Instruction) -> &'static [u8]
-    ensures { result.now ≡ head_word instruction.now }
+/// Adds a statement `.word` with these items.
+fn add_words(
+    alloc: Global,
+    out: &mut Bytes,
+    names: &NameTable,
+    items: &[Item<u32>],
+) -> Result<(), Memory>
+    requires { AreBelow (length names.now) (numbers_of_items items.now) }
+    ensures text { OnOk result (out.new ≡ out.old ++ printed_statement (told_by (name_at names.now) (Statement.Words items.now))) }
+    ensures back { OnOk result (IsStatementBack (told_by (name_at names.now) (Statement.Words items.now))) }
 {
-    match instruction {
-        Instruction::LoadNumber(_, _) => text_of_operation(Operation::LoadNumber),
-        Instruction::Move(_, _) => text_of_operation(Operation::Move),
-        Instruction::Binary(op, _, _, _) => text_of_operation(Operation::Binary(*op)),
-        Instruction::Unary(op, _, _) => text_of_operation(Operation::Unary(*op)),
-        Instruction::Load(op, _, _) => text_of_operation(Operation::Load(*op)),
-        Instruction::Store(op, _, _) => text_of_operation(Operation::Store(*op)),
-        Instruction::Branch(_) => text_of_word(Mnemonic::Branch),
-        Instruction::Jump(_) => text_of_word(Mnemonic::Jump),
-        Instruction::Call(_) => text_of_word(Mnemonic::Call),
-    }
+    let found = named_items(alloc, names, items)?;
+    print_words(out, &found)
 }
 
-fn push_instruction(out: &mut Bytes, instruction: &Instruction) -> Result<(), Memory>
-    ensures text { OnOk result (out.new ≡ out.old ++ written (statement_tokens (Statement.Instruction instruction.now))) }
-    ensures within { OnOk result (IsInstructionWithin instruction.now) }
-{
-    push_word(out, word_of_instruction(instruction))?;
-    push_operands(out, instruction)
-}
-
-fn push_statement(out: &mut Bytes, statement: &Statement) -> Result<(), Memory>
-    ensures text { OnOk result (out.new ≡ out.old ++ written (statement_tokens statement.now)) }
-    ensures within { OnOk result (IsStatementWithin statement.now) }
+/// Adds a statement and a line feed.
+fn add_statement(
+    alloc: Global,
+    out: &mut Bytes,
+    names: &NameTable,
+    statement: &Statement<u32>,
+) -> Result<(), Memory>
+    requires { AreBelow (length names.now) (numbers_in statement.now) }
+    ensures text { OnOk result (out.new ≡ out.old ++ printed_statement (told_by (name_at names.now) statement.now)) }
+    ensures back { OnOk result (IsStatementBack (told_by (name_at names.now) statement.now)) }
 {
     match statement {
-        Statement::Nothing => Ok(()),
-        Statement::Directive(Directive::Text) => {
-            out.push(b'\t')?;
-            out.extend(text_of_word(Mnemonic::Text))
+        Statement::Nothing => print_statement(out, &Statement::Nothing),
+        Statement::Text => print_statement(out, &Statement::Text),
+        Statement::Data => print_statement(out, &Statement::Data),
+        Statement::Global(number) => {
+            print_statement(out, &Statement::Global(names.name(*number as usize)))
         }
-        Statement::Directive(Directive::Global(name)) => {
-            push_word(out, text_of_word(Mnemonic::Global))?;
-            out.extend(name.as_slice())
-        }
-        Statement::Instruction(instruction) => push_instruction(out, instruction),
+        Statement::Align(n) => print_statement(out, &Statement::Align(*n)),
+        Statement::Words(items) => add_words(alloc, out, names, items.as_slice()),
+        Statement::Halves(halves) => print_halves(out, halves.as_slice()),
+        Statement::Bytes(bytes) => print_bytes(out, bytes.as_slice()),
+        Statement::Space(count) => print_statement(out, &Statement::Space(*count)),
+        Statement::Instruction(instruction) => print_statement(
+            out,
+            &Statement::Instruction(named_instruction(names, instruction)),
+        ),
     }
 }
 
-fn push_label(out: &mut Bytes, name: &[u8]) -> Result<(), Memory>
-    ensures { OnOk result (out.new ≡ out.old ++ name.now ++ 58 ∷ []) }
+/// Adds labels, without a line feed.
+fn add_labels(out: &mut Bytes, names: &NameTable, labels: &[u32]) -> Result<(), Memory>
+    requires { AreBelow (length names.now) labels.now }
+    ensures text { OnOk result (out.new ≡ out.old ++ labels_text (map (name_at names.now) labels.now)) }
+    ensures back { OnOk result (All IsLabelBack (map (name_at names.now) labels.now)) }
 {
-    out.extend(name)?;
-    out.push(b':')
-}
-
-fn push_labels(out: &mut Bytes, names: &[Bytes]) -> Result<(), Memory>
-    ensures { OnOk result (out.new ≡ out.old ++ written (label_tokens names.now)) }
-{
-    for name in names {
-        push_label(out, name.as_slice())?;
+    for label in labels {
+        print_label(out, names.name(*label as usize))?;
     }
     Ok(())
 }
 
-fn push_line(out: &mut Bytes, line: &Line) -> Result<(), Memory>
-    ensures text { OnOk result (out.new ≡ out.old ++ line_text line.now) }
-    ensures within { OnOk result (IsLineWithin line.now) }
+/// Adds the lines, of which the first has the first of these labels.
+fn add_lines(
+    alloc: Global,
+    out: &mut Bytes,
+    names: &NameTable,
+    labels: &[u32],
+    lines: &[Line],
+) -> Result<(), Memory>
+    requires { AreLineTable names.now labels.now lines.now }
+    ensures text { OnOk result (out.new ≡ out.old ++ lines_text (lines_behind names.now 1 labels.now lines.now)) }
+    ensures back { OnOk result (All IsLineBack (lines_behind names.now 1 labels.now lines.now)) }
 {
-    let _number = line.number;
-    push_labels(out, line.labels.as_slice())?;
-    push_statement(out, &line.statement)?;
-    out.push(b'\n')
+    let mut rest = labels;
+    for line in lines {
+        let (own, behind) = rest.split_at(line.labels);
+        add_labels(out, names, own)?;
+        add_statement(alloc, out, names, &line.statement)?;
+        rest = behind;
+    }
+    Ok(())
 }
 
-/// The lines as text: the labels of a line without blanks, then its statement, with a tab before
-/// its word and before its first operand. Registers are written by their numbers, and numbers
-/// without a sign.
+/// The lines as text: the labels of a line without blanks, and then its statement, with a tab before its word and before its
+/// first operand, registers by their numbers, and numbers without a sign. `Memory` comes where an allocation is refused.
 pub fn print(alloc: Global, lines: &Lines) -> Result<Bytes, Memory>
+    // It is their text.
+    ensures text { IfOk result (λ bytes. bytes ≡ lines_text lines.now) }
     // The lines of the text are these.
     ensures lines { IfOk result (λ bytes. ArePrintable lines.now → AreLines (lines_of bytes) 1 lines.now) }
-    // The text is one of the lines' program, also where that is beyond the limit of what is read.
-    ensures program { IfOk result (λ bytes. (p : Programs) → ArePrintable lines.now → Makes lines.now p → IsText bytes p) }
+    // The text is one of the lines' program, also where that is beyond the limits of what is read.
+    ensures program { IfOk result (λ bytes. (p : MProgram) → ArePrintable lines.now → Makes lines.now p → IsText bytes p) }
 {
     let mut out = Bytes::new(alloc);
-    let all = lines.as_slice();
-    for line in all {
-        push_line(&mut out, line)?;
-    }
+    add_lines(alloc, &mut out, &lines.names, &lines.labels, &lines.lines)?;
     Ok(out)
 }

@@ -1,143 +1,123 @@
-use super::*;
-use crate::line_reader::read_lines;
-use lcc_base::Bytes;
+//! Tests of whole texts.
+mod faults;
+mod printing;
+mod programs;
+
+use crate::naming::name_of;
+use crate::{AsmFault, Isa, Linked, StuckCause, one_fault, one_program, read};
+use lcc_base::{Memory, Order, Which};
+use lcc_text::next_line;
 use std::test::Fail;
 
-/// The program of the text, if it is one.
-fn program(rt: &HostRuntime, text: &[u8]) -> Result<Option<Program>, Fail> {
+/// Adds where `main` stands, the addresses of the instructions' names, and the bytes of the data.
+fn add_linked(rt: &HostRuntime, out: &mut Vec<u8>, linked: &Linked) -> Result<(), Fail> {
+    match linked.main {
+        Some(main) => {
+            out.extend_from_slice(format!(in rt.alloc(); "main {main} code")?.as_bytes())?
+        }
+        None => out.extend_from_slice(b"no main code")?,
+    }
+    for instruction in linked.code.as_slice() {
+        match name_of(instruction) {
+            Some(address) => {
+                out.extend_from_slice(format!(in rt.alloc(); " {address:x}")?.as_bytes())?
+            }
+            None => out.extend_from_slice(b" -")?,
+        }
+    }
+    out.extend_from_slice(b" data")?;
+    for byte in linked.data.as_slice() {
+        out.extend_from_slice(format!(in rt.alloc(); " {byte:02x}")?.as_bytes())?;
+    }
+    Ok(())
+}
+
+/// Adds the program of a text, as a machine of this order holds it, or the text's fault.
+fn add_read(rt: &HostRuntime, out: &mut Vec<u8>, order: Order, text: &[u8]) -> Result<(), Fail> {
+    if text.len() > 16_777_216 {
+        return Err(Fail::from("a long text"));
+    }
     match read(rt.alloc(), Isa::Mips, text) {
-        Ok(program) => Ok(Some(program)),
-        Err(AsmFault::BadText) => Ok(None),
-        Err(AsmFault::Memory) => Err(Fail::from("memory")),
+        Ok(program) => {
+            let linked = program.link(rt.alloc(), order).ok().ok_or("memory")?;
+            add_linked(rt, out, &linked)
+        }
+        Err(fault) => {
+            out.extend_from_slice(format!(in rt.alloc(); "{:?}", fault)?.as_bytes())?;
+            Ok(())
+        }
     }
+}
+
+/// What each of the texts makes, a line for each. Behind each text stands a line `--`.
+fn shown(rt: &HostRuntime, order: Order, texts: &[u8]) -> Result<Vec<u8>, Fail> {
+    let mut out = Vec::new(rt.alloc());
+    let mut text = Vec::new(rt.alloc());
+    let mut left = texts;
+    while let Some((line, behind)) = next_line(left) {
+        if line == b"--".as_slice() {
+            add_read(rt, &mut out, order, text.as_slice())?;
+            out.push(b'\n')?;
+            text.clear();
+        } else {
+            text.extend_from_slice(line)?;
+            text.push(b'\n')?;
+        }
+        left = behind;
+    }
+    Ok(out)
 }
 
 #[test]
-fn labels_and_line_numbers(rt: HostRuntime) -> Result<(), Fail> {
-    let text =
-        b"\t.globl main # start\n.text\n_a.1:\nb: main:\tli $4,65#A\n\nli : jal putchar\nlast:";
-    let program = program(&rt, text)?.ok_or("a program")?;
-    assert_eq!(rt; program.numbers.as_slice(), [4, 6].as_slice());
-    let labels = program.labels.as_slice();
-    assert_eq!(rt; labels.len(), 5);
-    let want = [
-        (b"_a.1".as_slice(), 0),
-        (b"b".as_slice(), 0),
-        (b"main".as_slice(), 0),
-        (b"li".as_slice(), 1),
-        (b"last".as_slice(), 2),
+fn names_of_causes(rt: HostRuntime) -> Result<(), Fail> {
+    let causes = [
+        (StuckCause::BadJump, "BadJump"),
+        (StuckCause::Outside, "Outside"),
+        (StuckCause::Misaligned, "Misaligned"),
+        (StuckCause::ZeroDivisor, "ZeroDivisor"),
+        (StuckCause::DivideOverflow, "DivideOverflow"),
+        (StuckCause::NoWindow, "NoWindow"),
     ];
-    for (label, (name, place)) in labels.iter().zip(want) {
-        assert_eq!(rt; label.name.as_slice(), name);
-        assert_eq!(rt; label.place, place);
+    for (cause, name) in causes {
+        assert_eq!(rt; cause.name(), name);
     }
-    let code = program.code.as_slice();
-    assert_eq!(rt; code.len(), 2);
-    match &code[0] {
-        Instruction::LoadNumber(to, number) => {
-            assert_eq!(rt; to.number(), 4);
-            assert_eq!(rt; *number, 65);
-        }
-        _ => return Err(Fail::from("li")),
-    }
-    match &code[1] {
-        Instruction::Call(Target::Label(name)) => {
-            assert_eq!(rt; name.as_slice(), b"putchar".as_slice());
-        }
-        _ => return Err(Fail::from("jal")),
-    }
-    Ok(())
-}
-
-/// The lines of the text, printed.
-fn printed(rt: &HostRuntime, text: &[u8]) -> Result<Bytes, Fail> {
-    let lines = read_lines(rt.alloc(), text)?;
-    Ok(print(rt.alloc(), &lines)?)
-}
-
-#[test]
-fn lines_printed(rt: HostRuntime) -> Result<(), Fail> {
-    let cases = [
-        (
-            b"li $4,-2147483648".as_slice(),
-            b"\tli\t$4,2147483648\n".as_slice(),
-        ),
-        (
-            b"li $0,4294967295".as_slice(),
-            b"\tli\t$0,4294967295\n".as_slice(),
-        ),
-        (
-            b" li\t$31 , -1 # x\n".as_slice(),
-            b"\tli\t$31,4294967295\n".as_slice(),
-        ),
-        (b"li $4,-0".as_slice(), b"\tli\t$4,0\n".as_slice()),
-        (
-            b"move $sp,$29\n".as_slice(),
-            b"\tmove\t$29,$29\n".as_slice(),
-        ),
-        (
-            b"lw $2,-4 ($sp)".as_slice(),
-            b"\tlw\t$2,4294967292($29)\n".as_slice(),
-        ),
-        (
-            b"x:y: sw $3 , 07( $4 )".as_slice(),
-            b"x:y:\tsw\t$3,7($4)\n".as_slice(),
-        ),
-        (
-            b"addu $2,$3,$4".as_slice(),
-            b"\taddu\t$2,$3,$4\n".as_slice(),
-        ),
-        (b"subu $2,$3,9".as_slice(), b"\tsubu\t$2,$3,9\n".as_slice()),
-        (
-            b"mul $2,$3,$sp".as_slice(),
-            b"\tmul\t$2,$3,$29\n".as_slice(),
-        ),
-        (b"negu $8,$9".as_slice(), b"\tnegu\t$8,$9\n".as_slice()),
-        (b"b x#".as_slice(), b"\tb\tx\n".as_slice()),
-        (
-            b"j $31\njal f".as_slice(),
-            b"\tj\t$31\n\tjal\tf\n".as_slice(),
-        ),
-        (
-            b".text\n\n#\n.globl f".as_slice(),
-            b"\t.text\n\n\n\t.globl\tf\n".as_slice(),
-        ),
-    ];
-    for (text, want) in cases {
-        assert_eq!(rt; printed(&rt, text)?.as_slice(), want);
-    }
+    one_program();
+    one_fault();
     Ok(())
 }
 
 #[test]
-fn texts_refused(rt: HostRuntime) -> Result<(), Fail> {
-    let cases = [
-        b"li$4,65".as_slice(),
-        b"li $4 65".as_slice(),
-        b"li $32,1".as_slice(),
-        b"li $04,1".as_slice(),
-        b"li $4,4294967296".as_slice(),
-        b"li $4,-2147483649".as_slice(),
-        b"li $4,- 1".as_slice(),
-        b"li $4,0x10".as_slice(),
-        b"li $4,65\r".as_slice(),
-        b"addu $4,$5".as_slice(),
-        b"move $4,5".as_slice(),
-        b"lw $4,($5)".as_slice(),
-        b"lw $4,4".as_slice(),
-        b"not $4,$5".as_slice(),
-        b"b x".as_slice(),
-        b"a: b:\na:".as_slice(),
-        b"1a:".as_slice(),
-        b".data".as_slice(),
-        b".text x".as_slice(),
-        b".globl".as_slice(),
-        b".globl x".as_slice(),
+fn texts_of_faults(rt: HostRuntime) -> Result<(), Fail> {
+    let which = Which::Code;
+    let faults = [
+        (
+            AsmFault::BadLine { line: 1 },
+            "line 1: no line has this form",
+        ),
+        (
+            AsmFault::UnknownInstruction { line: 2 },
+            "line 2: the word is no instruction and no directive",
+        ),
+        (
+            AsmFault::BadOperand { line: 3 },
+            "line 3: the operands have another form",
+        ),
+        (
+            AsmFault::DoubleLabel { line: 4 },
+            "line 4: the label stands twice",
+        ),
+        (
+            AsmFault::UnknownLabel { line: 5 },
+            "line 5: the name is no label",
+        ),
+        (
+            AsmFault::TooLarge { line: 6, which },
+            "line 6: past a limit",
+        ),
+        (AsmFault::from(Memory), "an allocation was refused"),
     ];
-    for text in cases {
-        assert!(rt; program(&rt, text)?.is_none());
+    for (fault, text) in faults {
+        assert_eq!(rt; format!(in rt.alloc(); "{fault}")?.as_str(), text);
     }
-    assert!(rt; program(&rt, b"a: b a\nb:b putchar")?.is_some());
-    assert!(rt; program(&rt, b"")?.is_some());
     Ok(())
 }

@@ -1,6 +1,6 @@
 -- What holds of each command: words ask for one, an input isn't both worked on and refused, and a refused input has one
 -- refusal.
-use Rattle.std.proofs.Common.{◌≡◌, ℕ, inl, inr, List, [], ◌∷◌, Option, Some, None, refl, sym, ap, ◌∙◌}
+use Rattle.std.proofs.Common.{◌≡◌, ◌⊎◌, ℕ, inl, inr, List, [], ◌∷◌, Option, Some, None, refl, sym, ap, subst, ◌∙◌}
 use Rattle.std.specs.Prelude.{codes, if◌then◌else◌}
 use Rattle.std.specs.Str.{bytes_eq}
 use Rattle.std.proofs.lemmas.Option.{same_Some}
@@ -20,49 +20,97 @@ use Rattle.lcc_top.specs.declared.outcome.End.TheVariants as ends
 use Rattle.lcc_top.specs.declared.outcome.Refusal.{Refusal}
 use Rattle.lcc_top.specs.declared.outcome.Refusal.TheVariants as refusal
 use Rattle.lcc_top.specs.declared.text_fault.TextFault.TheVariants.{Refused}
-use Rattle.lcc_top.specs.TextFaults.{of_description, of_trees}
+use Rattle.asm_text.specs.declared.asm_fault.AsmFault.{AsmFault}
+use Rattle.asm_text.specs.AssemblyText.{IsText as IsAssemblyText, IsAssembly}
+use Rattle.asm_text.specs.FirstFault.{FirstFault as FirstAssemblyFault}
+use Rattle.asm_text.specs.Linked.{HasMain}
+use Rattle.asm_text.specs.Program.{MProgram as MAssembly}
+use Rattle.lcc_top.specs.TextFaults.{of_description, of_trees, of_assembly}
+use Rattle.lcc_top.specs.declared.run_options.RunOptions.{RunOptions}
+use Rattle.lcc_top.specs.RunWords.{AreSimrun}
 use Rattle.lcc_top.specs.Cover.{WritesCover, RefusesDescription, RefusesCover}
 use Rattle.lcc_top.specs.Tables.{WritesTables}
-use Rattle.lcc_top.specs.Simulation.{IsSimulation, RefusesSimrun}
+use Rattle.lcc_top.specs.Simulation.{IsSimulation, RefusesAssembly, IsIdle, RefusesSimrun}
 use Rattle.lcc_top.specs.Compilation.{WritesRcc, RefusesRcc}
-use Rattle.lcc_top.specs.Commands.{AreWordsOf, Writes, Refuses}
+use Rattle.lcc_top.specs.Commands.{AreWordsOf, Writes, Refuses, AreAccepted, IsSized}
+use Rattle.lcc_top.proofs.PartedOnce.{parted_once}
+use Rattle.lcc_top.proofs.RunOptions.{one_run, sized}
 
 -- ---- words
 
--- the command of lburg that a word names
-abbrev tool : List (List ℕ) → Option Command
-tool [] = None
-tool (w ∷ ws) = if bytes_eq w (codes "cover") then Some Cover else Some Tables
+-- the tools
+pub data Tool : Type 0 where
+  Covers : Tool
+  Tabulates : Tool
+  Runs : Tool
+  Compiles : Tool
 
--- the command that words name
-abbrev named : List (List ℕ) → Option Command
+-- the tool of lburg that a word names
+abbrev second : List (List ℕ) → Option Tool
+second [] = None
+second (w ∷ ws) = if bytes_eq w (codes "cover") then Some Covers else Some Tabulates
+
+-- the tool that words name
+abbrev named : List (List ℕ) → Option Tool
 named [] = None
 named (w ∷ ws) =
-    if bytes_eq w (codes "lburg") then tool ws
-    else if bytes_eq w (codes "simrun") then Some Simrun
-    else if bytes_eq w (codes "rcc") then Some Rcc
+    if bytes_eq w (codes "lburg") then second ws
+    else if bytes_eq w (codes "simrun") then Some Runs
+    else if bytes_eq w (codes "rcc") then Some Compiles
     else None
 
-named_so : (c : Command) (words : List (List ℕ)) → AreWordsOf c words → named words ≡ Some c
+abbrev tool_of : Command → Tool
+tool_of Cover = Covers
+tool_of Tables = Tabulates
+tool_of (Simrun o) = Runs
+tool_of Rcc = Compiles
+
+named_so : (c : Command) (words : List (List ℕ)) → AreWordsOf c words → named words ≡ Some (tool_of c)
 named_so Cover words is = ap named is
 named_so Tables words is = ap named is
-named_so Simrun words is = ap named is
+named_so (Simrun o) words is = ap named is.words_are
 named_so Rcc words is = ap named is
+
+same_command : (c d : Command) (words : List (List ℕ)) → AreWordsOf c words → AreWordsOf d words → tool_of c ≡ tool_of d → c ≡ d
+same_command Cover Cover words is also same = refl
+same_command Tables Tables words is also same = refl
+same_command Rcc Rcc words is also same = refl
+same_command (Simrun o) (Simrun p) words is also same = ap Simrun (one_run o p words is also)
+same_command c d words is also same = absurd cc
 
 -- words ask for one command
 pub one_command : (c d : Command) (words : List (List ℕ)) → AreWordsOf c words → AreWordsOf d words → c ≡ d
-one_command c d words is also = same_Some c d (sym (named_so c words is) ∙ named_so d words also)
+one_command c d words is also =
+    same_command c d words is also (same_Some (tool_of c) (tool_of d) (sym (named_so c words is) ∙ named_so d words also))
+
+-- the words of none of the commands ask for none
+pub no_command : (words : List (List ℕ)) → (AreWordsOf Cover words → ⊥) → (AreWordsOf Tables words → ⊥) → ((o : RunOptions) → AreSimrun o words → ⊥) → (AreWordsOf Rcc words → ⊥) → AreAccepted words → ⊥
+no_command words cover tables simrun rcc (Cover, is) = cover is
+no_command words cover tables simrun rcc (Tables, is) = tables is
+no_command words cover tables simrun rcc (Simrun o, is) = simrun o is
+no_command words cover tables simrun rcc (Rcc, is) = rcc is
+
+-- a stack that words ask for has its size
+pub stack_sized : (c : Command) (words : List (List ℕ)) → AreWordsOf c words → IsSized c
+stack_sized Cover words is = tt
+stack_sized Tables words is = tt
+stack_sized (Simrun o) words is = sized o words is
+stack_sized Rcc words is = tt
 
 -- ---- lburg cover
 
 -- what the laws of texts say: a text has one first fault, and a description's has none; it is one description's; a tail
--- has one first fault, and one of a description's trees has none
+-- has one first fault, and one of a description's trees has none; an assembly text is one program's, has one first fault,
+-- and a program's has none
 pub record TextLaws : Type 0 where
   pub one_fault : (text : List ℕ) (f g : DescFault) → FirstFault text f → FirstFault text g → f ≡ g
   pub no_fault : (text : List ℕ) (d : MDescription) (f : DescFault) → IsText d text → FirstFault text f → ⊥
   pub one_description : (text : List ℕ) (d e : MDescription) → IsText d text → IsText e text → SameParts d e
   pub one_tree_fault : (text : List ℕ) (d e : MDescription) (f g : TreeFault) → d.terminals ≡ e.terminals → FirstTreeFault d text f → FirstTreeFault e text g → f ≡ g
   pub no_tree_fault : (text : List ℕ) (d e : MDescription) (trees : List MTree) (f : TreeFault) → IsDescription d → d.terminals ≡ e.terminals → IsTail d trees text → FirstTreeFault e text f → ⊥
+  pub one_assembly_fault : (text : List ℕ) (f g : AsmFault) → FirstAssemblyFault text f → FirstAssemblyFault text g → f ≡ g
+  pub no_assembly_fault : (text : List ℕ) (p : MAssembly) (f : AsmFault) → IsAssembly text p → FirstAssemblyFault text f → ⊥
+  pub one_program : (text : List ℕ) (p q : MAssembly) → IsAssemblyText text p → IsAssemblyText text q → p ≡ q
 
 cover_apart : TextLaws → (input text : List ℕ) (end : End) (why : Refusal) → WritesCover input end text → RefusesCover input why → ⊥
 cover_apart laws input text end why (n, cover, ends) (inl (f, first, gives)) = laws.no_fault input cover.description f cover.is_text first
@@ -95,20 +143,34 @@ tables_one laws input why other (f, first, gives) (g, also, tells) = told_once f
 
 -- ---- simrun
 
-simrun_apart : (input text : List ℕ) (end : End) (why : Refusal) → IsSimulation input end text → RefusesSimrun input why → ⊥
-simrun_apart input text end refusal.BadText s bad = bad s.program s.is_assembly
-simrun_apart input text end refusal.NoMain s (p, is, idle) = idle s.program s.run.main s.is_assembly s.run.has_main
-simrun_apart input text end why s none = none
+idle_apart : TextLaws → (assembly : List ℕ) (p : MAssembly) (main : ℕ) → IsAssembly assembly p → HasMain p main → IsIdle assembly → ⊥
+idle_apart laws assembly p main is has (q, also, idle) =
+    idle main (subst (λ (x : MAssembly). HasMain x main) (laws.one_program assembly p q is.text also.text) has)
 
-simrun_one : (input : List ℕ) (why other : Refusal) → RefusesSimrun input why → RefusesSimrun input other → why ≡ other
-simrun_one input refusal.BadText refusal.BadText bad also = refl
-simrun_one input refusal.BadText refusal.NoMain bad (p, is, idle) = absurd (bad p is)
-simrun_one input refusal.NoMain refusal.BadText (p, is, idle) bad = absurd (bad p is)
-simrun_one input refusal.NoMain refusal.NoMain idle also = refl
-simrun_one input why (refusal.Fault n name) refused none = absurd none
-simrun_one input why (refusal.Limit n which) refused none = absurd none
-simrun_one input (refusal.Fault n name) other none also = absurd none
-simrun_one input (refusal.Limit n which) other none also = absurd none
+simrun_apart : TextLaws → (o : RunOptions) (input text : List ℕ) (end : End) (why : Refusal) → IsSimulation o input end text → RefusesSimrun input why → ⊥
+simrun_apart laws o input text end why s (assembly, bytes, parted, refuses) =
+    let same : assembly ≡ s.assembly = (parted_once input assembly bytes s.assembly s.bytes parted s.parted).0 in
+    let Refused : List ℕ → Type 0 = λ a. RefusesAssembly a why ⊎ ((why ≡ refusal.NoMain) × IsIdle a) in
+    elim (subst Refused same refuses) [
+      | inl (f, first, gives) ↦ laws.no_assembly_fault s.assembly s.program f s.is_assembly first
+      | inr (is, idle) ↦ idle_apart laws s.assembly s.program s.run.main s.is_assembly s.run.has_main idle
+    ]
+
+-- a fault of assembly is told in one way
+told_once_of_assembly : (f g : AsmFault) (why other : Refusal) → f ≡ g → of_assembly f ≡ Refused why → of_assembly g ≡ Refused other → why ≡ other
+told_once_of_assembly f g why other same gives also = let both : of_assembly f ≡ of_assembly g = ap of_assembly same in cc
+
+assembly_one : TextLaws → (assembly : List ℕ) (why other : Refusal) → RefusesAssembly assembly why ⊎ ((why ≡ refusal.NoMain) × IsIdle assembly) → RefusesAssembly assembly other ⊎ ((other ≡ refusal.NoMain) × IsIdle assembly) → why ≡ other
+assembly_one laws assembly why other (inl (f, first, gives)) (inl (g, also, tells)) = told_once_of_assembly f g why other (laws.one_assembly_fault assembly f g first also) gives tells
+assembly_one laws assembly why other (inl (f, first, gives)) (inr (is, (q, text, idle))) = absurd (laws.no_assembly_fault assembly q f text first)
+assembly_one laws assembly why other (inr (is, (p, text, idle))) (inl (g, also, tells)) = absurd (laws.no_assembly_fault assembly p g text also)
+assembly_one laws assembly why other (inr (is, idle)) (inr (same, also)) = is ∙ sym same
+
+simrun_one : TextLaws → (input : List ℕ) (why other : Refusal) → RefusesSimrun input why → RefusesSimrun input other → why ≡ other
+simrun_one laws input why other (assembly, bytes, parted, refuses) (last, rest, also, tells) =
+    let same : assembly ≡ last = (parted_once input assembly bytes last rest parted also).0 in
+    let Refused : List ℕ → Type 0 = λ a. RefusesAssembly a why ⊎ ((why ≡ refusal.NoMain) × IsIdle a) in
+    assembly_one laws last why other (subst Refused same refuses) tells
 
 -- ---- rcc
 
@@ -128,12 +190,12 @@ rcc_one input why other none also = absurd none
 pub apart : TextLaws → (c : Command) (input text : List ℕ) (end : End) (why : Refusal) → Writes c input end text → Refuses c input why → ⊥
 apart laws Cover input text end why worked refused = cover_apart laws input text end why worked refused
 apart laws Tables input text end why worked refused = tables_apart laws input text end why worked refused
-apart laws Simrun input text end why worked refused = simrun_apart input text end why worked refused
+apart laws (Simrun o) input text end why worked refused = simrun_apart laws o input text end why worked refused
 apart laws Rcc input text end why worked refused = rcc_apart input text end why worked refused
 
 -- a refused input has one refusal
 pub one_refusal : TextLaws → (c : Command) (input : List ℕ) (why other : Refusal) → Refuses c input why → Refuses c input other → why ≡ other
 one_refusal laws Cover input why other refused also = cover_one laws input why other refused also
 one_refusal laws Tables input why other refused also = tables_one laws input why other refused also
-one_refusal laws Simrun input why other refused also = simrun_one input why other refused also
+one_refusal laws (Simrun o) input why other refused also = simrun_one laws input why other refused also
 one_refusal laws Rcc input why other refused also = rcc_one input why other refused also

@@ -12,7 +12,7 @@ use Rattle.lcc_top.specs.declared.status.Status.{Status}
 use Rattle.lcc_top.specs.declared.status.Status.TheVariants as status
 use Rattle.lcc_top.specs.Outcome.{end_status, refusal_status, status_of}
 use Rattle.lcc_top.specs.Commands.{AreAccepted}
-use Rattle.lcc_top.specs.Call.{Call, ReadAll, IsUnbroken, WrongWords, IsCaused, IsFree, NoFault}
+use Rattle.lcc_top.specs.Call.{Call, ReadAll, IsUnbroken, IsOutputUnbroken, WrongWords, IsCaused, IsFree, NoFault}
 use Rattle.lcc_top.proofs.Answered.{read_input}
 
 -- ---- words
@@ -104,3 +104,17 @@ unbroken_or_fault call outcome.InputTooLong h = inl h.unbroken
 -- where the input's count of faults rose, a read failed
 pub fault_of_input : (call : Call) (o : Outcome) → IsCaused call o → call.read_faults < call.read_faults_after → status_of o ≡ status.ReadFault
 fault_of_input call o h more = elim (unbroken_or_fault call o h) [ inl same ↦ absurd (omega (arith, same, more)) | inr is ↦ is ]
+
+-- each outcome but that of a failed write comes without one
+sound_or_fault : (call : Call) (o : Outcome) → IsCaused call o → IsOutputUnbroken call ⊎ (status_of o ≡ status.WriteFault)
+sound_or_fault call (outcome.Done end) h = inl h.sound
+sound_or_fault call (outcome.Refused why) h = inl h.sound
+sound_or_fault call outcome.Usage h = inl h.sound
+sound_or_fault call outcome.ReadFault h = inl h.sound
+sound_or_fault call outcome.WriteFault h = inr refl
+sound_or_fault call outcome.Memory h = inl h.sound
+sound_or_fault call outcome.InputTooLong h = inl h.sound
+
+-- where the output's count of faults rose, a write failed
+pub fault_of_output : (call : Call) (o : Outcome) → IsCaused call o → call.write_faults < call.write_faults_after → status_of o ≡ status.WriteFault
+fault_of_output call o h more = elim (sound_or_fault call o h) [ inl same ↦ absurd (omega (arith, same, more)) | inr is ↦ is ]

@@ -3,6 +3,7 @@ use Rattle.std.proofs.Common.{◌≡◌, ℕ, ◌⊎◌, inl, inr, List, sym, su
 use Rattle.std.specs.declared.option.Option.{Option}
 use Rattle.std.specs.Io.KnownBytes.{Appends}
 use Rattle.lcc_top.specs.declared.words.Command.TheVariants.{Cover, Simrun, Rcc}
+use Rattle.lcc_top.specs.declared.run_options.RunOptions.{RunOptions}
 use Rattle.lcc_top.specs.declared.outcome.End.{End}
 use Rattle.lcc_top.specs.declared.outcome.End.TheVariants as ends
 use Rattle.lcc_top.specs.declared.status.Status.{Status}
@@ -40,8 +41,8 @@ run_end status.StackOut good = tt
 run_end status.OutOfSteps good = tt
 run_end s none = absurd none
 
-pub run_headline : (bytes : List ℕ) (taken taken_after report report_after : Option (List ℕ)) (answer : Status) → (IsEndStatus answer → HasDone Simrun bytes taken taken_after report report_after answer) → IsRunStatus answer → RunHeadline bytes taken taken_after report report_after answer
-run_headline bytes taken taken_after report report_after answer done good =
+pub run_headline : (o : RunOptions) (bytes : List ℕ) (taken taken_after report report_after : Option (List ℕ)) (answer : Status) → (IsEndStatus answer → HasDone (Simrun o) bytes taken taken_after report report_after answer) → IsRunStatus answer → RunHeadline o bytes taken taken_after report report_after answer
+run_headline o bytes taken taken_after report report_after answer done good =
     let h = done (run_end answer good) in
     record { end = h.end; text = h.text; simulation = h.writes; written = h.written; answered = h.answered; reported = h.reported }
 

@@ -1,6 +1,9 @@
 -- The refusal that the error of a read tells is that of the first fault.
 use Rattle.std.proofs.Common.{◌≡◌, ◌⊎◌, inl, inr, ℕ, List, sym, ap, ◌∙◌}
 use Rattle.std.specs.Prelude.{Result, Ok, Err, IfErr, IsErrOf, IsErrAnd}
+use Rattle.asm_text.specs.declared.asm_fault.AsmFault.{AsmFault}
+use Rattle.asm_text.specs.declared.asm_fault.AsmFault.TheVariants as assembly
+use Rattle.asm_text.specs.FirstFault.{FirstFault as FirstAssemblyFault}
 use Rattle.lburg_faults.specs.declared.desc_fault.DescFault.{DescFault}
 use Rattle.lburg_faults.specs.declared.desc_fault.DescFault.TheVariants as description
 use Rattle.lburg_faults.specs.FirstFault.{FirstFault}
@@ -11,8 +14,9 @@ use Rattle.lburg_trees.specs.FirstFault.{FirstFault as FirstTreeFault}
 use Rattle.lcc_top.specs.declared.outcome.Refusal.{Refusal}
 use Rattle.lcc_top.specs.declared.text_fault.TextFault.{TextFault}
 use Rattle.lcc_top.specs.declared.text_fault.TextFault.TheVariants.{Refused, Memory}
-use Rattle.lcc_top.specs.TextFaults.{of_description, of_trees}
+use Rattle.lcc_top.specs.TextFaults.{of_description, of_trees, of_assembly}
 use Rattle.lcc_top.specs.Cover.{RefusesDescription, RefusesTail}
+use Rattle.lcc_top.specs.Simulation.{RefusesAssembly}
 
 -- what is refused isn't want of memory
 pub never_refused : {T : Type 0} (result : Result T TextFault) (why : Refusal) → IfErr result (λ e. e ≡ Memory) → IsErrOf result (Refused why) → ⊥
@@ -34,3 +38,7 @@ description_told result text f why (inr first) gives told = (f, first, given res
 pub tail_told : {T : Type 0} (result : Result T TextFault) (d : MDescription) (text : List ℕ) (f : TreeFault) (why : Refusal) → (f ≡ tree.Memory) ⊎ FirstTreeFault d text f → IsErrAnd result (λ e. e ≡ of_trees f) → IsErrOf result (Refused why) → RefusesTail d text why
 tail_told result d text f why (inl memory) gives told = absurd (not_memory why (sym (ap of_trees memory) ∙ given result (of_trees f) why gives told))
 tail_told result d text f why (inr first) gives told = (f, first, given result (of_trees f) why gives told)
+
+pub assembly_told : {T : Type 0} (result : Result T TextFault) (text : List ℕ) (f : AsmFault) (why : Refusal) → (f ≡ assembly.Memory) ⊎ FirstAssemblyFault text f → IsErrAnd result (λ e. e ≡ of_assembly f) → IsErrOf result (Refused why) → RefusesAssembly text why
+assembly_told result text f why (inl memory) gives told = absurd (not_memory why (sym (ap of_assembly memory) ∙ given result (of_assembly f) why gives told))
+assembly_told result text f why (inr first) gives told = (f, first, given result (of_assembly f) why gives told)

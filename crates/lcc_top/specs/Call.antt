@@ -27,6 +27,10 @@ pub record Call : Type 0 where
   pub write_faults : ℕ
   pub write_faults_after : ℕ
 
+-- no write failed, as the count of faults tells
+abbrev pub IsOutputUnbroken : Call → Type 0
+IsOutputUnbroken call = call.write_faults_after ≡ call.write_faults
+
 -- no read failed, as the count of faults tells
 abbrev pub IsUnbroken : Call → Type 0
 IsUnbroken call = call.read_faults_after ≡ call.read_faults
@@ -55,6 +59,7 @@ pub record Done (call : Call) (end : End) : Type 0 where
   pub text : List ℕ
   pub writes : Writes command input end text
   pub written : Appends call.taken call.taken_after text
+  pub sound : IsOutputUnbroken call
 
 -- the command refuses its input for this reason, and the output took nothing
 pub record InputRefused (call : Call) (why : Refusal) : Type 0 where
@@ -63,6 +68,7 @@ pub record InputRefused (call : Call) (why : Refusal) : Type 0 where
   pub asked : Asked call command input
   pub refuses : Refuses command input why
   pub nothing : TookNothing call
+  pub sound : IsOutputUnbroken call
 
 -- a write of the output failed, and it took a first part of what the command writes for its input
 pub record WriteFailed (call : Call) : Type 0 where
@@ -81,6 +87,7 @@ pub record WrongWords (call : Call) : Type 0 where
   pub unread : Keeps call.left call.left_after
   pub unbroken : IsUnbroken call
   pub nothing : TookNothing call
+  pub sound : IsOutputUnbroken call
 
 -- a read failed before more bytes came than the limit
 pub record ReadFailed (call : Call) : Type 0 where
@@ -88,6 +95,7 @@ pub record ReadFailed (call : Call) : Type 0 where
   pub fault : Rose call.read_faults call.read_faults_after
   pub took : TookAtMost call.left call.left_after 16777216
   pub nothing : TookNothing call
+  pub sound : IsOutputUnbroken call
 
 -- more bytes came than the limit, without a fault
 pub record TooLong (call : Call) : Type 0 where
@@ -95,12 +103,15 @@ pub record TooLong (call : Call) : Type 0 where
   pub took : TookMore call.left call.left_after 16777216
   pub unbroken : IsUnbroken call
   pub nothing : TookNothing call
+  pub sound : IsOutputUnbroken call
 
--- an allocation was refused, and no read failed
+-- an allocation was refused, before more bytes came than the limit, and no read failed
 pub record OutOfMemory (call : Call) : Type 0 where
   pub accepted : AreAccepted call.words
+  pub took : TookAtMost call.left call.left_after 16777216
   pub unbroken : IsUnbroken call
   pub nothing : TookNothing call
+  pub sound : IsOutputUnbroken call
 
 -- what the outcome says of the call
 abbrev pub IsCaused : Call → Outcome → Type 0
@@ -116,7 +127,7 @@ IsCaused call outcome.InputTooLong = TooLong call
 -- written, or its write failed and a first part of the line was.
 abbrev pub IsReported : Option (List ℕ) → Option (List ℕ) → ℕ → ℕ → Outcome → Status → Type 0
 IsReported taken taken_after faults faults_after outcome answer =
-    ((answer ≡ status_of outcome) × Appends taken taken_after (line_of outcome))
+    ((answer ≡ status_of outcome) × Appends taken taken_after (line_of outcome) × (faults_after ≡ faults))
     ⊎ ((answer ≡ status.WriteFault) × Rose faults faults_after × TookPrefix taken taken_after (line_of outcome))
 
 -- the status that want of memory or a failed write gives whatever the input is

@@ -1,5 +1,5 @@
 -- The commands: what each does, and what is said of them all.
-use Rattle.std.specs.Prelude.{ℕ, List}
+use Rattle.std.specs.Prelude.{ℕ, ◌≤◌, List}
 use Rattle.lcc_top.specs.declared.words.Command.{Command}
 use Rattle.lcc_top.specs.declared.words.Command.TheVariants.{Cover, Tables, Simrun, Rcc}
 use Rattle.lcc_top.specs.declared.outcome.End.{End}
@@ -13,7 +13,7 @@ use Rattle.lcc_top.specs.Compilation.{rcc_behaviour}
 abbrev pub behaviour_of : Command → Behaviour
 behaviour_of Cover = cover_behaviour
 behaviour_of Tables = tables_behaviour
-behaviour_of Simrun = simrun_behaviour
+behaviour_of (Simrun o) = simrun_behaviour o
 behaviour_of Rcc = rcc_behaviour
 
 -- these words ask for the command
@@ -35,3 +35,8 @@ Accepts c input = (why : Refusal) → Refuses c input why → ⊥
 -- the words ask for some command
 abbrev pub AreAccepted : List (List ℕ) → Type 0
 AreAccepted words = (c : Command) × AreWordsOf c words
+
+-- a run's stack has its size
+abbrev pub IsSized : Command → Type 0
+IsSized (Simrun o) = (4096 ≤ o.stack) × (o.stack ≤ 16777216)
+IsSized c = Unit {0}

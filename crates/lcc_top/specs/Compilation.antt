@@ -1,10 +1,11 @@
 -- What `rcc` makes of the bytes of its input: the text of the assembly of the input's program.
 use Rattle.std.specs.Prelude.{◌≡◌, ◌≤◌, ℕ, ◌+◌, ◌*◌, [], ◌∷◌, List, codes, length}
-use Rattle.asm_text.specs.declared.program.Program.{Program}
+use Rattle.asm_text.specs.Addresses.{code_start, data_start}
 use Rattle.asm_text.specs.AssemblyText.{IsText}
+use Rattle.asm_text.specs.Linked.{HasMain}
+use Rattle.asm_text.specs.Program.{MProgram as MAssembly}
 use Rattle.asm_text.specs.RunsAs.{RunsAs}
-use Rattle.mips_machine.specs.Addresses.{code_start, data_start}
-use Rattle.mips_machine.specs.Run.{HasMain, mrun}
+use Rattle.mips_machine.specs.Run.{mrun}
 use Rattle.first_form.specs.FirstProgram.{MProgram}
 use Rattle.first_form.specs.FirstForm.{IsFirst}
 use Rattle.first_form.specs.Meaning.{output, status}
@@ -25,7 +26,7 @@ AreRcc words = words ≡ codes "rcc" ∷ (codes "--target" ∷ (codes "mipseb" �
 -- program's unit, each within its bounds. On each input and each stack of the machine, in the unit's order of bytes, its
 -- run never gets stuck, has always printed a first part of the program's output, ends only with the whole output and the
 -- status, and does end so, or is out of stack, which it is only where the program's room is above the stack.
-pub record IsMadeFor (p : MProgram) (assembly : Program) : Type 0 where
+pub record IsMadeFor (p : MProgram) (assembly : MAssembly) : Type 0 where
   pub unit : IsUnitAssembly (λ f. room_of p) (λ f. most_instructions p) (unit_of p) assembly
   pub main : ℕ
   pub has_main : HasMain assembly main
@@ -33,7 +34,7 @@ pub record IsMadeFor (p : MProgram) (assembly : Program) : Type 0 where
 
 -- the text is that of an assembly that is made for the program
 pub record IsCompiled (p : MProgram) (text : List ℕ) : Type 0 where
-  pub assembly : Program
+  pub assembly : MAssembly
   pub is_text : IsText text assembly
   pub made : IsMadeFor p assembly
 

@@ -1,4 +1,4 @@
--- The names of the faults of a description and of its tail, as the report tells them.
+-- The names of the faults of texts, as the report tells them.
 use Rattle.std.specs.Prelude.{ℕ, List, codes}
 use Rattle.lcc_top.specs.declared.fault_name.FaultName.{FaultName}
 use Rattle.lcc_top.specs.declared.fault_name.FaultName.TheVariants as name
@@ -15,3 +15,8 @@ fault_name name.CostTooLarge = codes "CostTooLarge"
 fault_name name.BadTree = codes "BadTree"
 fault_name name.UnknownOp = codes "UnknownOp"
 fault_name name.WrongArity = codes "WrongArity"
+fault_name name.BadLine = codes "BadLine"
+fault_name name.UnknownInstruction = codes "UnknownInstruction"
+fault_name name.BadOperand = codes "BadOperand"
+fault_name name.DoubleLabel = codes "DoubleLabel"
+fault_name name.UnknownLabel = codes "UnknownLabel"

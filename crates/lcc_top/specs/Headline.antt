@@ -8,6 +8,7 @@ use Rattle.std.specs.Io.KnownBytes.{Appends}
 use Rattle.lcc_top.specs.declared.status.Status.{Status}
 use Rattle.lcc_top.specs.declared.status.Status.TheVariants as status
 use Rattle.lcc_top.specs.declared.outcome.End.{End}
+use Rattle.lcc_top.specs.declared.run_options.RunOptions.{RunOptions}
 use Rattle.lcc_top.specs.Outcome.{end_status, end_line}
 use Rattle.lcc_top.specs.Cover.{IsCover}
 use Rattle.lcc_top.specs.Simulation.{IsSimulation}
@@ -34,12 +35,12 @@ IsRunStatus status.StackOut = Unit {0}
 IsRunStatus status.OutOfSteps = Unit {0}
 IsRunStatus s = ⊥
 
--- The headline of `simrun`: the input is a program's text, and output, status and report are those of its run, of
--- 10,000,000 steps in big-endian order with a stack of 1,048,576 bytes and no input.
-pub record RunHeadline (input : List ℕ) (taken taken_after report report_after : Option (List ℕ)) (answer : Status) : Type 0 where
+-- The headline of `simrun`: the input is a program's text, with what the program reads behind a line `%%`, and output,
+-- status and report are those of its run, of so many steps, in this order of bytes and with this stack.
+pub record RunHeadline (o : RunOptions) (input : List ℕ) (taken taken_after report report_after : Option (List ℕ)) (answer : Status) : Type 0 where
   pub end : End
   pub text : List ℕ
-  pub simulation : IsSimulation input end text
+  pub simulation : IsSimulation o input end text
   pub written : Appends taken taken_after text
   pub answered : answer ≡ end_status end
   pub reported : Appends report report_after (end_line end)

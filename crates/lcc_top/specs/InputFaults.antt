@@ -1,15 +1,9 @@
 -- What a fault of a text says of the command's input.
 use Rattle.first_form.specs.declared.first_fault.FirstFault.{FirstFault}
 use Rattle.first_form.specs.declared.first_fault.FirstFault.TheVariants as program
-use Rattle.asm_text.specs.declared.asm_fault.AsmFault.{AsmFault}
-use Rattle.asm_text.specs.declared.asm_fault.AsmFault.TheVariants as assembly
 use Rattle.lcc_top.specs.declared.input_fault.InputFault.{InputFault}
 use Rattle.lcc_top.specs.declared.input_fault.InputFault.TheVariants.{BadText, Memory}
 
 abbrev pub of_program : FirstFault → InputFault
 of_program program.BadText = BadText
 of_program program.Memory = Memory
-
-abbrev pub of_assembly : AsmFault → InputFault
-of_assembly assembly.BadText = BadText
-of_assembly assembly.Memory = Memory

@@ -1,6 +1,8 @@
 pub mod Behaviour
 pub mod Cover
 pub mod Tables
+pub mod RunWords
+pub mod InputMark
 pub mod Simulation
 pub mod Compilation
 pub mod Room

@@ -1,19 +1,22 @@
 -- What `simrun` makes of the bytes of its input: the run of the program that they are the text of.
-use Rattle.std.specs.Prelude.{◌≡◌, ℕ, ◌-◌, ◌≤◌, [], ◌∷◌, List, codes}
-use Rattle.lcc_base.specs.declared.order.Order.TheVariants.{Big}
-use Rattle.asm_text.specs.declared.program.Program.{Program}
+use Rattle.std.specs.Prelude.{◌≡◌, ◌⊎◌, ℕ, ◌-◌, ◌≤◌, List}
+use Rattle.asm_text.specs.declared.asm_fault.AsmFault.{AsmFault}
 use Rattle.asm_text.specs.AssemblyText.{IsAssembly}
+use Rattle.asm_text.specs.FirstFault.{FirstFault}
+use Rattle.asm_text.specs.Linked.{HasMain}
+use Rattle.asm_text.specs.Program.{MProgram}
 use Rattle.asm_text.specs.Runs.{Run, Place, Ended, Stuck, StackOut, IsGoing}
-use Rattle.mips_machine.specs.Run.{HasMain, mrun}
+use Rattle.mips_machine.specs.Run.{mrun}
 use Rattle.lcc_top.specs.declared.outcome.End.{End}
 use Rattle.lcc_top.specs.declared.outcome.End.TheVariants as ends
 use Rattle.lcc_top.specs.declared.outcome.Refusal.{Refusal}
 use Rattle.lcc_top.specs.declared.outcome.Refusal.TheVariants as refusal
+use Rattle.lcc_top.specs.declared.run_options.RunOptions.{RunOptions}
+use Rattle.lcc_top.specs.declared.text_fault.TextFault.TheVariants.{Refused}
 use Rattle.lcc_top.specs.Behaviour.{Behaviour}
-
--- simrun --target mipseb
-abbrev pub AreSimrun : List (List ℕ) → Type 0
-AreSimrun words = words ≡ codes "simrun" ∷ (codes "--target" ∷ (codes "mipseb" ∷ []))
+use Rattle.lcc_top.specs.InputMark.{IsParted}
+use Rattle.lcc_top.specs.RunWords.{AreSimrun}
+use Rattle.lcc_top.specs.TextFaults.{of_assembly}
 
 -- the run is at a place after so many steps, having printed this text
 abbrev pub IsAt : {S : Type 0} → (ℕ → Run S) → ℕ → List ℕ → Place S → Type 0
@@ -33,35 +36,37 @@ RunEnds run steps text (ends.StackOut pc step) = IsAt run steps text (StackOut p
 RunEnds {S} run steps text (ends.OutOfSteps n) = (n ≡ steps) × ((place : Place S) × IsGoing place × IsAt run steps text place)
 RunEnds run steps text end = ⊥
 
--- The program's run prints this text and ends so: 10,000,000 steps from the label main, in big-endian order with a stack
--- of 1,048,576 bytes and no input.
-pub record RunOf (program : Program) (end : End) (text : List ℕ) : Type 0 where
+-- The program's run prints this text and ends so: so many steps from the label main, in this order of bytes, with a stack
+-- of so many bytes and this input.
+pub record RunOf (o : RunOptions) (program : MProgram) (bytes : List ℕ) (end : End) (text : List ℕ) : Type 0 where
   pub main : ℕ
   pub has_main : HasMain program main
-  pub stack : ℕ
-  pub stack_is : stack ≡ 1048576
-  pub steps : ℕ
-  pub steps_is : steps ≡ 10000000
-  pub ran : RunEnds (λ n. mrun program Big stack main [] n) steps text end
+  pub ran : RunEnds (λ n. mrun program o.order o.stack main bytes n) o.steps text end
 
--- the input is the text of a program, whose run prints this text and ends so
-pub record IsSimulation (input : List ℕ) (end : End) (text : List ℕ) : Type 0 where
-  pub program : Program
-  pub is_assembly : IsAssembly input program
-  pub run : RunOf program end text
+-- the input is the text of a program, with what the program reads behind a line `%%`, and its run prints this text and
+-- ends so
+pub record IsSimulation (o : RunOptions) (input : List ℕ) (end : End) (text : List ℕ) : Type 0 where
+  pub assembly : List ℕ
+  pub bytes : List ℕ
+  pub parted : IsParted input assembly bytes
+  pub program : MProgram
+  pub is_assembly : IsAssembly assembly program
+  pub run : RunOf o program bytes end text
 
--- the input is no program's text
-abbrev pub IsBadAssembly : List ℕ → Type 0
-IsBadAssembly input = (p : Program) → IsAssembly input p → ⊥
+-- the first fault of the assembly is told so
+abbrev pub RefusesAssembly : List ℕ → Refusal → Type 0
+RefusesAssembly assembly why = (f : AsmFault) × FirstFault assembly f × (of_assembly f ≡ Refused why)
 
--- the input is no text of a program with a label main
+-- the assembly has no code label main
 abbrev pub IsIdle : List ℕ → Type 0
-IsIdle input = (p : Program) (main : ℕ) → IsAssembly input p → HasMain p main → ⊥
+IsIdle assembly = (p : MProgram) × IsAssembly assembly p × ((main : ℕ) → HasMain p main → ⊥)
 
+-- the assembly, which stands before the line `%%`, has a fault, and the first is told; or it is a program's text, but has
+-- no label main
 abbrev pub RefusesSimrun : List ℕ → Refusal → Type 0
-RefusesSimrun input refusal.BadText = IsBadAssembly input
-RefusesSimrun input refusal.NoMain = (p : Program) × IsAssembly input p × IsIdle input
-RefusesSimrun input why = ⊥
+RefusesSimrun input why =
+    (assembly bytes : List ℕ) × IsParted input assembly bytes
+    × (RefusesAssembly assembly why ⊎ ((why ≡ refusal.NoMain) × IsIdle assembly))
 
-abbrev pub simrun_behaviour : Behaviour
-simrun_behaviour = record { AreWords = AreSimrun; Writes = IsSimulation; Refuses = RefusesSimrun }
+abbrev pub simrun_behaviour : RunOptions → Behaviour
+simrun_behaviour o = record { AreWords = AreSimrun o; Writes = IsSimulation o; Refuses = RefusesSimrun }

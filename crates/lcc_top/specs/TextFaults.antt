@@ -1,10 +1,12 @@
--- What a fault of a description's text, or of its tail, gives as the answer to the text: the refusal that tells its line
--- with its name or its limit. Want of memory is no refusal.
+-- What a fault of a description's text, of its tail, or of an assembly text gives as the answer to the text: the refusal
+-- that tells its line with its name or its limit. Want of memory is no refusal.
 use Rattle.lcc_base.specs.declared.which.Which.TheVariants as which
 use Rattle.lburg_faults.specs.declared.desc_fault.DescFault.{DescFault}
 use Rattle.lburg_faults.specs.declared.desc_fault.DescFault.TheVariants as description
 use Rattle.lburg_trees.specs.declared.tree_fault.TreeFault.{TreeFault}
 use Rattle.lburg_trees.specs.declared.tree_fault.TreeFault.TheVariants as tree
+use Rattle.asm_text.specs.declared.asm_fault.AsmFault.{AsmFault}
+use Rattle.asm_text.specs.declared.asm_fault.AsmFault.TheVariants as assembly
 use Rattle.lcc_top.specs.declared.fault_name.FaultName.TheVariants as name
 use Rattle.lcc_top.specs.declared.outcome.Refusal.TheVariants.{Fault, Limit}
 use Rattle.lcc_top.specs.declared.text_fault.TextFault.{TextFault}
@@ -29,3 +31,12 @@ of_trees (tree.WrongArity n) = Refused (Fault n name.WrongArity)
 of_trees (tree.TooLarge n) = Refused (Limit n which.Nodes)
 of_trees (tree.TooHigh n) = Refused (Limit n which.Height)
 of_trees tree.Memory = Memory
+
+abbrev pub of_assembly : AsmFault → TextFault
+of_assembly (assembly.BadLine n) = Refused (Fault n name.BadLine)
+of_assembly (assembly.UnknownInstruction n) = Refused (Fault n name.UnknownInstruction)
+of_assembly (assembly.BadOperand n) = Refused (Fault n name.BadOperand)
+of_assembly (assembly.DoubleLabel n) = Refused (Fault n name.DoubleLabel)
+of_assembly (assembly.UnknownLabel n) = Refused (Fault n name.UnknownLabel)
+of_assembly (assembly.TooLarge n passed) = Refused (Limit n passed)
+of_assembly assembly.Memory = Memory

@@ -3,9 +3,10 @@ ghost use Rattle.std.specs.Io.KnownBytes.{Keeps};
 ghost use Rattle.lcc_base.specs.Faults.{Rose};
 ghost use Rattle.lcc_top.specs.declared.words.Command.{Command};
 ghost use Rattle.lcc_top.specs.declared.outcome.Refusal.{Refusal};
+ghost use Rattle.lcc_top.specs.declared.run_options.RunOptions.{RunOptions};
 ghost use Rattle.lcc_top.specs.declared.outcome.Outcome.{Outcome};
 ghost use Rattle.lcc_top.specs.Cover.{AreCover};
-ghost use Rattle.lcc_top.specs.Simulation.{AreSimrun};
+ghost use Rattle.lcc_top.specs.RunWords.{AreSimrun};
 ghost use Rattle.lcc_top.specs.Compilation.{AreRcc};
 ghost use Rattle.lcc_top.specs.Commands.{AreWordsOf, Refuses, Accepts, AreAccepted};
 ghost use Rattle.lcc_top.specs.Call.{Call, IsCaused, IsReported, IsFree, NoFault};
@@ -16,6 +17,7 @@ use crate::outcome::status;
 use crate::report::write_line;
 use crate::status::Status;
 use crate::work::run;
+use asm_text::{one_fault as one_assembly_fault, one_program};
 use lburg_grammar::{one_description, one_fault, one_tree_fault};
 use lcc_base::{Failed, Sink, Source};
 use std::alloc::Global;
@@ -26,8 +28,10 @@ use std::alloc::Global;
 /// It knows four commands so far. `lburg cover` reads a description with trees in its tail, at most
 /// 16,777,216 bytes, and writes a line for each tree: its least-cost derivation from the start
 /// symbol, or that it has none. `lburg tables` reads a description, whatever its tail is, and writes the
-/// text of its tables. `simrun --target mipseb` reads MIPS assembly and runs it, for
-/// 10,000,000 steps in big-endian order with a stack of 1,048,576 bytes; what it prints is written.
+/// text of its tables. `simrun --target mipseb` or `mipsel` reads MIPS assembly, with what its program
+/// reads behind a line `%%`, and runs it in big-endian or little-endian order; what it prints is written.
+/// `--steps N` behind that gives the most steps, 1 to 4,294,967,295 (10,000,000), and `--stack N` behind
+/// both the bytes of the stack, 4,096 to 16,777,216 (1,048,576).
 /// `rcc --target mipseb` reads a program of the first form of C and writes its MIPS assembly.
 /// Nothing is written before all memory is taken. The report takes one line that tells how the
 /// call ended, or nothing.
@@ -64,9 +68,9 @@ pub fn top<S: Source, K: Sink, E: Sink>(
         → CoverHeadline bytes (K.taken output.old) (K.taken output.new) (E.taken report.old) (E.taken report.new) result }
 
     // The headline of `simrun`, where the input tells what it had left.
-    ensures simrun_headline { (bytes : List ℕ) → AreSimrun (map string_bytes words.now) → S.left input.old ≡ Some bytes
+    ensures simrun_headline { (o : RunOptions) (bytes : List ℕ) → AreSimrun o (map string_bytes words.now) → S.left input.old ≡ Some bytes
         → IsRunStatus result
-        → RunHeadline bytes (K.taken output.old) (K.taken output.new) (E.taken report.old) (E.taken report.new) result }
+        → RunHeadline o bytes (K.taken output.old) (K.taken output.new) (E.taken report.old) (E.taken report.new) result }
 
     // The headline of `rcc`, where the input tells what it had left.
     ensures compiler_headline { (bytes : List ℕ) → AreRcc (map string_bytes words.now) → S.left input.old ≡ Some bytes
@@ -77,6 +81,9 @@ pub fn top<S: Source, K: Sink, E: Sink>(
     ensures read_fault { result ≡ Status.ReadFault → Rose (S.faults input.old) (S.faults input.new) }
     ensures unbroken { S.faults input.old < S.faults input.new
         → (result ≡ Status.ReadFault) ⊎ (result ≡ Status.WriteFault) }
+    // A fault of the output or of the report gives no other answer than that of writing.
+    ensures output_unbroken { K.faults output.old < K.faults output.new → result ≡ Status.WriteFault }
+    ensures report_unbroken { E.faults report.old < E.faults report.new → result ≡ Status.WriteFault }
     ensures write_fault { result ≡ Status.WriteFault
         → Rose (K.faults output.old) (K.faults output.new) ⊎ Rose (E.faults report.old) (E.faults report.new) }
 
@@ -107,6 +114,8 @@ pub fn top<S: Source, K: Sink, E: Sink>(
     one_fault();
     one_description();
     one_tree_fault();
+    one_assembly_fault();
+    one_program();
     let outcome = run(alloc, words, input, output);
     match write_line(report, outcome) {
         Ok(()) => status(outcome),

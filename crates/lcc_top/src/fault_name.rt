@@ -1,6 +1,6 @@
 ghost use Rattle.std.specs.Prelude.{◌≡◌};
 
-/// A fault of a description or of its tail, by the name that the report tells.
+/// A fault of a description, of its tail or of assembly, by the name that the report tells.
 #[derive(Clone, Copy, Debug, PartialEq, Eq)]
 pub(crate) enum FaultName {
     /// The bytes form no token.
@@ -25,6 +25,16 @@ pub(crate) enum FaultName {
     UnknownOp,
     /// An operator in the tail has another number of operands than the rules use it with.
     WrongArity,
+    /// A line of assembly has no such form.
+    BadLine,
+    /// A word of assembly is neither an instruction's nor a directive's.
+    UnknownInstruction,
+    /// Operands of assembly have another form.
+    BadOperand,
+    /// A label of assembly stands twice.
+    DoubleLabel,
+    /// A name of assembly is neither a label nor a built-in function.
+    UnknownLabel,
 }
 
 impl FaultName {
@@ -46,6 +56,11 @@ impl FaultName {
             FaultName::BadTree => "BadTree",
             FaultName::UnknownOp => "UnknownOp",
             FaultName::WrongArity => "WrongArity",
+            FaultName::BadLine => "BadLine",
+            FaultName::UnknownInstruction => "UnknownInstruction",
+            FaultName::BadOperand => "BadOperand",
+            FaultName::DoubleLabel => "DoubleLabel",
+            FaultName::UnknownLabel => "UnknownLabel",
         }
     }
 }

@@ -1,8 +1,7 @@
 ghost use Rattle.std.specs.Prelude.{◌≡◌};
-ghost use Rattle.lcc_top.specs.InputFaults.{of_program, of_assembly};
+ghost use Rattle.lcc_top.specs.InputFaults.{of_program};
 ghost use Rattle.lcc_top.specs.declared.input_fault.InputFault.TheVariants as fault;
 
-use asm_text::AsmFault;
 use first_form::FirstFault;
 use lcc_base::Memory;
 use thiserror::Error;
@@ -33,17 +32,6 @@ impl From<FirstFault> for InputFault {
         match why {
             FirstFault::BadText => InputFault::BadText,
             FirstFault::Memory => InputFault::Memory,
-        }
-    }
-}
-
-impl From<AsmFault> for InputFault {
-    ghost from_gives = { λ why e. e ≡ of_assembly why };
-
-    fn from(why: AsmFault) -> Self {
-        match why {
-            AsmFault::BadText => InputFault::BadText,
-            AsmFault::Memory => InputFault::Memory,
         }
     }
 }

@@ -4,11 +4,15 @@
 mod calling;
 mod cover;
 mod fault_name;
+mod gathered;
 mod input_fault;
 mod outcome;
+mod parting;
 mod printer;
 mod rcc;
 mod report;
+mod run_options;
+mod run_words;
 mod simulate;
 mod status;
 mod tables;

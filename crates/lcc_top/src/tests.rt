@@ -96,7 +96,7 @@ fn streams_fail(rt: HostRuntime) -> Result<(), Fail> {
         (cover, COVERED, [0, 1, 0], Status::WriteFault, "", ""),
         (cover, UNCOVERED, [0, 1, 0], Status::WriteFault, "", ""),
         (rcc, PROGRAM, [0, 1, 0], Status::WriteFault, "", ""),
-        (simrun, TWO_BYTES, [0, 2, 0], Status::WriteFault, "H", ""),
+        (simrun, TWO_BYTES, [0, 1, 0], Status::WriteFault, "", ""),
         // A write of the report fails, when all output is written.
         (
             cover,

@@ -1,14 +1,15 @@
 ghost use Rattle.std.specs.Prelude.{◌≡◌};
-ghost use Rattle.lcc_top.specs.TextFaults.{of_description, of_trees};
+ghost use Rattle.lcc_top.specs.TextFaults.{of_description, of_trees, of_assembly};
 ghost use Rattle.lcc_top.specs.declared.text_fault.TextFault.TheVariants as fault;
 
 use crate::fault_name::FaultName;
 use crate::outcome::Refusal;
+use asm_text::AsmFault;
 use lburg_grammar::{DescFault, TreeFault};
 use lcc_base::{Memory, Which};
 use thiserror::Error;
 
-/// Why nothing is made of a description's text with its tail.
+/// Why nothing is made of a text.
 #[derive(Clone, Copy, Debug, PartialEq, Eq, Error)]
 pub(crate) enum TextFault {
     /// It is refused.
@@ -71,6 +72,22 @@ impl From<TreeFault> for TextFault {
             TreeFault::TooLarge { line } => past(line, Which::Nodes),
             TreeFault::TooHigh { line } => past(line, Which::Height),
             TreeFault::Memory => TextFault::Memory,
+        }
+    }
+}
+
+impl From<AsmFault> for TextFault {
+    ghost from_gives = { λ why e. e ≡ of_assembly why };
+
+    fn from(why: AsmFault) -> Self {
+        match why {
+            AsmFault::BadLine { line } => at(line, FaultName::BadLine),
+            AsmFault::UnknownInstruction { line } => at(line, FaultName::UnknownInstruction),
+            AsmFault::BadOperand { line } => at(line, FaultName::BadOperand),
+            AsmFault::DoubleLabel { line } => at(line, FaultName::DoubleLabel),
+            AsmFault::UnknownLabel { line } => at(line, FaultName::UnknownLabel),
+            AsmFault::TooLarge { line, which } => past(line, which),
+            AsmFault::Memory => TextFault::Memory,
         }
     }
 }

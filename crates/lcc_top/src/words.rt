@@ -1,9 +1,11 @@
 ghost use Rattle.std.specs.Prelude.{◌≡◌, ◌↔◌, IsTrue, IfSome, IfNone, map, string_bytes};
 ghost use Rattle.lcc_top.specs.Cover.{AreCover};
 ghost use Rattle.lcc_top.specs.Tables.{AreTables};
-ghost use Rattle.lcc_top.specs.Simulation.{AreSimrun};
 ghost use Rattle.lcc_top.specs.Compilation.{AreRcc};
 ghost use Rattle.lcc_top.specs.Commands.{AreWordsOf, AreAccepted};
+
+use crate::run_options::RunOptions;
+use crate::run_words::run_options;
 
 /// What the words ask for.
 #[derive(Clone, Copy, Debug, PartialEq, Eq)]
@@ -12,13 +14,13 @@ pub(crate) enum Command {
     Cover,
     /// `lburg tables`
     Tables,
-    /// `simrun --target mipseb`
-    Simrun,
+    /// `simrun --target T`, and then perhaps `--steps N` and `--stack N`
+    Simrun(RunOptions),
     /// `rcc --target mipseb`
     Rcc,
 }
 
-fn is(word: &String, text: &str) -> bool
+pub(crate) fn is(word: &String, text: &str) -> bool
     ensures { IsTrue result ↔ (string_bytes word.now ≡ text.now) }
 {
     word.as_str() == text
@@ -39,16 +41,6 @@ fn are_tables(words: &[String]) -> bool
 }
 
 #[tactic(auto, using(crate::proofs::SomeWords::three_words))]
-fn are_simrun(words: &[String]) -> bool
-    ensures { IsTrue result ↔ AreSimrun (map string_bytes words.now) }
-{
-    words.len() == 3
-        && is(&words[0], "simrun")
-        && is(&words[1], "--target")
-        && is(&words[2], "mipseb")
-}
-
-#[tactic(auto, using(crate::proofs::SomeWords::three_words))]
 fn are_rcc(words: &[String]) -> bool
     ensures { IsTrue result ↔ AreRcc (map string_bytes words.now) }
 {
@@ -66,8 +58,8 @@ pub(crate) fn command_of(words: &[String]) -> Option<Command>
     if are_tables(words) {
         return Some(Command::Tables);
     }
-    if are_simrun(words) {
-        return Some(Command::Simrun);
+    if let Some(options) = run_options(words) {
+        return Some(Command::Simrun(options));
     }
     if are_rcc(words) {
         return Some(Command::Rcc);

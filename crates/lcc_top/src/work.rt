@@ -1,5 +1,6 @@
 ghost use Rattle.std.specs.Prelude.{◌≤◌, length, map, string_bytes};
 ghost use Rattle.lcc_top.specs.Call.{Call, IsCaused};
+ghost use Rattle.lcc_top.specs.Commands.{IsSized};
 ghost use Rattle.lcc_top.specs.Work.{IsWorked};
 
 use crate::cover::cover_input;
@@ -16,14 +17,15 @@ const INPUT_LIMIT: usize = 16_777_216;
 
 /// Does a command's work on the input.
 fn work<K: Sink>(alloc: Global, command: Command, input: &[u8], output: &mut K) -> Outcome
-    requires { length input.now ≤ 16777216 }
+    requires within { length input.now ≤ 16777216 }
+    requires sized { IsSized command }
     ensures worked { IsWorked command input.now (K.taken output.old) (K.taken output.new) (K.faults output.old) (K.faults output.new) result }
     ensures later { K.faults output.old ≤ K.faults output.new }
 {
     match command {
         Command::Cover => cover_input(alloc, input, output),
         Command::Tables => tables_input(alloc, input, output),
-        Command::Simrun => run_input(alloc, input, output),
+        Command::Simrun(options) => run_input(alloc, options, input, output),
         Command::Rcc => compile_input(alloc, input, output),
     }
 }

@@ -1,5 +1,7 @@
+pub mod Divisions
+pub mod Fetches
+pub mod Loads
 pub mod Lost
-pub mod Words
-pub mod Accesses
-pub mod Named
 pub mod Steps
+pub mod Stores
+pub mod Words

@@ -1,73 +1,77 @@
--- Steps of a program, and of its code with its names resolved.
-use Rattle.std.proofs.Common.{◌≡◌, ℕ, ◌-◌, ◌/◌, ◌%◌, Bool, true, false, List, map, Option, Some, None, refl, sym, ap, ◌∙◌, subst}
-use Rattle.std.specs.Prelude.{◌==◌, ◌&&◌, nat_le, if◌then◌else◌, slice_get, option_map}
-use Rattle.std.proofs.lemmas.Option.{slice_get-map}
+-- Steps at an address, where an instruction stands there and where none does.
+use Rattle.std.proofs.Common.{◌≡◌, ℕ, ◌-◌, ◌/◌, ◌%◌, Bool, true, false, List, [], ◌∷◌, drop, Option, Some, None, refl, sym, ap, ◌∙◌, subst, arith, rules, add-zero}
+use Rattle.std.specs.Prelude.{◌==◌, ◌&&◌, nat_le, if◌then◌else◌, slice_get}
+use Rattle.std.proofs.lemmas.Bool.Decides.{nat_tests}
 use Rattle.lcc_base.specs.declared.order.Order.{Order}
-use Rattle.asm_text.specs.declared.instruction.Instruction.{Instruction}
-use Rattle.asm_text.specs.declared.instruction.Instruction.TheVariants.{LoadNumber, Move, Binary, Unary, Load, Store, Branch, Jump, Call}
-use Rattle.asm_text.specs.declared.instruction.LoadOp.TheVariants as load
-use Rattle.asm_text.specs.declared.instruction.StoreOp.TheVariants as store
-use Rattle.asm_text.specs.declared.instruction.Target.TheVariants as target
-use Rattle.asm_text.specs.declared.program.Program.{Program}
+use Rattle.asm_lines.specs.declared.instruction.Instruction.{Instruction}
+use Rattle.asm_text.specs.Addresses.{code_start, putchar_at, getchar_at, exit_at, end_at}
+use Rattle.asm_text.specs.declared.running.Input.{Input}
 use Rattle.asm_text.specs.declared.running.Step.{Step}
-use Rattle.asm_text.specs.declared.running.StuckCause.TheVariants.{BadJump}
-use Rattle.mips_machine.specs.declared.action.Action.{Action}
-use Rattle.mips_machine.specs.Addresses.{code_start, address_of, putchar_at, getchar_at}
-use Rattle.asm_text.specs.Runs.{MStep, IsStuck}
-use Rattle.mips_machine.specs.State.{Cpu}
-use Rattle.mips_machine.specs.StepTable.{jumps, calls, act, act_at, fetched, step, prints, takes}
-use Rattle.mips_machine.specs.Acted.{acted, address_for, fetched_from}
+use Rattle.asm_text.specs.declared.running.Step.TheVariants.{Went, Ended, Stuck, StackOut, Failed}
+use Rattle.asm_text.specs.Runs.{MStep}
+use Rattle.mips_machine.specs.State.{Cpu, MMachine}
+use Rattle.mips_machine.specs.StepTable.{act, act_at, fetched, step, ends, prints, takes}
 use Rattle.mips_machine.specs.Did.{Did}
-use Rattle.mips_machine.specs.Resolved.{destination_by, resolved, all_resolved}
-
--- a name's address is its destination's
-address_for-by : (cpu : Cpu) (o : Option ℕ) → address_for cpu (destination_by o) ≡ o
-address_for-by cpu None = refl
-address_for-by cpu (Some address) = refl
-
--- an instruction does what it does with its names resolved
-act-resolved : (p : Program) (order : Order) (cpu : Cpu) (i : Instruction) → act p order cpu i ≡ acted order cpu (resolved p.labels i)
-act-resolved p order cpu (LoadNumber d n) = refl
-act-resolved p order cpu (Move d s) = refl
-act-resolved p order cpu (Binary op d s t) = refl
-act-resolved p order cpu (Unary op d s) = refl
-act-resolved p order cpu (Load load.Word d a) = refl
-act-resolved p order cpu (Store store.Word s a) = refl
-act-resolved p order cpu (Branch name) = ap (jumps cpu) (sym (address_for-by cpu (address_of p name)))
-act-resolved p order cpu (Jump (target.Label name)) = ap (jumps cpu) (sym (address_for-by cpu (address_of p name)))
-act-resolved p order cpu (Jump (target.Register r)) = refl
-act-resolved p order cpu (Call (target.Label name)) = ap (calls cpu) (sym (address_for-by cpu (address_of p name)))
-act-resolved p order cpu (Call (target.Register r)) = refl
-
-abbrev acted_at : Order → Cpu → Option Action → MStep Cpu
-acted_at order cpu None = IsStuck BadJump cpu.pc
-acted_at order cpu (Some a) = acted order cpu a
-
-act_at-resolved : (p : Program) (order : Order) (cpu : Cpu) (o : Option Instruction) → act_at p order cpu o ≡ acted_at order cpu (option_map (resolved p.labels) o)
-act_at-resolved p order cpu None = refl
-act_at-resolved p order cpu (Some i) = act-resolved p order cpu i
-
-tested : (f : Instruction → Action) (code : List Instruction) (k : ℕ) (b : Bool) → option_map f (if b then slice_get code k else None) ≡ (if b then slice_get (map f code) k else None)
-tested f code k true = sym (slice_get-map f code k)
-tested f code k false = refl
-
--- the instruction at an address
-act_at-fetched : (p : Program) (order : Order) (cpu : Cpu) (actions : List Action) (found : Option Action) → actions ≡ all_resolved p → found ≡ fetched_from actions cpu.pc → act_at p order cpu (fetched p cpu.pc) ≡ acted_at order cpu found
-act_at-fetched p order cpu actions found all at =
-    act_at-resolved p order cpu (fetched p cpu.pc)
-    ∙ ap (acted_at order cpu) (tested (resolved p.labels) p.code ((cpu.pc - code_start) / 4) (nat_le code_start cpu.pc && cpu.pc % 4 == 0))
-    ∙ ap (acted_at order cpu) (sym (at ∙ ap (λ (xs : List Action). fetched_from xs cpu.pc) all))
-
-pub Did-fetched : (p : Program) (order : Order) (cpu new : Cpu) (actions : List Action) (a : Action) (result : Step) → actions ≡ all_resolved p → Some a ≡ fetched_from actions cpu.pc → Did (acted order cpu a) cpu new result → Did (act_at p order cpu (fetched p cpu.pc)) cpu new result
-Did-fetched p order cpu new actions a result all at h =
-    subst (λ (s : MStep Cpu). Did s cpu new result) (sym (act_at-fetched p order cpu actions (Some a) all at)) h
-
-pub fetched-nothing : (p : Program) (order : Order) (cpu : Cpu) (actions : List Action) → actions ≡ all_resolved p → None ≡ fetched_from actions cpu.pc → act_at p order cpu (fetched p cpu.pc) ≡ IsStuck BadJump cpu.pc
-fetched-nothing p order cpu actions all at = act_at-fetched p order cpu actions None all at
+use Rattle.mips_machine.specs.Stepped.{IsStepped, scene, step_of, printed_by}
+use Rattle.mips_machine.specs.Turned.{IsTurned}
+use Rattle.mips_machine.specs.declared.turn.Turn.TheVariants.{Quiet}
 
 -- the built-in functions
-pub step-prints : (p : Program) (order : Order) (cpu : Cpu) (left : List ℕ) → cpu.pc ≡ putchar_at → step p order cpu left ≡ prints cpu
-step-prints p order cpu left e = rw e refl
+pub step-prints : (code : List (Instruction ℕ)) (order : Order) (cpu : Cpu) (left : List ℕ) → cpu.pc ≡ putchar_at → step code order cpu left ≡ prints cpu
+step-prints code order cpu left e = rw e refl
 
-pub step-takes : (p : Program) (order : Order) (cpu : Cpu) (left : List ℕ) → cpu.pc ≡ getchar_at → step p order cpu left ≡ takes cpu left
-step-takes p order cpu left e = rw e refl
+pub step-takes : (code : List (Instruction ℕ)) (order : Order) (cpu : Cpu) (left : List ℕ) → cpu.pc ≡ getchar_at → step code order cpu left ≡ takes cpu left
+step-takes code order cpu left e = rw e refl
+
+-- what stands in the code stands from its start on
+from-start : (b c : Bool) (o : Option (Instruction ℕ)) (i : Instruction ℕ) → (if b && c then o else None) ≡ Some i → b ≡ true
+from-start true c o i e = refl
+from-start false c o i e = absurd (cc)
+
+-- the choice of a step at an address, which none of the other addresses is
+chosen : (pc : ℕ) (s a b c d : MStep Cpu) → nat_le code_start pc ≡ true → (if pc == end_at then a else (if pc == putchar_at then b else (if pc == getchar_at then c else (if pc == exit_at then d else s)))) ≡ s
+chosen pc s a b c d e = grind (arith, nat_tests)
+
+pub step-acts : (code : List (Instruction ℕ)) (order : Order) (cpu : Cpu) (left : List ℕ) (i : Instruction ℕ) → fetched code cpu.pc ≡ Some i → step code order cpu left ≡ act order cpu i
+step-acts code order cpu left i e =
+    chosen cpu.pc (act_at order cpu (fetched code cpu.pc)) (ends cpu 2) (prints cpu) (takes cpu left) (ends cpu 4) (from-start (nat_le code_start cpu.pc) (cpu.pc % 4 == 0) (slice_get code ((cpu.pc - code_start) / 4)) i e)
+    ∙ ap (act_at order cpu) e
+
+-- what the processor did, the machine did
+did : (s : MStep Cpu) (m : MMachine) (input : Input) (taken : Option (List ℕ)) (faults : ℕ) (new : Cpu) (result : Step) → Did s m.cpu new result → IsStepped s (scene m input taken faults) (scene (record m { cpu = new }) input taken faults) result
+did s m input taken faults new Went h = record {
+  cpu = new;
+  printed = [];
+  read = 0;
+  goes = h;
+  machine = refl;
+  input = sym (ap (λ (place : ℕ). record input { place = place }) (add-zero input.place));
+  output = search rules;
+  unbroken = refl;
+}
+did s m input taken faults new (Ended status) h = (h.0, ap (λ (cpu : Cpu). scene (record m { cpu = cpu }) input taken faults) h.1)
+did s m input taken faults new (Stuck cause pc) h = (h.0, ap (λ (cpu : Cpu). scene (record m { cpu = cpu }) input taken faults) h.1)
+did s m input taken faults new (StackOut pc) h = (h.0, ap (λ (cpu : Cpu). scene (record m { cpu = cpu }) input taken faults) h.1)
+did s m input taken faults new Failed h = absurd h
+
+pub stepped-acts : (m : MMachine) (input : Input) (taken : Option (List ℕ)) (faults : ℕ) (new : Cpu) (i : Instruction ℕ) (result : Step) → fetched m.code m.cpu.pc ≡ Some i → Did (act m.order m.cpu i) m.cpu new result → IsStepped (step_of m input) (scene m input taken faults) (scene (record m { cpu = new }) input taken faults) result
+stepped-acts m input taken faults new i result e h =
+    did (step_of m input) m input taken faults new result (subst (λ (s : MStep Cpu). Did s m.cpu new result) (sym (step-acts m.code m.order m.cpu (drop input.place input.bytes) i e)) h)
+
+-- ---- steps that print nothing
+
+pub quiet-did : (s : MStep Cpu) (old new : Cpu) (result : Step) → Did s old new result → printed_by s ≡ []
+quiet-did s old new Went h = ap printed_by h
+quiet-did s old new (Ended status) h = ap printed_by h.0
+quiet-did s old new (Stuck cause pc) h = ap printed_by h.0
+quiet-did s old new (StackOut pc) h = ap printed_by h.0
+quiet-did s old new Failed h = absurd h
+
+pub quiet-takes : (cpu : Cpu) (left : List ℕ) → printed_by (takes cpu left) ≡ []
+quiet-takes cpu [] = refl
+quiet-takes cpu (byte ∷ rest) = refl
+
+-- what the processor did, the machine's turn did
+pub turned-acts : (m : MMachine) (input : Input) (new : Cpu) (i : Instruction ℕ) (result : Step) → fetched m.code m.cpu.pc ≡ Some i → Did (act m.order m.cpu i) m.cpu new result → IsTurned m input (record m { cpu = new }) input (Quiet result)
+turned-acts m input new i result e h =
+    (ap printed_by (step-acts m.code m.order m.cpu (drop input.place input.bytes) i e) ∙ quiet-did (act m.order m.cpu i) m.cpu new result h, λ taken faults. stepped-acts m input taken faults new i result e h)

@@ -1,10 +1,8 @@
-pub mod Addresses
-pub mod Memory
 pub mod State
+pub mod Operations
+pub mod Memory
 pub mod StepTable
 pub mod Run
-pub mod Acted
 pub mod Did
-pub mod Resolved
 pub mod Stepped
-pub mod KnownNames
+pub mod Turned

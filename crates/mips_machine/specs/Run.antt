@@ -1,10 +1,10 @@
 -- The run of a program on the machine, from the start.
-use Rattle.std.specs.Prelude.{◌≡◌, ℕ, ◌+◌, ◌*◌, List, [], codes, replicate, slice_set, Some}
+use Rattle.std.specs.Prelude.{ℕ, ◌+◌, ◌*◌, List, [], replicate, slice_set}
 use Rattle.lcc_base.specs.declared.order.Order.{Order}
-use Rattle.asm_text.specs.declared.program.Program.{Program}
-use Rattle.asm_text.specs.Program.{place_of}
+use Rattle.asm_text.specs.Addresses.{code_start, end_at}
+use Rattle.asm_text.specs.Linked.{linked_code, linked_data}
+use Rattle.asm_text.specs.Program.{MProgram}
 use Rattle.asm_text.specs.Runs.{Run, Going, run_from}
-use Rattle.mips_machine.specs.Addresses.{code_start, end_at}
 use Rattle.mips_machine.specs.State.{Cpu}
 use Rattle.mips_machine.specs.StepTable.{step}
 
@@ -12,14 +12,11 @@ use Rattle.mips_machine.specs.StepTable.{step}
 abbrev pub first_registers : List ℕ
 first_registers = slice_set (slice_set (slice_set (replicate 32 0) 29 0x7ffe_ffe0) 31 end_at) 5 0x7ffe_fff8
 
--- the state at the start, at the label main
-abbrev pub first_cpu : ℕ → ℕ → Cpu
-first_cpu stack main = record { registers = first_registers; stack = replicate stack 0; pc = code_start + 4 * main }
+-- the state at the start, at the label main, with these bytes as data
+abbrev pub first_cpu : List ℕ → ℕ → ℕ → Cpu
+first_cpu statics stack main = record { registers = first_registers; statics = statics; stack = replicate stack 0; pc = code_start + 4 * main }
 
 -- the run of a program whose label main is at this place, after n steps
-abbrev pub mrun : Program → Order → ℕ → ℕ → List ℕ → ℕ → Run Cpu
-mrun p order stack main input n = run_from (step p order) (record { printed = []; place = Going (first_cpu stack main) input }) n
-
--- the label main stands at this place
-abbrev pub HasMain : Program → ℕ → Type 0
-HasMain p main = place_of p.labels (codes "main") ≡ Some main
+abbrev pub mrun : MProgram → Order → ℕ → ℕ → List ℕ → ℕ → Run Cpu
+mrun p order stack main input n =
+    run_from (step (linked_code p) order) (record { printed = []; place = Going (first_cpu (linked_data order p) stack main) input }) n

@@ -21,7 +21,7 @@ scene machine input taken faults = record { machine = machine; input = input; ta
 
 -- the step of the table
 abbrev pub step_of : MMachine → Input → MStep Cpu
-step_of m input = step m.program m.order m.cpu (drop input.place input.bytes)
+step_of m input = step m.code m.order m.cpu (drop input.place input.bytes)
 
 -- the bytes that a step prints
 abbrev pub printed_by : MStep Cpu → List ℕ
@@ -30,7 +30,8 @@ printed_by (Ends status) = []
 printed_by (IsStuck cause pc) = []
 printed_by (IsOut pc) = []
 
--- The machine is in the next state, that many more bytes of the input are read, and the output took what is printed.
+-- The machine is in the next state, that many more bytes of the input are read, and the output took what is printed, with
+-- no write that failed.
 pub record HasGone (s : MStep Cpu) (old new : Scene) : Type 0 where
   pub cpu : Cpu
   pub printed : List ℕ
@@ -39,6 +40,7 @@ pub record HasGone (s : MStep Cpu) (old new : Scene) : Type 0 where
   pub machine : new.machine ≡ record old.machine { cpu = cpu }
   pub input : new.input ≡ record old.input { place = old.input.place + read }
   pub output : Appends old.taken new.taken printed
+  pub unbroken : new.faults ≡ old.faults
 
 -- The output's faults rose where the step prints. The machine and the input are as before, and the output took
 -- nothing.

@@ -1,18 +1,19 @@
 //! The MIPS machine: a loaded program, and its steps.
 #![tactic(auto)]
 
-mod action;
-mod addresses;
-mod labels;
+mod acting;
+mod built_ins;
 mod load_fault;
 mod loading;
 mod machine;
 mod memory;
+mod operations;
 mod processor;
-mod resolve;
 #[cfg(test)]
 mod tests;
+mod turn;
 
 pub use load_fault::LoadFault;
 pub use loading::load;
 pub use machine::Machine;
+pub use turn::Turn;

@@ -4,7 +4,7 @@ use Rattle.std.proofs.Common.{refl, sym, ◌∙◌, subst, inl, inr, ⊎_elim, a
 use Rattle.std.proofs.lemmas.Bool.{both_ways, eqb-true, or_cases, cond-true}
 use Rattle.std.specs.Int.Bits.{and_zero_r}
 use Rattle.lcc_base.specs.declared.order.Order.{Order}
-use Rattle.asm_text.specs.declared.program.Program.{Program}
+use Rattle.asm_text.specs.Program.{MProgram}
 use Rattle.asm_text.specs.Runs.{Run}
 use Rattle.asm_text.specs.RunLaws.{prefix_of}
 use Rattle.op_forest.specs.Words.{Word, Number, Pointer, Function, Label, Partly, unknown}
@@ -25,7 +25,7 @@ use Rattle.mips_programs.proofs.Steps.{runs_more, both_gets}
 use Rattle.mips_programs.proofs.Words.{small_index}
 
 -- a run that goes on from where the machine gets
-pub runs_on : (p : Program) (order : Order) (h h' : Working) (g : Gets p order h h') (n : ℕ) (r : Run Cpu) → runs p order h' n ≡ r → runs p order h (g.0 + n) ≡ r
+pub runs_on : (p : MProgram) (order : Order) (h h' : Working) (g : Gets p order h h') (n : ℕ) (r : Run Cpu) → runs p order h' n ≡ r → runs p order h (g.0 + n) ≡ r
 runs_on p order h h' g n r e = runs_more p order h h' g.0 n g.2 ∙ e
 
 -- an instruction at least was run, so another one is paid for
@@ -52,7 +52,7 @@ grown_more a b c x y = record {
   labels = λ f l. y.labels f l ∙ x.labels f l;
 }
 
-module _ (p : Program) (order : Order) (room : ℕ → ℕ) where
+module _ (p : MProgram) (order : Order) (room : ℕ → ℕ) where
   pub spent_later : (stack : ℕ) (h h' : Working) (w : World) → Gets p order h h' → Spent p order room stack h' w → Spent p order room stack h w
   spent_later stack h h' w g c = record {
     steps = g.0 + c.steps;
@@ -133,7 +133,7 @@ temporary_lost r h =
     (or_cases (r == 8) (among r (9 ∷ 10 ∷ [])) h)
 
 -- after a call the registers that it loses are unknown, and the argument words are taken
-pub called_alike : (p : Program) (order : Order) (room : ℕ → ℕ) (map : Map) (f : Frame) (s : State) (q : Point) (h : Working) (ws : List Word) → Alike order room map f s h → (c : CameBack p order map (waiting_in f) s.point.world h ws q.world) → Alike order room c.later f (record { registers = without (λ r. among r lost_at_calls) s.registers; slots = s.slots; point = q }) c.place
+pub called_alike : (p : MProgram) (order : Order) (room : ℕ → ℕ) (map : Map) (f : Frame) (s : State) (q : Point) (h : Working) (ws : List Word) → Alike order room map f s h → (c : CameBack p order map (waiting_in f) s.point.world h ws q.world) → Alike order room c.later f (record { registers = without (λ r. among r lost_at_calls) s.registers; slots = s.slots; point = q }) c.place
 called_alike p order room map f s q h ws a c = record {
   leaves = record {
     words = c.words;

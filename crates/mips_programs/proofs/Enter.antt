@@ -5,10 +5,10 @@ use Rattle.std.proofs.Common.{append-nil}
 use Rattle.std.proofs.lemmas.Bool.{cases_lt}
 use Rattle.std.specs.Int.Bits.{and_zero_r}
 use Rattle.lcc_base.specs.declared.order.Order.{Order}
-use Rattle.asm_text.specs.declared.instruction.Instruction.TheVariants.{Binary}
-use Rattle.asm_text.specs.declared.instruction.BinaryOp.TheVariants as binary
-use Rattle.asm_text.specs.declared.instruction.Operand.TheVariants as operand
-use Rattle.asm_text.specs.declared.program.Program.{Program}
+use Rattle.asm_lines.specs.declared.instruction.Instruction.TheVariants.{Binary}
+use Rattle.asm_lines.specs.declared.operator.BinaryOp.TheVariants as binary
+use Rattle.asm_lines.specs.declared.instruction.Value.TheVariants as operand
+use Rattle.asm_text.specs.Program.{MProgram}
 use Rattle.op_forest.specs.Words.{unknown}
 use Rattle.op_forest.specs.Traces.{Event, Opened, output_of, opened_by, open_behind, room_of, depth_of}
 use Rattle.op_forest.specs.Prefixes.{output_append}
@@ -16,13 +16,13 @@ use Rattle.op_forest.specs.Worlds.{World, Point, at_world}
 use Rattle.op_forest.specs.Functions.{Body, entered}
 use Rattle.vcode.specs.Execution.{State}
 use Rattle.vcode.specs.Maps.{Map}
-use Rattle.mips_machine.specs.Addresses.{code_start, stack_top, floor_of}
-use Rattle.mips_machine.specs.StepTable.{register, writes, goes, step}
+use Rattle.asm_text.specs.Addresses.{code_start, stack_top, floor_of}
+use Rattle.mips_machine.specs.StepTable.{register, writes, goes}
 use Rattle.mips_target.specs.declared.layout.Layout.{Layout}
 use Rattle.mips_target.specs.Frame.{frame_size}
 use Rattle.mips_target.specs.FunctionCode.{prologue, unmarked}
 use Rattle.mips_target.specs.Items.{StandsIn}
-use Rattle.mips_programs.specs.Working.{Working, Gets}
+use Rattle.mips_programs.specs.Working.{Working, step_in, Gets}
 use Rattle.mips_programs.specs.Frames.{Waiting, Frame, IsSound, memory_of, Leaves}
 use Rattle.mips_programs.specs.Matches.{IsBare, Alike, Entry, Spent}
 use Rattle.mips_programs.proofs.Steps.{with_cpu, with_register, with_stack, index_set, index_other, both_gets, once, once_out, stepped, pointed, out_of_stack, further}
@@ -55,6 +55,7 @@ frame_of l outer name w h = record {
 abbrev pub entered_machine : Order → Layout → Working → Working
 entered_machine order l h = with_cpu h (record {
   registers = slice_set h.cpu.registers 29 (register h.cpu 29 - frame_size l);
+  statics = h.cpu.statics;
   stack = with_stack_word order h.cpu.stack (register h.cpu 29 - frame_size l + 4 * (l.arguments + l.slots)) (register h.cpu 31);
   pc = h.cpu.pc + 4 + 4;
 })
@@ -63,7 +64,7 @@ entered_machine order l h = with_cpu h (record {
 abbrev pub initial : Order → ℕ → Body → Point → State
 initial order name fn q = record { registers = λ r. unknown; slots = λ z. unknown; point = at_world q (entered order name fn q.world) }
 
-module _ (p : Program) (order : Order) (room : ℕ → ℕ) (map : Map) (outer : List Waiting) (name i : ℕ) (found : ℕ → Option ℕ) (l : Layout) (forest_order : Order) (fn : Body) (q : Point) (h : Working) (bare : IsBare map) (entry : Entry order room map outer name q.world h) (at : h.cpu.pc ≡ code_start + 4 * i) (stands : StandsIn p.code found i (unmarked (prologue l))) (small : frame_size l ≤ 2147483648) (roomy : frame_size l ≤ room name) where
+module _ (p : MProgram) (order : Order) (room : ℕ → ℕ) (map : Map) (outer : List Waiting) (name i : ℕ) (found : ℕ → Option ℕ) (l : Layout) (forest_order : Order) (fn : Body) (q : Point) (h : Working) (bare : IsBare map) (entry : Entry order room map outer name q.world h) (at : h.cpu.pc ≡ code_start + 4 * i) (stands : StandsIn p.code found i (unmarked (prologue l))) (small : frame_size l ≤ 2147483648) (roomy : frame_size l ≤ room name) where
   -- what the first instruction writes, where the frame fits
   difference : floor_of (length h.cpu.stack) + frame_size l ≤ register h.cpu 29 → (register h.cpu 29 + 2 ^ 32 - frame_size l) % 2 ^ 32 ≡ register h.cpu 29 - frame_size l
   difference fits = let a = entry.high in omega (arith, a, fits)
@@ -83,7 +84,7 @@ module _ (p : Program) (order : Order) (room : ℕ → ℕ) (map : Map) (outer :
   enters fits =
       let pointer = register h.cpu 29 - frame_size l in
       let h1 = with_register h 29 pointer (h.cpu.pc + 4) in
-      let step1 : step p order h.cpu h.left ≡ goes h1.cpu = stepped p order i h.cpu h.left (Binary binary.Subtract 29 29 (operand.Number (frame_size l))) at stands.0 ∙ ap (λ (x : ℕ). writes h.cpu 29 x) (difference fits) ∙ pointed h.cpu pointer (omega (arith, fits)) (let a = entry.high in omega (arith, a)) in
+      let step1 : step_in p order h.cpu h.left ≡ goes h1.cpu = stepped p order i h.cpu h.left (Binary binary.Subtract 29 29 (operand.Number (frame_size l))) at stands.0 ∙ ap (λ (x : ℕ). writes h.cpu 29 x) (difference fits) ∙ pointed h.cpu pointer (omega (arith, fits)) (let a = entry.high in omega (arith, a)) in
       let points : register h1.cpu 29 ≡ pointer = index_set h.cpu.registers 29 pointer (subst (λ (n : ℕ). 29 < n) (sym entry.count) (omega arith)) in
       let returns : register h1.cpu 31 ≡ register h.cpu 31 = index_other h.cpu.registers 29 31 pointer (λ e. apart 31 29 (omega arith) e) in
       let gets2 = store_word p order (suc i) (frame_of l outer name q.world h) h1 31 (l.arguments + l.slots) (sound_frame fits) refl points (omega arith) (further i h.cpu.pc at) stands.1.0 in

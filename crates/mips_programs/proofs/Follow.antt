@@ -4,15 +4,14 @@ use Rattle.std.proofs.Common.{refl, sym, ap, ◌∙◌, subst, inl, inr, ⊎_eli
 use Rattle.std.proofs.lemmas.Bool.{or_from, ne_eqb, cond-true, cond-false, lt-ltb, le-ltb, cases_lt, cases_eq}
 use Rattle.std.proofs.lemmas.Option.{slice_get_within}
 use Rattle.lcc_base.specs.declared.order.Order.{Order}
-use Rattle.asm_text.specs.declared.program.Program.{Program}
-use Rattle.asm_text.specs.declared.instruction.Instruction.{Instruction}
-use Rattle.asm_text.specs.declared.instruction.Instruction.TheVariants as to
-use Rattle.asm_text.specs.declared.instruction.BinaryOp.{BinaryOp}
-use Rattle.asm_text.specs.declared.instruction.BinaryOp.TheVariants as binary
-use Rattle.asm_text.specs.declared.instruction.UnaryOp.TheVariants as unary
-use Rattle.asm_text.specs.declared.instruction.LoadOp.TheVariants as load
-use Rattle.asm_text.specs.declared.instruction.Operand.TheVariants as operand
-use Rattle.asm_text.specs.declared.instruction.Target.TheVariants as target
+use Rattle.asm_text.specs.Program.{MInstruction, MProgram}
+use Rattle.asm_lines.specs.declared.instruction.Instruction.TheVariants as to
+use Rattle.asm_lines.specs.declared.operator.UnaryOp.TheVariants as unary
+use Rattle.asm_lines.specs.declared.operator.LoadOp.TheVariants as load
+use Rattle.asm_lines.specs.declared.instruction.Value.{Value}
+use Rattle.asm_lines.specs.declared.instruction.Value.TheVariants as operand
+use Rattle.asm_text.specs.declared.running.StuckCause.{StuckCause}
+use Rattle.asm_lines.specs.declared.instruction.Target.TheVariants as target
 use Rattle.op_forest.specs.Words.{Word, Number, Pointer, Function, Label, Partly}
 use Rattle.op_forest.specs.Traces.{open_behind, room_of}
 use Rattle.op_forest.specs.Worlds.{World, Point, Move, Next, To, End, Effect, Went, Exits, Unfinished, Stuck, then_do, goes, Outcome, Failed}
@@ -21,26 +20,30 @@ use Rattle.op_forest.specs.Functions.{value_or, Program as Meaning}
 use Rattle.vcode.specs.Execution.{State, with_value, with_slot, state_by, moved, executed}
 use Rattle.vcode.specs.VirtualCode.{among}
 use Rattle.vcode.specs.Maps.{Map, IsWord}
-use Rattle.mips_machine.specs.Addresses.{code_start, data_start, stack_top, floor_of}
+use Rattle.asm_text.specs.Linked.{or_zero}
+use Rattle.asm_text.specs.Addresses.{code_start, data_start, stack_top, floor_of}
+use Rattle.mips_machine.specs.Operations.{combined, cause_of}
 use Rattle.mips_machine.specs.State.{Cpu}
-use Rattle.mips_machine.specs.StepTable.{register, writes, calls as calls_at, act, combined}
+use Rattle.mips_machine.specs.StepTable.{register, value_of, writes, writes_unless, calls as calls_at, act}
 use Rattle.slot_allocator.specs.SlotCounts.{UsesSlotsBelow}
+use Rattle.mips_rules.specs.declared.arithmetic.Arithmetic.{Arithmetic}
+use Rattle.mips_rules.specs.declared.arithmetic.Arithmetic.TheVariants as arithmetic
 use Rattle.mips_rules.specs.declared.instr.Instr.{Instr}
 use Rattle.mips_rules.specs.declared.instr.Instr.TheVariants as instr
 use Rattle.mips_rules.specs.declared.instr.Source.TheVariants as source
 use Rattle.mips_rules.specs.Instructions.{combined as combined_by, lost_at_calls}
 use Rattle.mips_rules.specs.Mips.{mips}
-use Rattle.mips_target.specs.FunctionCode.{in_frame, epilogue, loads_of, call_of, unmarked, body_of}
+use Rattle.mips_target.specs.FunctionCode.{in_frame, binary_of, epilogue, loads_of, call_of, unmarked, body_of}
 use Rattle.mips_target.specs.Items.{StandsIn}
 use Rattle.mips_target.specs.Registers.{NamesAmong}
 use Rattle.mips_target.specs.Sizes.{Fits}
 use Rattle.mips_target.specs.Generated.{temporaries}
-use Rattle.mips_programs.specs.Working.{Working, on, runs, Gets}
+use Rattle.mips_programs.specs.Working.{AreBytes, Working, on, runs, Gets}
 use Rattle.mips_programs.specs.Frames.{Kept, Frame, stack_of, IsSound, stack_word, frame_word}
 use Rattle.mips_programs.specs.Matches.{IsBare, HasPlaces, Handed, Alike, Spent, Comes, passed_word, Entry, Answers, Calling}
 use Rattle.mips_target.specs.CalledNames.{CallsAre}
-use Rattle.mips_programs.specs.Programs.{CanBeNamed, IsAddressed}
-use Rattle.mips_programs.proofs.Steps.{with_register, with_stack, with_cpu, index_set, index_other, runs_more, both_gets, once, stepped, wrote, further}
+use Rattle.mips_programs.specs.Programs.{MayRead, IsAddressed}
+use Rattle.mips_programs.proofs.Steps.{with_register, with_stack, with_cpu, index_set, index_other, runs_more, both_gets, gets_bytes, once, linked, stepped, wrote, further}
 use Rattle.mips_programs.proofs.Words.{small_word, small_get, with_stack_word}
 use Rattle.mips_programs.proofs.Standing.{front_stands, stands_behind, both_stand}
 use Rattle.mips_programs.proofs.Keep.{temporary_range, set_temporary, set_other, put_slot, put_argument, with_argument}
@@ -48,15 +51,26 @@ use Rattle.mips_programs.proofs.Access.{load_word, store_word, leave}
 use Rattle.mips_programs.proofs.Grow.{executed_begins}
 use Rattle.mips_programs.proofs.Calls.{runs_on, spent_later, spent_in, later_by, grown_same, waiting_in, called_alike}
 
-combined_small : (op : BinaryOp) (x y : ℕ) → combined op x y < 2 ^ 32
-combined_small binary.Add x y = omega arith
-combined_small binary.Subtract x y = omega arith
-combined_small binary.Multiply x y = omega arith
+combined_small : (op : Arithmetic) (x y : ℕ) → combined (binary_of op) x y < 2 ^ 32
+combined_small arithmetic.Add x y = omega arith
+combined_small arithmetic.Subtract x y = omega arith
+combined_small arithmetic.Multiply x y = omega arith
 
-same_combined : (op : BinaryOp) (x y : ℕ) → combined_by op x y ≡ combined op x y
-same_combined binary.Add x y = refl
-same_combined binary.Subtract x y = refl
-same_combined binary.Multiply x y = refl
+same_combined : (op : Arithmetic) (x y : ℕ) → combined_by op x y ≡ combined (binary_of op) x y
+same_combined arithmetic.Add x y = refl
+same_combined arithmetic.Subtract x y = refl
+same_combined arithmetic.Multiply x y = refl
+
+-- each of these operations has a result
+no_cause : (op : Arithmetic) (x y : ℕ) → cause_of (binary_of op) x y ≡ None
+no_cause arithmetic.Add x y = refl
+no_cause arithmetic.Subtract x y = refl
+no_cause arithmetic.Multiply x y = refl
+
+-- so its row writes it
+operated : (order : Order) (cpu : Cpu) (op : Arithmetic) (d x : ℕ) (y : Value) → act order cpu (to.Binary (binary_of op) d x y) ≡ writes cpu d (combined (binary_of op) (register cpu x) (value_of cpu y))
+operated order cpu op d x y =
+    ap (λ (cause : Option StuckCause). writes_unless cause cpu d (combined (binary_of op) (register cpu x) (value_of cpu y))) (no_cause op (register cpu x) (value_of cpu y))
 
 negated_small : (x : ℕ) → negated x < 2 ^ 32
 negated_small x = omega arith
@@ -129,15 +143,15 @@ paid_call n far (suc j) m long len a b c =
     let e : (suc j + m) * long ≡ long + j * long + m * long = grind arith in omega arith
 
 -- code lies low, so an address of it is a word
-near : (code : List Instruction) (i : ℕ) (x : Instruction) (pc : ℕ) → code_start + 4 * length code ≤ data_start → pc ≡ code_start + 4 * i → slice_get code i ≡ Some x → pc < 2 ^ 32
+near : (code : List MInstruction) (i : ℕ) (x : MInstruction) (pc : ℕ) → code_start + 4 * length code ≤ data_start → pc ≡ code_start + 4 * i → slice_get code i ≡ Some x → pc < 2 ^ 32
 near code i x pc ends e g = let w = slice_get_within code i x g in omega arith
 
 -- some steps, none maybe, and then one at least
-gets_behind : (p : Program) (order : Order) (a b c : Working) (n : ℕ) → runs p order a n ≡ on b → Gets p order b c → Gets p order a c
+gets_behind : (p : MProgram) (order : Order) (a b c : Working) (n : ℕ) → runs p order a n ≡ on b → Gets p order b c → Gets p order a c
 gets_behind p order a b c n x y = (n + y.0, omega (arith, y.1), runs_more p order a b n y.0 x ∙ y.2)
 
 -- the machine behind the loads of argument words
-record Loaded (p : Program) (order : Order) (room : ℕ → ℕ) (map : Map) (f : Frame) (s : State) (i m : ℕ) (h : Working) : Type 0 where
+record Loaded (p : MProgram) (order : Order) (room : ℕ → ℕ) (map : Map) (f : Frame) (s : State) (i m : ℕ) (h : Working) : Type 0 where
   steps : ℕ
   place : Working
   gets : runs p order h steps ≡ on place
@@ -146,7 +160,7 @@ record Loaded (p : Program) (order : Order) (room : ℕ → ℕ) (map : Map) (f 
   same : place.cpu.stack ≡ h.cpu.stack
   words : (j : ℕ) → j < m → register place.cpu (4 + j) ≡ frame_word order f h.cpu.stack j
 
-loaded : (p : Program) (order : Order) (room : ℕ → ℕ) (map : Map) (f : Frame) (found : ℕ → Option ℕ) (s : State) (i m : ℕ) (h : Working) → IsSound f → m ≤ 4 → m ≤ f.layout.arguments → Alike order room map f s h → h.cpu.pc ≡ code_start + 4 * i → StandsIn p.code found i (unmarked (loads_of m)) → Loaded p order room map f s i m h
+loaded : (p : MProgram) (order : Order) (room : ℕ → ℕ) (map : Map) (f : Frame) (found : ℕ → Option ℕ) (s : State) (i m : ℕ) (h : Working) → IsSound f → m ≤ 4 → m ≤ f.layout.arguments → Alike order room map f s h → h.cpu.pc ≡ code_start + 4 * i → StandsIn p.code found i (unmarked (loads_of m)) → Loaded p order room map f s i m h
 loaded p order room map f found s i zero h sound few within a at stands = record {
   steps = 0;
   place = h;
@@ -160,7 +174,7 @@ loaded p order room map f found s i zero h sound few within a at stands = record
     none : (j : ℕ) → j < 0 → ⊥
     none j l = omega arith
 loaded p order room map f found s i (suc m) h sound few within a at stands =
-    let last : List Instruction = to.Load load.Word (4 + m) (in_frame (4 * m)) ∷ [] in
+    let last : List MInstruction = to.Load load.Word (4 + m) (in_frame (4 * m)) ∷ [] in
     let all = both_stand p.code found i (loads_of m) last stands in
     let front = front_stands p.code found i (unmarked (loads_of m)) (unmarked last) all in
     let back = stands_behind p.code found i (loads_of m) (unmarked last) all in
@@ -222,7 +236,7 @@ entry_of order room map f name s h sound at passes a = record {
   deep = subst (λ x. stack_top ≤ x + room_of room (open_behind [] s.point.world.trace) + 32) (sym a.pointer) (subst (λ x. stack_top ≤ f.low + room_of room x + 32) (sym a.open_calls) a.deep);
 }
 
-module _ (p : Program) (order : Order) (room : ℕ → ℕ) (places : ℕ → Option ℕ) (long far : ℕ) (g : Meaning) (names : List (List ℕ)) (found : ℕ → Option ℕ) (f : Frame) (t : Setting) (code : List Instr) where
+module _ (p : MProgram) (order : Order) (room : ℕ → ℕ) (places : ℕ → Option ℕ) (Reads : Type 0) (long far : ℕ) (g : Meaning) (names : List (List ℕ)) (found : ℕ → Option ℕ) (f : Frame) (t : Setting) (code : List Instr) where
   -- the rest of the code stands at the machine's place, in a state that is alike
   pub record Ready (map : Map) (k i : ℕ) (is : List Instr) (s : State) (h : Working) : Type 0 where
     pub alike : Alike order room map f s h
@@ -231,13 +245,14 @@ module _ (p : Program) (order : Order) (room : ℕ → ℕ) (places : ℕ → Op
     pub fits : Fits names f.layout k is
     pub named : NamesAmong mips temporaries is
     pub slots : UsesSlotsBelow mips f.layout.slots is
-    pub calls : CallsAre (IsAddressed p g names places) is
+    pub calls : CallsAre (IsAddressed p g names places Reads) is
     pub counts : k ≡ length s.point.world.arguments
     pub short : length is < long
     pub functions : HasPlaces map places
+    pub bytes : Reads → AreBytes h.left
     pub bare : IsBare map
 
-  module _ (ends : code_start + 4 * length p.code ≤ data_start) (sound : IsSound f) (same : t.global ≡ g.global) (calling : Calling p order room places (λ name. CanBeNamed (g.callee name)) long far t.call) where
+  module _ (ends : code_start + 4 * length p.code ≤ data_start) (sound : IsSound f) (same : t.global ≡ g.global) (calling : Calling p order room places Reads (λ name. MayRead Reads (g.callee name)) long far t.call) where
     -- the machine follows what is claimed of at most n instructions from here
     abbrev Holds : ℕ → ℕ → Type 0
     Holds n b = (map : Map) (k i : ℕ) (is : List Instr) (s : State) (h : Working) → Ready map k i is s h → Comes p order room map long f b (length is) h (executed mips t code n is s)
@@ -249,7 +264,7 @@ module _ (p : Program) (order : Order) (room : ℕ → ℕ) (places : ℕ → Op
     shorter is x l = omega arith
 
     -- one instruction writes a temporary
-    temporary : (map : Map) (n b k i : ℕ) (x : Instr) (is : List Instr) (s : State) (h : Working) (d v : ℕ) (w : Word) → Holds n (b - 1) → IsTrue (among d temporaries) → v < 2 ^ 32 → IsWord map w v → Gets p order h (with_register h d v (h.cpu.pc + 4)) → StandsIn p.code found (suc i) (body_of names f.layout k is) → Fits names f.layout k is → NamesAmong mips temporaries is → UsesSlotsBelow mips f.layout.slots is → CallsAre (IsAddressed p g names places) is → Ready map k i (x ∷ is) s h → Follows_on map b (length (x ∷ is)) h (executed mips t code n is (record { registers = with_value s.registers d w; slots = s.slots; point = s.point }))
+    temporary : (map : Map) (n b k i : ℕ) (x : Instr) (is : List Instr) (s : State) (h : Working) (d v : ℕ) (w : Word) → Holds n (b - 1) → IsTrue (among d temporaries) → v < 2 ^ 32 → IsWord map w v → Gets p order h (with_register h d v (h.cpu.pc + 4)) → StandsIn p.code found (suc i) (body_of names f.layout k is) → Fits names f.layout k is → NamesAmong mips temporaries is → UsesSlotsBelow mips f.layout.slots is → CallsAre (IsAddressed p g names places Reads) is → Ready map k i (x ∷ is) s h → Follows_on map b (length (x ∷ is)) h (executed mips t code n is (record { registers = with_value s.registers d w; slots = s.slots; point = s.point }))
     temporary map n b k i x is s h d v w go low small is_word gets stands fits named slots calls r =
         let s' : State = record { registers = with_value s.registers d w; slots = s.slots; point = s.point } in
         let h' = with_register h d v (h.cpu.pc + 4) in
@@ -264,11 +279,12 @@ module _ (p : Program) (order : Order) (room : ℕ → ℕ) (places : ℕ → Op
           counts = r.counts;
           short = shorter is x r.short;
           functions = r.functions;
+          bytes = r.bytes;
           bare = r.bare;
         }))
 
     -- the same, where the instruction's own row says so
-    computes : (map : Map) (n b k i : ℕ) (z : Instruction) (x : Instr) (is : List Instr) (s : State) (h : Working) (d v : ℕ) (w : Word) → Holds n (b - 1) → IsTrue (among d temporaries) → v < 2 ^ 32 → IsWord map w v → act p order h.cpu z ≡ writes h.cpu d v → slice_get p.code i ≡ Some z → StandsIn p.code found (suc i) (body_of names f.layout k is) → Fits names f.layout k is → NamesAmong mips temporaries is → UsesSlotsBelow mips f.layout.slots is → CallsAre (IsAddressed p g names places) is → Ready map k i (x ∷ is) s h → Follows_on map b (length (x ∷ is)) h (executed mips t code n is (record { registers = with_value s.registers d w; slots = s.slots; point = s.point }))
+    computes : (map : Map) (n b k i : ℕ) (z : MInstruction) (x : Instr) (is : List Instr) (s : State) (h : Working) (d v : ℕ) (w : Word) → Holds n (b - 1) → IsTrue (among d temporaries) → v < 2 ^ 32 → IsWord map w v → act order h.cpu (linked p z) ≡ writes h.cpu d v → slice_get p.code i ≡ Some z → StandsIn p.code found (suc i) (body_of names f.layout k is) → Fits names f.layout k is → NamesAmong mips temporaries is → UsesSlotsBelow mips f.layout.slots is → CallsAre (IsAddressed p g names places Reads) is → Ready map k i (x ∷ is) s h → Follows_on map b (length (x ∷ is)) h (executed mips t code n is (record { registers = with_value s.registers d w; slots = s.slots; point = s.point }))
     computes map n b k i z x is s h d v w go low small is_word acted here stands fits named slots calls r =
         temporary map n b k i x is s h d v w go low small is_word (wrote p order i h z d v r.at here acted (above_zero d low) (not_pointer d low)) stands fits named slots calls r
 
@@ -276,7 +292,7 @@ module _ (p : Program) (order : Order) (room : ℕ → ℕ) (places : ℕ → Op
     here_spent map s h w a c = subst (λ n. Spent p order room n h w) a.leaves.room c
 
     -- what the machine does after a call, by what the call did
-    after_call : (map : Map) (n b k i m name d : ℕ) (is : List Instr) (s : State) (h h2 : Working) (e : Effect) → Holds n (b - 1) → b ≤ suc far → Answers p order room map long far (waiting_in f) s.point.world h2 e → Gets p order h h2 → Alike order room map f s h2 → register h2.cpu 31 ≡ code_start + 4 * suc m → slice_get p.code (suc m) ≡ Some (to.Move d 2) → StandsIn p.code found (suc (suc m)) (body_of names f.layout 0 is) → IsTrue (among d temporaries) → Fits names f.layout 0 is → NamesAmong mips temporaries is → UsesSlotsBelow mips f.layout.slots is → CallsAre (IsAddressed p g names places) is → Ready map k i (instr.Call d name ∷ is) s h → Follows_on map b (length (instr.Call d name ∷ is)) h (goes (then_do e (λ ws q. handed ws q)) (λ ws q mv. moved mips code is mv q (λ js. executed mips t code n js (state_by mips (instr.Call d name) s ws q))))
+    after_call : (map : Map) (n b k i m name d : ℕ) (is : List Instr) (s : State) (h h2 : Working) (e : Effect) → Holds n (b - 1) → b ≤ suc far → Answers p order room map long far (waiting_in f) s.point.world h2 e → Gets p order h h2 → Alike order room map f s h2 → register h2.cpu 31 ≡ code_start + 4 * suc m → slice_get p.code (suc m) ≡ Some (to.Move d 2) → StandsIn p.code found (suc (suc m)) (body_of names f.layout 0 is) → IsTrue (among d temporaries) → Fits names f.layout 0 is → NamesAmong mips temporaries is → UsesSlotsBelow mips f.layout.slots is → CallsAre (IsAddressed p g names places Reads) is → Ready map k i (instr.Call d name ∷ is) s h → Follows_on map b (length (instr.Call d name ∷ is)) h (goes (then_do e (λ ws q. handed ws q)) (λ ws q mv. moved mips code is mv q (λ js. executed mips t code n js (state_by mips (instr.Call d name) s ws q))))
     after_call map n b k i m name d is s h h2 (Went [] q Next) go le ans gets a back here stands low fits named slots calls r = tt
     after_call map n b k i m name d is s h h2 (Went (w ∷ ws) q Next) go le (inl c) gets a back here stands low fits named slots calls r =
         let s3 : State = record { registers = λ x. if among x lost_at_calls then Partly 0 0 else s.registers x; slots = s.slots; point = q } in
@@ -298,6 +314,7 @@ module _ (p : Program) (order : Order) (room : ℕ → ℕ) (places : ℕ → Op
           counts = ap length (sym c.taken);
           short = shorter is (instr.Call d name) r.short;
           functions = λ y a e. c.grown.functions y ∙ r.functions y a e;
+          bytes = λ reads. gets_bytes p order h h3 (both_gets p order h h2 h3 gets c.gets) (r.bytes reads);
           bare = c.bare;
         }))
     after_call map n b k i m name d is s h h2 (Went (w ∷ ws) q Next) go le (inr c) gets a back here stands low fits named slots calls r =
@@ -327,7 +344,7 @@ module _ (p : Program) (order : Order) (room : ℕ → ℕ) (places : ℕ → Op
         let bytes = get_or names name [] in
         let all = front_stands p.code found i (unmarked (call_of names k d name)) (body_of names f.layout 0 is) r.stands in
         let rest = stands_behind p.code found i (call_of names k d name) (body_of names f.layout 0 is) r.stands in
-        let two : List Instruction = to.Call (target.Label bytes) ∷ to.Move d 2 ∷ [] in
+        let two : List MInstruction = to.Call (target.Label bytes) ∷ to.Move d 2 ∷ [] in
         let both = both_stand p.code found i (loads_of j) two all in
         let first = front_stands p.code found i (unmarked (loads_of j)) (unmarked two) both in
         let few : j ≤ f.layout.arguments = (let a = r.alike.few in let e = r.counts in omega (arith, a, e)) in
@@ -335,9 +352,9 @@ module _ (p : Program) (order : Order) (room : ℕ → ℕ) (places : ℕ → Op
         let there = subst (λ n2. StandsIn p.code found (i + n2) (unmarked two)) (length_loads j) (stands_behind p.code found i (loads_of j) (unmarked two) both) in
         let last : length (call_of names k d name) ≡ j + 2 = length-append (loads_of j) two ∙ ap (λ n2. n2 + 2) (length_loads j) in
         let h1 = x.place in
-        let cpu2 : Cpu = record { registers = slice_set h1.cpu.registers 31 (h1.cpu.pc + 4); stack = h1.cpu.stack; pc = known.address } in
+        let cpu2 : Cpu = record { registers = slice_set h1.cpu.registers 31 (h1.cpu.pc + 4); statics = h1.cpu.statics; stack = h1.cpu.stack; pc = known.address } in
         let h2 = with_cpu h1 cpu2 in
-        let step2 = once p order h1 cpu2 (stepped p order (i + j) h1.cpu h1.left (to.Call (target.Label bytes)) x.at there.0 ∙ ap (calls_at h1.cpu) known.in_text) in
+        let step2 = once p order h1 cpu2 (stepped p order (i + j) h1.cpu h1.left (to.Call (target.Label bytes)) x.at there.0 ∙ ap (λ (o : Option ℕ). calls_at h1.cpu (or_zero o)) known.in_text) in
         let gets : Gets p order h h2 = gets_behind p order h h1 h2 x.steps x.gets step2 in
         let at2 = further (i + j) h1.cpu.pc x.at in
         let a2 = set_other order room map f s h1 31 (h1.cpu.pc + 4) known.address (omega arith) (ne_below 31 29 (omega arith)) refl (near p.code (suc (i + j)) (to.Move d 2) (h1.cpu.pc + 4) ends at2 there.1.0) x.alike in
@@ -346,7 +363,7 @@ module _ (p : Program) (order : Order) (room : ℕ → ℕ) (places : ℕ → Op
         let entry = entry_of order room map f fn s h2 sound (sym (r.functions fn known.address known.place)) passes a2 in
         let back : register cpu2 31 ≡ code_start + 4 * suc (i + j) = index_set h1.cpu.registers 31 (h1.cpu.pc + 4) (subst (λ n2. 31 < n2) (sym x.alike.leaves.count) (omega arith)) ∙ at2 in
         let behind : i + length (call_of names k d name) ≡ suc (suc (i + j)) = omega (arith, last) in
-        after_call map n b k i (i + j) name d is s h h2 (t.call fn s.point) go le (calling.answers map (waiting_in f) fn s.point h2 known.able r.bare r.functions entry) gets a2 back there.1.0 (subst (λ n2. StandsIn p.code found n2 (body_of names f.layout 0 is)) behind rest) r.named.0.0 r.fits.1 r.named.1 r.slots.1 r.calls.1 r
+        after_call map n b k i (i + j) name d is s h h2 (t.call fn s.point) go le (calling.answers map (waiting_in f) fn s.point h2 known.reads (λ reads. gets_bytes p order h h2 gets (r.bytes reads)) r.bare r.functions entry) gets a2 back there.1.0 (subst (λ n2. StandsIn p.code found n2 (body_of names f.layout 0 is)) behind rest) r.named.0.0 r.fits.1 r.named.1 r.slots.1 r.calls.1 r
 
     pub follows : (n b : ℕ) (map : Map) (k i : ℕ) (is : List Instr) (s : State) (h : Working) → b ≤ n → b ≤ suc far → Ready map k i is s h → Comes p order room map long f b (length is) h (executed mips t code n is s)
     follows zero b map k i is s h less le r = inl (record { steps = 0; place = h; many = omega arith; gets = refl; printed = r.alike.shows.printed })
@@ -356,13 +373,13 @@ module _ (p : Program) (order : Order) (room : ℕ → ℕ) (places : ℕ → Op
     follows (suc n) b map k i (instr.LoadNumber d v ∷ is) s h less le r =
         computes map n b k i (to.LoadNumber d v) (instr.LoadNumber d v) is s h d v (Number v) (λ m' k' i' is' s' h' r'. follows n (b - 1) m' k' i' is' s' h' (omega arith) (omega arith) r') r.named.0.0 r.fits.0.1 refl refl r.stands.0 r.stands.1 r.fits.1 r.named.1 r.slots.1 r.calls.1 r
     follows (suc n) b map k i (instr.Binary op d x (source.Register y) ∷ is) s h less le r =
-        let v = combined op (register h.cpu x) (register h.cpu y) in
+        let v = combined (binary_of op) (register h.cpu x) (register h.cpu y) in
         of_numbers map (Follows_on map b (length (instr.Binary op d x (source.Register y) ∷ is)) h) (combined_by op) (s.registers x) (s.registers y) (register h.cpu x) (register h.cpu y) s.point (λ ws q mv. moved mips code is mv q (λ js. executed mips t code n js (state_by mips (instr.Binary op d x (source.Register y)) s ws q))) (r.alike.temps x r.named.0.1.0) (r.alike.temps y r.named.0.1.1.0) tt
-        (computes map n b k i (to.Binary op d x (operand.Register y)) (instr.Binary op d x (source.Register y)) is s h d v (Number (combined_by op (register h.cpu x) (register h.cpu y))) (λ m' k' i' is' s' h' r'. follows n (b - 1) m' k' i' is' s' h' (omega arith) (omega arith) r') r.named.0.0 (combined_small op (register h.cpu x) (register h.cpu y)) (sym (same_combined op (register h.cpu x) (register h.cpu y))) refl r.stands.0 r.stands.1 r.fits.1 r.named.1 r.slots.1 r.calls.1 r)
+        (computes map n b k i (to.Binary (binary_of op) d x (operand.Register y)) (instr.Binary op d x (source.Register y)) is s h d v (Number (combined_by op (register h.cpu x) (register h.cpu y))) (λ m' k' i' is' s' h' r'. follows n (b - 1) m' k' i' is' s' h' (omega arith) (omega arith) r') r.named.0.0 (combined_small op (register h.cpu x) (register h.cpu y)) (sym (same_combined op (register h.cpu x) (register h.cpu y))) (operated order h.cpu op d x (operand.Register y)) r.stands.0 r.stands.1 r.fits.1 r.named.1 r.slots.1 r.calls.1 r)
     follows (suc n) b map k i (instr.Binary op d x (source.Number y) ∷ is) s h less le r =
-        let v = combined op (register h.cpu x) y in
+        let v = combined (binary_of op) (register h.cpu x) y in
         of_numbers map (Follows_on map b (length (instr.Binary op d x (source.Number y) ∷ is)) h) (combined_by op) (s.registers x) (Number y) (register h.cpu x) y s.point (λ ws q mv. moved mips code is mv q (λ js. executed mips t code n js (state_by mips (instr.Binary op d x (source.Number y)) s ws q))) (r.alike.temps x r.named.0.1.0) refl tt
-        (computes map n b k i (to.Binary op d x (operand.Number y)) (instr.Binary op d x (source.Number y)) is s h d v (Number (combined_by op (register h.cpu x) y)) (λ m' k' i' is' s' h' r'. follows n (b - 1) m' k' i' is' s' h' (omega arith) (omega arith) r') r.named.0.0 (combined_small op (register h.cpu x) y) (sym (same_combined op (register h.cpu x) y)) refl r.stands.0 r.stands.1 r.fits.1 r.named.1 r.slots.1 r.calls.1 r)
+        (computes map n b k i (to.Binary (binary_of op) d x (operand.Number y)) (instr.Binary op d x (source.Number y)) is s h d v (Number (combined_by op (register h.cpu x) y)) (λ m' k' i' is' s' h' r'. follows n (b - 1) m' k' i' is' s' h' (omega arith) (omega arith) r') r.named.0.0 (combined_small op (register h.cpu x) y) (sym (same_combined op (register h.cpu x) y)) (operated order h.cpu op d x (operand.Number y)) r.stands.0 r.stands.1 r.fits.1 r.named.1 r.slots.1 r.calls.1 r)
     follows (suc n) b map k i (instr.Negate d x ∷ is) s h less le r =
         of_number map (Follows_on map b (length (instr.Negate d x ∷ is)) h) negated (s.registers x) (register h.cpu x) s.point (λ ws q mv. moved mips code is mv q (λ js. executed mips t code n js (state_by mips (instr.Negate d x) s ws q))) (r.alike.temps x r.named.0.1.0) tt
         (computes map n b k i (to.Unary unary.Negate d x) (instr.Negate d x) is s h d (negated (register h.cpu x)) (Number (negated (register h.cpu x))) (λ m' k' i' is' s' h' r'. follows n (b - 1) m' k' i' is' s' h' (omega arith) (omega arith) r') r.named.0.0 (negated_small (register h.cpu x)) refl refl r.stands.0 r.stands.1 r.fits.1 r.named.1 r.slots.1 r.calls.1 r)
@@ -381,6 +398,7 @@ module _ (p : Program) (order : Order) (room : ℕ → ℕ) (places : ℕ → Op
           counts = one_more k s.point.world.arguments (s.registers x) r.counts;
           short = shorter is (instr.Argument x) r.short;
           functions = r.functions;
+          bytes = r.bytes;
           bare = r.bare;
         }))
     follows (suc n) b map k i (instr.Call d name ∷ is) s h less le r =
@@ -417,6 +435,7 @@ module _ (p : Program) (order : Order) (room : ℕ → ℕ) (places : ℕ → Op
           counts = r.counts;
           short = shorter is (instr.StoreSlot x (pos z)) r.short;
           functions = r.functions;
+          bytes = r.bytes;
           bare = r.bare;
         }))
     follows (suc n) b map k i (instr.StoreSlot x (negsuc z) ∷ is) s h less le r = absurd r.slots.0

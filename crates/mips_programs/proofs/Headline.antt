@@ -2,19 +2,19 @@
 use Rattle.std.proofs.Common.{◌≡◌, ℕ, suc, ◌+◌, ◌*◌, ◌<◌, ◌≤◌, List, [], Option, Some, subst}
 use Rattle.std.proofs.lemmas.List.{length-replicate}
 use Rattle.lcc_base.specs.declared.order.Order.{Order}
-use Rattle.asm_text.specs.declared.program.Program.{Program}
+use Rattle.asm_text.specs.Program.{MProgram}
 use Rattle.asm_text.specs.Runs.{Run}
 use Rattle.asm_text.specs.Agrees.{Agrees}
+use Rattle.asm_text.specs.Linked.{linked_data}
 use Rattle.op_forest.specs.Worlds.{Point, Effect}
 use Rattle.op_forest.specs.Lowered.{LoweredUnit}
 use Rattle.op_forest.specs.Units.{program_of, start_world}
 use Rattle.op_forest.specs.Meaning.{call_of}
 use Rattle.op_forest.specs.Nested.{calls_at}
-use Rattle.mips_machine.specs.Addresses.{code_start}
+use Rattle.asm_text.specs.Addresses.{code_start}
 use Rattle.mips_machine.specs.State.{Cpu}
-use Rattle.mips_machine.specs.StepTable.{step}
 use Rattle.mips_machine.specs.Run.{mrun}
-use Rattle.mips_programs.specs.Working.{Working, on}
+use Rattle.mips_programs.specs.Working.{AreBytes, Working, on, step_in}
 use Rattle.mips_programs.specs.Matches.{Calling, Answers}
 use Rattle.mips_programs.specs.Reached.{seen, Reached}
 use Rattle.mips_programs.specs.Meant.{HasMeaning}
@@ -23,7 +23,7 @@ use Rattle.mips_programs.proofs.Counted.{nested_meant, counted_agrees}
 use Rattle.mips_programs.proofs.Start.{at_start, start_map, start_places, start_bare, start_entry, start_back}
 use Rattle.mips_programs.proofs.Reaching.{reach, reach_any}
 
-module _ (u : LoweredUnit) (p : Program) (order : Order) (room : ℕ → ℕ) (places : ℕ → Option ℕ) (there : ℕ → Type 0) (long stack name main : ℕ) (input : List ℕ) (more : 0 < long) (low : 4096 ≤ stack) (high : stack ≤ 16777216) (at : places name ≡ Some (code_start + 4 * main)) (able : there name) (calling : (n : ℕ) → Calling p order room places there long n (calls_at (program_of u) n)) where
+module _ (u : LoweredUnit) (p : MProgram) (order : Order) (room : ℕ → ℕ) (places : ℕ → Option ℕ) (Reads : Type 0) (there : ℕ → Type 0) (long stack name main : ℕ) (input : List ℕ) (more : 0 < long) (low : 4096 ≤ stack) (high : stack ≤ 16777216) (at : places name ≡ Some (code_start + 4 * main)) (able : there name) (bytes : Reads → AreBytes input) (calling : (n : ℕ) → Calling p order room places Reads there long n (calls_at (program_of u) n)) where
   abbrev first_point : Point
   first_point = record { left = 0; world = start_world u input }
 
@@ -31,10 +31,10 @@ module _ (u : LoweredUnit) (p : Program) (order : Order) (room : ℕ → ℕ) (p
   first_call k = calls_at (program_of u) k name first_point
 
   abbrev begin : Working
-  begin = at_start stack main input
+  begin = at_start (linked_data order p) stack main input
 
   answers : (k : ℕ) → Answers p order room (start_map places) long k [] (start_world u input) begin (first_call k)
-  answers k = (calling k).answers (start_map places) [] name first_point begin able (start_bare places) (start_places places) (start_entry order room (start_map places) u input stack name main (start_bare places) (start_places places name (code_start + 4 * main) at) low high)
+  answers k = (calling k).answers (start_map places) [] name first_point begin able bytes (start_bare places) (start_places places) (start_entry order room (start_map places) u (linked_data order p) input stack name main (start_bare places) (start_places places name (code_start + 4 * main) at) low high)
 
   abbrev machine : ℕ → Run Cpu
   machine n = mrun p order stack main input n
@@ -48,9 +48,9 @@ module _ (u : LoweredUnit) (p : Program) (order : Order) (room : ℕ → ℕ) (p
       let turns : ℕ → ℕ = λ n. suc n * long in
       let reached : (n : ℕ) → Reached machine stack n (seen room (first_call (turns n))) = λ n.
       subst (λ s. Reached machine s n (seen room (first_call (turns n)))) (length-replicate stack 0)
-      (reach p order room (start_map places) (start_world u input) begin (start_back stack main) long n (first_call (turns n)) more (nested (turns n)) (answers (turns n))) in
+      (reach p order room (start_map places) (start_world u input) begin (start_back (linked_data order p) stack main) long n (first_call (turns n)) more (nested (turns n)) (answers (turns n))) in
       let whole : (k : ℕ) → Reached machine stack 0 (seen room (first_call k)) = λ k.
       subst (λ s. Reached machine s 0 (seen room (first_call k))) (length-replicate stack 0)
-      (reach_any p order room (start_map places) (start_world u input) begin (start_back stack main) long k (first_call k) (nested k) (answers k)) in
+      (reach_any p order room (start_map places) (start_world u input) begin (start_back (linked_data order p) stack main) long k (first_call k) (nested k) (answers k)) in
       counted_agrees (program_of u) name first_point machine room stack meant
-      (agrees (step p order) (on begin) stack (λ k. seen room (first_call k)) turns reached whole)
+      (agrees (step_in p order) (on begin) stack (λ k. seen room (first_call k)) turns reached whole)

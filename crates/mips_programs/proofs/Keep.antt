@@ -11,7 +11,7 @@ use Rattle.slot_allocator.specs.Values.{slot_at, slot_off}
 use Rattle.vcode.specs.Execution.{State, with_value, with_slot}
 use Rattle.vcode.specs.VirtualCode.{among}
 use Rattle.vcode.specs.Maps.{Map, IsWord, Lies, IsAt}
-use Rattle.mips_machine.specs.Addresses.{stack_top, floor_of}
+use Rattle.asm_text.specs.Addresses.{stack_top, floor_of}
 use Rattle.mips_target.specs.Generated.{temporaries}
 use Rattle.mips_programs.specs.Working.{Working}
 use Rattle.mips_programs.specs.Frames.{Kept, Frame, IsSound, stack_of, frame_word, memory_of, Leaves}

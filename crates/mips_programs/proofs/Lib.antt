@@ -6,7 +6,7 @@ pub mod Keep
 pub mod Access
 pub mod Standing
 pub mod Enter
-pub mod PutChar
+pub mod BuiltIns
 pub mod Grow
 pub mod Calls
 pub mod Follow

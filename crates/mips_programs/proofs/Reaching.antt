@@ -3,34 +3,34 @@ use Rattle.std.proofs.Common.{◌≡◌, inl, inr, ⊎_elim, ℕ, suc, ◌+◌, 
 use Rattle.std.specs.Int.{cast_signed, w32}
 use Rattle.std.proofs.lemmas.Bool.{cases_lt}
 use Rattle.lcc_base.specs.declared.order.Order.{Order}
-use Rattle.asm_text.specs.declared.program.Program.{Program}
+use Rattle.asm_text.specs.Program.{MProgram}
 use Rattle.asm_text.specs.Runs.{Run, Ended, IsGoing, after, onward, run_from}
 use Rattle.op_forest.specs.Words.{Word, Number}
 use Rattle.op_forest.specs.Traces.{output_of}
 use Rattle.op_forest.specs.Worlds.{World, Point, Move, Effect, Went, Exits, Unfinished, Stuck}
 use Rattle.vcode.specs.Execution.{first_of}
 use Rattle.vcode.specs.Maps.{Map, IsWord}
-use Rattle.mips_machine.specs.Addresses.{end_at}
+use Rattle.asm_text.specs.Addresses.{end_at}
 use Rattle.mips_machine.specs.State.{Cpu}
-use Rattle.mips_machine.specs.StepTable.{register, step, ends}
-use Rattle.mips_programs.specs.Working.{Working, on, runs}
+use Rattle.mips_machine.specs.StepTable.{register, ends}
+use Rattle.mips_programs.specs.Working.{Working, on, step_in, runs}
 use Rattle.mips_programs.specs.Matches.{Answers, CameBack}
 use Rattle.mips_programs.specs.Reached.{status_in, seen, Reached, HasEnded, IsOut, IsAtWork}
 use Rattle.mips_programs.specs.Meant.{HasMeaning}
 
 -- at the address where a run ends, it ends
-step_ends : (p : Program) (order : Order) (cpu : Cpu) (left : List ℕ) → cpu.pc ≡ end_at → step p order cpu left ≡ ends cpu 2
+step_ends : (p : MProgram) (order : Order) (cpu : Cpu) (left : List ℕ) → cpu.pc ≡ end_at → step_in p order cpu left ≡ ends cpu 2
 step_ends p order cpu left e = rw e refl
 
 -- the run at the end, whose status is in register 2
 abbrev ended_run : Working → Run Cpu
 ended_run h = record { printed = h.printed; place = Ended (cast_signed w32 (register h.cpu 2)) }
 
-onward_ends : (p : Program) (order : Order) (h : Working) → h.cpu.pc ≡ end_at → onward (step p order) (on h).printed (on h).place ≡ ended_run h
+onward_ends : (p : MProgram) (order : Order) (h : Working) → h.cpu.pc ≡ end_at → onward (step_in p order) (on h).printed (on h).place ≡ ended_run h
 onward_ends p order h e = ap (after h.printed h.left) (step_ends p order h.cpu h.left e)
 
-run_ends : (p : Program) (order : Order) (h end : Working) (j : ℕ) → runs p order h j ≡ on end → end.cpu.pc ≡ end_at → runs p order h (suc j) ≡ ended_run end
-run_ends p order h end j gets at = ap (λ (x : Run Cpu). onward (step p order) x.printed x.place) gets ∙ onward_ends p order end at
+run_ends : (p : MProgram) (order : Order) (h end : Working) (j : ℕ) → runs p order h j ≡ on end → end.cpu.pc ≡ end_at → runs p order h (suc j) ≡ ended_run end
+run_ends p order h end j gets at = ap (λ (x : Run Cpu). onward (step_in p order) x.printed x.place) gets ∙ onward_ends p order end at
 
 number_is : (map : Map) (ws : List Word) (n r : ℕ) → ws ≡ Number n ∷ [] → IsWord map (first_of ws) r → r ≡ n
 number_is map ws n r e h = subst (λ vs. IsWord map (first_of vs) r) e h
@@ -47,9 +47,9 @@ bounded n j long a b = ⊎_elim (λ l. absurd (no_more l)) (λ l. l) (cases_lt j
         let e3 : n * long ≡ long + j * long + d * long = ap (λ x. x * long) g ∙ e in
         omega arith
 
-module _ (p : Program) (order : Order) (room : ℕ → ℕ) (map : Map) (u : World) (h : Working) (back : register h.cpu 31 ≡ end_at) where
+module _ (p : MProgram) (order : Order) (room : ℕ → ℕ) (map : Map) (u : World) (h : Working) (back : register h.cpu 31 ≡ end_at) where
   abbrev pub Gets : ℕ → Effect → Type 0
-  Gets n e = Reached (λ m. run_from (step p order) (on h) m) (length h.cpu.stack) n (seen room e)
+  Gets n e = Reached (λ m. run_from (step_in p order) (on h) m) (length h.cpu.stack) n (seen room e)
 
   came_back : (n : ℕ) (ws : List Word) (q : Point) (mv : Move) → HasMeaning (Went ws q mv) → CameBack p order map [] u h ws q.world → Gets n (Went ws q mv)
   came_back n ws q mv meant a =

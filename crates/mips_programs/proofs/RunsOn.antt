@@ -1,6 +1,8 @@
 -- Runs of a machine, over any states: one that goes on from where another got, and one that is over.
-use Rattle.std.proofs.Common.{◌≡◌, ⊎_elim, ℕ, zero, suc, ◌+◌, ◌-◌, ◌≤◌, List, refl, sym, ap, ◌∙◌, subst, arith}
+use Rattle.std.proofs.Common.{◌≡◌, ⊎_elim, ℕ, zero, suc, ◌+◌, ◌-◌, ◌≤◌, List, [], refl, sym, ap, ◌∙◌, subst, arith}
+use Rattle.std.specs.Prelude.{All}
 use Rattle.std.proofs.lemmas.Bool.{cases_lt}
+use Rattle.std.proofs.lemmas.List.Elements.{All-nil, All-drop}
 use Rattle.asm_text.specs.Runs.{MStep, Goes, Ends, IsStuck, IsOut, Run, Place, Going, Ended, Stuck, StackOut, after, onward, run_from}
 use Rattle.asm_text.specs.IsPrefix.{IsPrefix}
 use Rattle.asm_text.specs.RunLaws.{prefix_of}
@@ -13,7 +15,32 @@ after_grows printed left (Ends status) = prefix_same printed
 after_grows printed left (IsStuck cause pc) = prefix_same printed
 after_grows printed left (IsOut pc) = prefix_same printed
 
+-- the input that is left
+abbrev pub left_at : {S : Type 0} → Place S → List ℕ
+left_at (Going state left) = left
+left_at (Ended status) = []
+left_at (Stuck cause pc) = []
+left_at (StackOut pc) = []
+
+-- one step takes from what is left
+after_left : {S : Type 0} (P : ℕ → Type 0) (printed left : List ℕ) (s : MStep S) → All P left → All P (left_at (after printed left s).place)
+after_left P printed left (Goes state more taken) h = All-drop P taken left h
+after_left P printed left (Ends status) h = All-nil P
+after_left P printed left (IsStuck cause pc) h = All-nil P
+after_left P printed left (IsOut pc) h = All-nil P
+
 module _ {S : Type 0} (step : S → List ℕ → MStep S) where
+  onward_left : (P : ℕ → Type 0) (printed : List ℕ) (place : Place S) → All P (left_at place) → All P (left_at (onward step printed place).place)
+  onward_left P printed (Going state left) h = after_left P printed left (step state left) h
+  onward_left P printed (Ended status) h = h
+  onward_left P printed (Stuck cause pc) h = h
+  onward_left P printed (StackOut pc) h = h
+
+  -- what is so of each byte that is left stays so
+  pub run_left : (P : ℕ → Type 0) (n : ℕ) (r : Run S) → All P (left_at r.place) → All P (left_at (run_from step r n).place)
+  run_left P zero r h = h
+  run_left P (suc n) r h = let before = run_from step r n in onward_left P before.printed before.place (run_left P n r h)
+
   pub run_more : (run : Run S) (a b : ℕ) → run_from step run (a + b) ≡ run_from step (run_from step run a) b
   run_more run a zero = let e : a + 0 ≡ a = omega arith in ap (λ (n : ℕ). run_from step run n) e
   run_more run a (suc b) =

@@ -7,16 +7,16 @@ use Rattle.lcc_base.specs.declared.order.Order.{Order}
 use Rattle.op_forest.specs.Lowered.{LoweredUnit}
 use Rattle.op_forest.specs.Units.{start_world}
 use Rattle.vcode.specs.Maps.{Map}
-use Rattle.mips_machine.specs.Addresses.{code_start, end_at, floor_of}
+use Rattle.asm_text.specs.Addresses.{code_start, end_at, floor_of}
 use Rattle.mips_machine.specs.Run.{first_registers, first_cpu}
 use Rattle.mips_programs.specs.Working.{Working}
 use Rattle.mips_programs.specs.Matches.{IsBare, HasPlaces, Entry}
 use Rattle.mips_programs.proofs.Steps.{small_set}
 use Rattle.mips_programs.proofs.Keep.{bare_lies}
 
--- the machine at its start, where the label main stands at this place
-abbrev pub at_start : ℕ → ℕ → List ℕ → Working
-at_start stack main input = record { cpu = first_cpu stack main; printed = []; left = input }
+-- the machine at its start, with these bytes as data, where the label main stands at this place
+abbrev pub at_start : List ℕ → ℕ → ℕ → List ℕ → Working
+at_start statics stack main input = record { cpu = first_cpu statics stack main; printed = []; left = input }
 
 abbrev address_or_none : Option ℕ → ℕ
 address_or_none (Some address) = address
@@ -48,8 +48,8 @@ first_small =
     (small_set (2 ^ 32) (slice_set (replicate 32 0) 29 0x7ffe_ffe0) 31 end_at (omega arith)
     (small_set (2 ^ 32) (replicate 32 0) 29 0x7ffe_ffe0 (omega arith) (replicated (2 ^ 32) 32 (omega arith))))
 
-pub start_entry : (order : Order) (room : ℕ → ℕ) (map : Map) (u : LoweredUnit) (input : List ℕ) (stack name main : ℕ) → IsBare map → map.function name ≡ code_start + 4 * main → 4096 ≤ stack → stack ≤ 16777216 → Entry order room map [] name (start_world u input) (at_start stack main input)
-start_entry order room map u input stack name main bare at low high = record {
+pub start_entry : (order : Order) (room : ℕ → ℕ) (map : Map) (u : LoweredUnit) (statics input : List ℕ) (stack name main : ℕ) → IsBare map → map.function name ≡ code_start + 4 * main → 4096 ≤ stack → stack ≤ 16777216 → Entry order room map [] name (start_world u input) (at_start statics stack main input)
+start_entry order room map u statics input stack name main bare at low high = record {
   at = sym at;
   words = first_small;
   count = refl;
@@ -65,5 +65,5 @@ start_entry order room map u input stack name main bare at low high = record {
 }
 
 -- the call of main returns to where a run ends
-pub start_back : (stack main : ℕ) → slice_index (first_cpu stack main).registers 31 ≡ end_at
-start_back stack main = refl
+pub start_back : (statics : List ℕ) (stack main : ℕ) → slice_index (first_cpu statics stack main).registers 31 ≡ end_at
+start_back statics stack main = refl

@@ -1,8 +1,8 @@
 -- The frames of open calls on the machine's stack.
-use Rattle.std.specs.Prelude.{◌≡◌, ◌≤◌, ◌<◌, ◌⊎◌, ℕ, ◌+◌, ◌-◌, ◌*◌, ◌%◌, ◌^◌, ◌&&◌, nat_le, nat_lt, if◌then◌else◌, List, [], ◌∷◌, length, Option, None, slice_get, slice_index}
+use Rattle.std.specs.Prelude.{◌≡◌, ◌≤◌, ◌<◌, ◌⊎◌, ℕ, ◌+◌, ◌-◌, ◌*◌, ◌%◌, ◌^◌, ◌&&◌, nat_le, nat_lt, if◌then◌else◌, List, [], ◌∷◌, length, Option, None, slice_get, slice_index, take, drop}
 use Rattle.lcc_base.specs.declared.order.Order.{Order}
-use Rattle.mips_machine.specs.Addresses.{stack_top, floor_of}
-use Rattle.mips_machine.specs.Memory.{word_at}
+use Rattle.lcc_base.specs.NumberIn.{number_in}
+use Rattle.asm_text.specs.Addresses.{stack_top, floor_of}
 use Rattle.mips_target.specs.declared.layout.Layout.{Layout}
 use Rattle.mips_target.specs.Frame.{frame_size}
 
@@ -43,6 +43,10 @@ pub record IsSound (f : Frame) : Type 0 where
   pub four : f.low % 4 ≡ 0
   pub back : f.back < 2 ^ 32
   pub outer : (a : ℕ) → Kept f.outer a → (f.low + frame_size f.layout ≤ a) × (a + 4 ≤ stack_top) × (a % 4 ≡ 0)
+
+-- the word that stands at a place of bytes
+abbrev pub word_at : Order → List ℕ → ℕ → ℕ
+word_at order bytes place = number_in order (take 4 (drop place bytes))
 
 -- the word at an address of the stack
 abbrev pub stack_word : Order → List ℕ → ℕ → ℕ

@@ -3,7 +3,7 @@
 use Rattle.std.specs.Prelude.{◌≡◌, ◌≤◌, ◌<◌, ◌⊎◌, ℕ, suc, ◌+◌, ◌*◌, ◌%◌, ◌^◌, nat_lt, if◌then◌else◌, pos, List, [], ◌∷◌, length, Option, None, Some, slice_get, IsTrue}
 use Rattle.std.specs.Int.{cast_signed, w32}
 use Rattle.lcc_base.specs.declared.order.Order.{Order}
-use Rattle.asm_text.specs.declared.program.Program.{Program}
+use Rattle.asm_text.specs.Program.{MProgram}
 use Rattle.asm_text.specs.Runs.{Ended, StackOut}
 use Rattle.asm_text.specs.IsPrefix.{IsPrefix}
 use Rattle.op_forest.specs.Words.{Word}
@@ -13,12 +13,12 @@ use Rattle.op_forest.specs.Begun.{CallsGrow}
 use Rattle.vcode.specs.Execution.{State, first_of}
 use Rattle.vcode.specs.VirtualCode.{among}
 use Rattle.vcode.specs.Maps.{Map, IsWord, Grown, Lies}
-use Rattle.mips_machine.specs.Addresses.{stack_top, floor_of}
+use Rattle.asm_text.specs.Addresses.{stack_top, floor_of}
 use Rattle.mips_machine.specs.State.{Cpu}
 use Rattle.mips_machine.specs.StepTable.{register}
 use Rattle.mips_target.specs.Frame.{frame_size}
 use Rattle.mips_target.specs.Generated.{temporaries}
-use Rattle.mips_programs.specs.Working.{Working, on, runs, Gets}
+use Rattle.mips_programs.specs.Working.{AreBytes, Working, on, runs, Gets}
 use Rattle.mips_programs.specs.Frames.{Waiting, Kept, Frame, stack_of, stack_word, frame_word, memory_of, Leaves}
 
 -- no object lies in memory
@@ -63,7 +63,7 @@ pub record Returned (order : Order) (map : Map) (f : Frame) (v : Option Word) (w
   pub open_calls : open_behind [] w.trace ≡ f.open_calls
 
 -- the stack is too small, before this output is whole, and the open calls have room for more than it
-pub record Spent (p : Program) (order : Order) (room : ℕ → ℕ) (stack : ℕ) (h : Working) (w : World) : Type 0 where
+pub record Spent (p : MProgram) (order : Order) (room : ℕ → ℕ) (stack : ℕ) (h : Working) (w : World) : Type 0 where
   pub steps : ℕ
   pub pc : ℕ
   pub printed : List ℕ
@@ -72,7 +72,7 @@ pub record Spent (p : Program) (order : Order) (room : ℕ → ℕ) (stack : ℕ
   pub small : stack < depth_of room [] w.trace + 128
 
 -- the machine is back with a value
-pub record Back (p : Program) (order : Order) (map : Map) (f : Frame) (h : Working) (v : Option Word) (w : World) : Type 0 where
+pub record Back (p : MProgram) (order : Order) (map : Map) (f : Frame) (h : Working) (v : Option Word) (w : World) : Type 0 where
   pub later : Map
   pub place : Working
   pub gets : Gets p order h place
@@ -81,13 +81,13 @@ pub record Back (p : Program) (order : Order) (map : Map) (f : Frame) (h : Worki
   pub returned : Returned order later f v w place
 
 -- the machine has ended
-pub record Over (p : Program) (order : Order) (h : Working) (status : ℕ) (w : World) : Type 0 where
+pub record Over (p : MProgram) (order : Order) (h : Working) (status : ℕ) (w : World) : Type 0 where
   pub steps : ℕ
   pub ended : runs p order h steps ≡ record { printed = output_of w.trace; place = Ended (cast_signed w32 status) }
 
 -- the machine is at work, with so many steps behind it that they pay for `turns`, where a turn is less than `long` steps
 -- and some of them are still to come
-pub record Still (p : Program) (order : Order) (long turns less : ℕ) (h : Working) (w : World) : Type 0 where
+pub record Still (p : MProgram) (order : Order) (long turns less : ℕ) (h : Working) (w : World) : Type 0 where
   pub steps : ℕ
   pub place : Working
   pub many : turns ≤ steps * long + less
@@ -96,7 +96,7 @@ pub record Still (p : Program) (order : Order) (long turns less : ℕ) (h : Work
 
 -- From h the machine follows a run of code of at most n instructions, of which `len` are still to come here. `long` is
 -- more than the instructions of any function.
-abbrev pub Comes : Program → Order → (ℕ → ℕ) → Map → ℕ → Frame → ℕ → ℕ → Working → Outcome → Type 0
+abbrev pub Comes : MProgram → Order → (ℕ → ℕ) → Map → ℕ → Frame → ℕ → ℕ → Working → Outcome → Type 0
 Comes p order room map long f n len h (Finished v q) = Back p order map f h v q.world ⊎ Spent p order room (stack_of f) h q.world
 Comes p order room map long f n len h (Exited status w) = Over p order h status w ⊎ Spent p order room (stack_of f) h w
 Comes p order room map long f n len h (Going w) = Still p order long n len h w ⊎ Spent p order room (stack_of f) h w
@@ -122,7 +122,7 @@ pub record Entry (order : Order) (room : ℕ → ℕ) (map : Map) (outer : List 
   pub deep : stack_top ≤ register h.cpu 29 + room_of room (open_behind [] w.trace) + 32
 
 -- a call is over: the machine is where it returns to, with the stack pointer and what the waiting calls keep as they were
-pub record CameBack (p : Program) (order : Order) (map : Map) (outer : List Waiting) (u : World) (h : Working) (ws : List Word) (w : World) : Type 0 where
+pub record CameBack (p : MProgram) (order : Order) (map : Map) (outer : List Waiting) (u : World) (h : Working) (ws : List Word) (w : World) : Type 0 where
   pub later : Map
   pub place : Working
   pub gets : Gets p order h place
@@ -141,7 +141,7 @@ pub record CameBack (p : Program) (order : Order) (map : Map) (outer : List Wait
   pub taken : w.arguments ≡ []
 
 -- from the first instruction of a called function the machine follows what the call, which began in the world u, does
-abbrev pub Answers : Program → Order → (ℕ → ℕ) → Map → ℕ → ℕ → List Waiting → World → Working → Effect → Type 0
+abbrev pub Answers : MProgram → Order → (ℕ → ℕ) → Map → ℕ → ℕ → List Waiting → World → Working → Effect → Type 0
 Answers p order room map long far outer u h (Went ws q mv) = CameBack p order map outer u h ws q.world ⊎ Spent p order room (length h.cpu.stack) h q.world
 Answers p order room map long far outer u h (Exits status w) = Over p order h status w ⊎ Spent p order room (length h.cpu.stack) h w
 Answers p order room map long far outer u h (Unfinished w) = Still p order long far long h w ⊎ Spent p order room (length h.cpu.stack) h w
@@ -151,7 +151,8 @@ Answers p order room map long far outer u h Stuck = Unit {0}
 abbrev pub HasPlaces : Map → (ℕ → Option ℕ) → Type 0
 HasPlaces map places = (name address : ℕ) → places name ≡ Some address → map.function name ≡ address
 
--- the machine follows each call of these names under this meaning, where functions have these addresses
-pub record Calling (p : Program) (order : Order) (room : ℕ → ℕ) (places : ℕ → Option ℕ) (there : ℕ → Type 0) (long far : ℕ) (calls : ℕ → Point → Effect) : Type 0 where
-  pub answers : (map : Map) (outer : List Waiting) (name : ℕ) (q : Point) (h : Working) → there name → IsBare map → HasPlaces map places → Entry order room map outer name q.world h → Answers p order room map long far outer q.world h (calls name q)
+-- the machine follows each call of these names under this meaning, where functions have these addresses, and the input
+-- that is left are bytes where the program reads it
+pub record Calling (p : MProgram) (order : Order) (room : ℕ → ℕ) (places : ℕ → Option ℕ) (Reads : Type 0) (there : ℕ → Type 0) (long far : ℕ) (calls : ℕ → Point → Effect) : Type 0 where
+  pub answers : (map : Map) (outer : List Waiting) (name : ℕ) (q : Point) (h : Working) → there name → (Reads → AreBytes h.left) → IsBare map → HasPlaces map places → Entry order room map outer name q.world h → Answers p order room map long far outer q.world h (calls name q)
   pub grows : CallsGrow calls

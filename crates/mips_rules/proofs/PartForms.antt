@@ -1,7 +1,7 @@
 -- What the parts of an applied rule are, by its action.
 use Rattle.std.proofs.Common.{◌≡◌, ℕ, ◌<◌, ◌||◌, true, List, Some, length, refl, arith}
 use Rattle.std.specs.Prelude.{ℤ, slice_get}
-use Rattle.asm_text.specs.declared.instruction.BinaryOp.{BinaryOp}
+use Rattle.mips_rules.specs.declared.arithmetic.Arithmetic.{Arithmetic}
 use Rattle.lburg_model.specs.Pattern.{MPattern}
 use Rattle.op_forest.specs.Nodes.{Node}
 use Rattle.vcode.specs.Patterns.{Meeting}
@@ -18,11 +18,11 @@ passed (PassesRegister t r low) = omega arith
 pub loaded : {left : ℕ} {pattern : MPattern} {t : Node} {ps : List Part} {ms : List Meeting} → Applied action.LoadConstant left pattern t ps ms → (n : ℕ) × (slice_get ps 0 ≡ Some (Constant n))
 loaded (LoadsConstant t n e) = (n, refl)
 
-pub combined_first : {op : BinaryOp} {left : ℕ} {pattern : MPattern} {t : Node} {ps : List Part} {ms : List Meeting} → Applied (action.Combine op) left pattern t ps ms → (r : ℕ) × (slice_get ps 0 ≡ Some (Register r))
+pub combined_first : {op : Arithmetic} {left : ℕ} {pattern : MPattern} {t : Node} {ps : List Part} {ms : List Meeting} → Applied (action.Combine op) left pattern t ps ms → (r : ℕ) × (slice_get ps 0 ≡ Some (Register r))
 combined_first (CombinesRegisters op h a b q r low_q low_r e) = (q, refl)
 combined_first (CombinesConstant op h a b q n low e) = (q, refl)
 
-pub combined_second : {op : BinaryOp} {left : ℕ} {pattern : MPattern} {t : Node} {ps : List Part} {ms : List Meeting} → Applied (action.Combine op) left pattern t ps ms → (p : Part) × (slice_get ps 1 ≡ Some p) × ((is_register p || is_constant p) ≡ true)
+pub combined_second : {op : Arithmetic} {left : ℕ} {pattern : MPattern} {t : Node} {ps : List Part} {ms : List Meeting} → Applied (action.Combine op) left pattern t ps ms → (p : Part) × (slice_get ps 1 ≡ Some p) × ((is_register p || is_constant p) ≡ true)
 combined_second (CombinesRegisters op h a b q r low_q low_r e) = (Register r, refl, refl)
 combined_second (CombinesConstant op h a b q n low e) = (Constant n, refl, refl)
 

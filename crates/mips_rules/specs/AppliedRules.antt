@@ -3,8 +3,8 @@ use Rattle.std.specs.Prelude.{◌≡◌, ℕ, zero, suc, ℤ, ◌+◌, ◌≤◌
 use Rattle.std.specs.List.{AllByRecursion}
 use Rattle.std.proofs.Common.{arith, ap, sym, ◌∙◌, subst}
 use Rattle.std.proofs.lemmas.Bool.{both_ways, eqb-true}
-use Rattle.asm_text.specs.declared.instruction.BinaryOp.{BinaryOp}
-use Rattle.asm_text.specs.declared.instruction.BinaryOp.TheVariants.{Add, Subtract, Multiply}
+use Rattle.mips_rules.specs.declared.arithmetic.Arithmetic.{Arithmetic}
+use Rattle.mips_rules.specs.declared.arithmetic.Arithmetic.TheVariants.{Add, Subtract, Multiply}
 use Rattle.lburg_model.specs.Pattern.{MPattern, PHole, PLeaf, POne, PTwo}
 use Rattle.op_forest.specs.Nodes.{Head, Node, Leaf, One, Two, head_of, number_of}
 use Rattle.vcode.specs.Patterns.{Meeting, leaves_at}
@@ -17,7 +17,7 @@ use Rattle.mips_rules.specs.MipsRows.{stmt, con, rc, reg, addr, cnsti, addrgp, a
 use Rattle.mips_rules.specs.MipsRules.{registers, is_register, is_constant, is_name, hands, action_in, action_at, mips_rules}
 
 -- the number of the operator that an operation is for
-abbrev pub operator_for : BinaryOp → ℕ
+abbrev pub operator_for : Arithmetic → ℕ
 operator_for Add = addi
 operator_for Subtract = subi
 operator_for Multiply = muli
@@ -30,8 +30,8 @@ pub data Applied : Action → ℕ → MPattern → Node → List Part → List M
   PassesRegister : (t : Node) (r : ℕ) → 64 ≤ r → Applied action.Pass rc (PHole reg) t (Register r ∷ []) ((reg, t) ∷ [])
   LoadsConstant : (t : Node) (n : ℕ) → cnsti ≡ number_of (head_of t) → Applied action.LoadConstant reg (PHole con) t (Constant n ∷ []) ((con, t) ∷ [])
   TakesName : (h : Head) → addrgp ≡ number_of h → Applied action.TakeName addr (PLeaf addrgp) (Leaf h) [] []
-  CombinesRegisters : (op : BinaryOp) (h : Head) (a b : Node) (q r : ℕ) → 64 ≤ q → 64 ≤ r → operator_for op ≡ number_of h → Applied (action.Combine op) reg (PTwo (operator_for op) (PHole reg) (PHole rc)) (Two h a b) (Register q ∷ Register r ∷ []) ((reg, a) ∷ (rc, b) ∷ [])
-  CombinesConstant : (op : BinaryOp) (h : Head) (a b : Node) (q n : ℕ) → 64 ≤ q → operator_for op ≡ number_of h → Applied (action.Combine op) reg (PTwo (operator_for op) (PHole reg) (PHole rc)) (Two h a b) (Register q ∷ Constant n ∷ []) ((reg, a) ∷ (rc, b) ∷ [])
+  CombinesRegisters : (op : Arithmetic) (h : Head) (a b : Node) (q r : ℕ) → 64 ≤ q → 64 ≤ r → operator_for op ≡ number_of h → Applied (action.Combine op) reg (PTwo (operator_for op) (PHole reg) (PHole rc)) (Two h a b) (Register q ∷ Register r ∷ []) ((reg, a) ∷ (rc, b) ∷ [])
+  CombinesConstant : (op : Arithmetic) (h : Head) (a b : Node) (q n : ℕ) → 64 ≤ q → operator_for op ≡ number_of h → Applied (action.Combine op) reg (PTwo (operator_for op) (PHole reg) (PHole rc)) (Two h a b) (Register q ∷ Constant n ∷ []) ((reg, a) ∷ (rc, b) ∷ [])
   Negates : (h : Head) (a : Node) (r : ℕ) → 64 ≤ r → negi ≡ number_of h → Applied action.Negate reg (POne negi (PHole reg)) (One h a) (Register r ∷ []) ((reg, a) ∷ [])
   HandsOver : (h : Head) (a : Node) (r : ℕ) → 64 ≤ r → argi ≡ number_of h → Applied action.HandOver stmt (POne argi (PHole reg)) (One h a) (Register r ∷ []) ((reg, a) ∷ [])
   Calls : (h : Head) (a : Node) (name : ℕ) (offset : ℤ) → calli ≡ number_of h → Applied action.Call reg (POne calli (PHole addr)) (One h a) (Name name offset ∷ []) ((addr, a) ∷ [])
@@ -113,12 +113,12 @@ loads : (t : Node) (p : Part) → (is_constant p && (cnsti == number_of (head_of
 loads t (Constant n) h = LoadsConstant t n (eqb-true cnsti (number_of (head_of t)) h)
 loads t p h = no h
 
-combines_with : (limit : ℕ) (op : BinaryOp) (h : Head) (a b : Node) (q : ℕ) (p : Part) → 64 ≤ q → operator_for op ≡ number_of h → (is_register p || is_constant p) ≡ true → InRange limit (registers p ++ []) → Applied (action.Combine op) reg (PTwo (operator_for op) (PHole reg) (PHole rc)) (Two h a b) (Register q ∷ p ∷ []) ((reg, a) ∷ (rc, b) ∷ [])
+combines_with : (limit : ℕ) (op : Arithmetic) (h : Head) (a b : Node) (q : ℕ) (p : Part) → 64 ≤ q → operator_for op ≡ number_of h → (is_register p || is_constant p) ≡ true → InRange limit (registers p ++ []) → Applied (action.Combine op) reg (PTwo (operator_for op) (PHole reg) (PHole rc)) (Two h a b) (Register q ∷ p ∷ []) ((reg, a) ∷ (rc, b) ∷ [])
 combines_with limit op h a b q (Register r) low e k g = CombinesRegisters op h a b q r low g.0 e
 combines_with limit op h a b q (Constant n) low e k g = CombinesConstant op h a b q n low e
 combines_with limit op h a b q p low e k g = no k
 
-combines : (limit : ℕ) (op : BinaryOp) (h : Head) (a b : Node) (p q : Part) → operator_for op ≡ number_of h → is_register p ≡ true → (is_register q || is_constant q) ≡ true → InRange limit (registers p ++ (registers q ++ [])) → Applied (action.Combine op) reg (PTwo (operator_for op) (PHole reg) (PHole rc)) (Two h a b) (p ∷ q ∷ []) ((reg, a) ∷ (rc, b) ∷ [])
+combines : (limit : ℕ) (op : Arithmetic) (h : Head) (a b : Node) (p q : Part) → operator_for op ≡ number_of h → is_register p ≡ true → (is_register q || is_constant q) ≡ true → InRange limit (registers p ++ (registers q ++ [])) → Applied (action.Combine op) reg (PTwo (operator_for op) (PHole reg) (PHole rc)) (Two h a b) (p ∷ q ∷ []) ((reg, a) ∷ (rc, b) ∷ [])
 combines limit op h a b (Register r) q e k l g = combines_with limit op h a b r q g.0 e l g.2
 combines limit op h a b p q e k l g = no k
 

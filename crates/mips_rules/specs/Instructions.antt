@@ -3,8 +3,8 @@
 -- Source: G. Kane and J. Heinrich, MIPS RISC Architecture, 1992; the calling convention is that of Fraser and Hanson,
 -- A Retargetable C Compiler, chapter 16.
 use Rattle.std.specs.Prelude.{ℕ, zero, suc, pos, List, [], ◌∷◌, Bool, true, false, Some}
-use Rattle.asm_text.specs.declared.instruction.BinaryOp.{BinaryOp}
-use Rattle.asm_text.specs.declared.instruction.BinaryOp.TheVariants as binary
+use Rattle.mips_rules.specs.declared.arithmetic.Arithmetic.{Arithmetic}
+use Rattle.mips_rules.specs.declared.arithmetic.Arithmetic.TheVariants as binary
 use Rattle.op_forest.specs.Words.{Word, Number}
 use Rattle.op_forest.specs.Worlds.{Point, End, Effect, Went, Stuck}
 use Rattle.op_forest.specs.Rows.{Setting, gives, value_at, negated, sum, difference, product, of_one, of_two, argument, called}
@@ -71,7 +71,7 @@ loses (instr.Copy to from) = nothing_lost
 loses (instr.LoadSlot to slot) = nothing_lost
 loses (instr.StoreSlot from slot) = nothing_lost
 
-abbrev pub combined : BinaryOp → ℕ → ℕ → ℕ
+abbrev pub combined : Arithmetic → ℕ → ℕ → ℕ
 combined binary.Add = sum
 combined binary.Subtract = difference
 combined binary.Multiply = product

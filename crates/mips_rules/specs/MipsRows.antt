@@ -1,7 +1,7 @@
 -- The rules of the shipped description of MIPS, a line a rule, and what each adds to the code and hands up.
 -- Source: Fraser and Hanson, A Retargetable C Compiler, chapters 14 and 16.
 use Rattle.std.specs.Prelude.{ℕ, Option, None, List, [], ◌∷◌, map, codes}
-use Rattle.asm_text.specs.declared.instruction.BinaryOp.TheVariants.{Add, Subtract, Multiply}
+use Rattle.mips_rules.specs.declared.arithmetic.Arithmetic.TheVariants.{Add, Subtract, Multiply}
 use Rattle.lburg_model.specs.declared.range.Range.{Range}
 use Rattle.lburg_model.specs.Pattern.{MPattern, PHole, PLeaf, POne, PTwo}
 use Rattle.vcode.specs.RuleSets.{Row}

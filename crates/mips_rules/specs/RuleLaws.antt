@@ -6,8 +6,8 @@ use Rattle.std.proofs.lemmas.Bool.{both_ways, eqb-true, eq-eqb, or_cases, or_lef
 use Rattle.lburg_model.specs.Pattern.{MPattern}
 use Rattle.op_forest.specs.declared.sym.Sym.{Sym}
 use Rattle.op_forest.specs.declared.sym.Sym.TheVariants as symbol
-use Rattle.asm_text.specs.declared.instruction.BinaryOp.{BinaryOp}
-use Rattle.asm_text.specs.declared.instruction.BinaryOp.TheVariants as binary
+use Rattle.mips_rules.specs.declared.arithmetic.Arithmetic.{Arithmetic}
+use Rattle.mips_rules.specs.declared.arithmetic.Arithmetic.TheVariants as binary
 use Rattle.op_forest.specs.declared.op.Op.{Op}
 use Rattle.op_forest.specs.declared.op.Op.TheVariants as op
 use Rattle.op_forest.specs.declared.suffix.Suffix.{Suffix}
@@ -97,7 +97,7 @@ gives_as h o x b e g = ap (λ q. gives_value q h.operator.suffix) e.0 ∙ ap (λ
 constant_gives : (h : Head) → cnsti ≡ number_of h → gives h ≡ true
 constant_gives h e = gives_as h op.Cnst I true (is_cnsti h e) refl
 
-combined_gives : (o : BinaryOp) (h : Head) → operator_for o ≡ number_of h → gives h ≡ true
+combined_gives : (o : Arithmetic) (h : Head) → operator_for o ≡ number_of h → gives h ≡ true
 combined_gives binary.Add h e = gives_as h op.Add I true (is_addi h e) refl
 combined_gives binary.Subtract h e = gives_as h op.Sub I true (is_subi h e) refl
 combined_gives binary.Multiply h e = gives_as h op.Mul I true (is_muli h e) refl
@@ -249,7 +249,7 @@ no_mark_by to (Returns h a r low e) = ((λ x. x), tt)
 not_label : (h : Head) (o : Op) (x : Suffix) → (h.operator.op ≡ o) × (h.operator.suffix ≡ x) → is_label o ≡ false → h.operator.op ≡ op.Label → ⊥
 not_label h o x e other at = both_ways (is_label o) other (ap is_label (sym e.0 ∙ at))
 
-combined_no_label : (o : BinaryOp) (h : Head) → operator_for o ≡ number_of h → h.operator.op ≡ op.Label → ⊥
+combined_no_label : (o : Arithmetic) (h : Head) → operator_for o ≡ number_of h → h.operator.op ≡ op.Label → ⊥
 combined_no_label binary.Add h e at = not_label h op.Add I (is_addi h e) refl at
 combined_no_label binary.Subtract h e at = not_label h op.Sub I (is_subi h e) refl at
 combined_no_label binary.Multiply h e at = not_label h op.Mul I (is_muli h e) refl at

@@ -2,8 +2,8 @@
 use Rattle.std.specs.Prelude.{◌≡◌, ℕ, zero, suc, ℤ, pos, negsuc, ◌==◌, false, Option, Some, None, List, [], ◌∷◌, ◌++◌, refl}
 use Rattle.std.proofs.Common.{ap, sym, ◌∙◌, subst}
 use Rattle.std.proofs.lemmas.Bool.{ne_eqb, or_from}
-use Rattle.asm_text.specs.declared.instruction.BinaryOp.{BinaryOp}
-use Rattle.asm_text.specs.declared.instruction.BinaryOp.TheVariants.{Add, Subtract, Multiply}
+use Rattle.mips_rules.specs.declared.arithmetic.Arithmetic.{Arithmetic}
+use Rattle.mips_rules.specs.declared.arithmetic.Arithmetic.TheVariants.{Add, Subtract, Multiply}
 use Rattle.lburg_model.specs.Pattern.{MPattern, PHole, PLeaf, POne, PTwo}
 use Rattle.op_forest.specs.declared.op.Op.TheVariants as op
 use Rattle.op_forest.specs.declared.suffix.Suffix.TheVariants.{I, P}
@@ -65,7 +65,7 @@ one_called s (Function f) p = one_answer (s.call f p)
 one_called s x p = tt
 
 -- what an addition, a subtraction and a multiplication do
-combines_row : (s : Setting) (o : BinaryOp) (h : Head) (x y : Word) (p : Point) → operator_for o ≡ number_of h → does s h (x ∷ y ∷ []) p ≡ of_two (combined o) x y p
+combines_row : (s : Setting) (o : Arithmetic) (h : Head) (x y : Word) (p : Point) → operator_for o ≡ number_of h → does s h (x ∷ y ∷ []) p ≡ of_two (combined o) x y p
 combines_row s Add h x y p e = does_as s h op.Add I (x ∷ y ∷ []) p (is_addi h e)
 combines_row s Subtract h x y p e = does_as s h op.Sub I (x ∷ y ∷ []) p (is_subi h e)
 combines_row s Multiply h x y p e = does_as s h op.Mul I (x ∷ y ∷ []) p (is_muli h e)
@@ -124,7 +124,7 @@ module _ (s : Setting) (whole rest : List Instr) (st : State) where
   abbrev GetsAs : List Instr → ((ℕ → Word) → List Word → Type 0) → ℕ → Effect → Type 0
   GetsAs code holds to e = Gets mips s whole code rest st e holds (λ q. q ≡ to → ⊥)
 
-  combine_gets : (o : BinaryOp) (h : Head) (q to : ℕ) (xs ys : List Word) (y : Word) (operand : Source) → operator_for o ≡ number_of h → xs ≡ st.registers q ∷ [] → ys ≡ y ∷ [] → operates (combined o) operand (reads (mips.operands (instr.Binary o to q operand)) st.registers) st.point ≡ of_two (combined o) (st.registers q) y st.point → results (source_operands operand) ≡ [] → GetsAs (instr.Binary o to q operand ∷ []) (λ f ws. ws ≡ f to ∷ []) to (does s h (xs ++ ys) st.point)
+  combine_gets : (o : Arithmetic) (h : Head) (q to : ℕ) (xs ys : List Word) (y : Word) (operand : Source) → operator_for o ≡ number_of h → xs ≡ st.registers q ∷ [] → ys ≡ y ∷ [] → operates (combined o) operand (reads (mips.operands (instr.Binary o to q operand)) st.registers) st.point ≡ of_two (combined o) (st.registers q) y st.point → results (source_operands operand) ≡ [] → GetsAs (instr.Binary o to q operand ∷ []) (λ f ws. ws ≡ f to ∷ []) to (does s h (xs ++ ys) st.point)
   combine_gets o h q to xs ys y operand e ex ey act none =
       subst (GetsAs (instr.Binary o to q operand ∷ []) (λ f ws. ws ≡ f to ∷ []) to) (sym same) (value_gets (instr.Binary o to q operand) to _ (of_two (combined o) (st.registers q) y st.point) refl refl none act (one_of_two (combined o) (st.registers q) y st.point))
     where

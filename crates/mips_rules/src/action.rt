@@ -1,4 +1,4 @@
-use asm_text::BinaryOp;
+use crate::arithmetic::Arithmetic;
 
 /// What a rule adds to the code and hands up.
 #[derive(Clone, Copy, Debug, PartialEq, Eq)]
@@ -14,7 +14,7 @@ pub enum Action {
     /// `li` of its one part, a constant; it hands up the node's register, and so do the next three.
     LoadConstant,
     /// An operation on its two parts, a register, and a register or a constant.
-    Combine(BinaryOp),
+    Combine(Arithmetic),
     /// The negative of its one part, a register.
     Negate,
     /// A call of its one part, a name.

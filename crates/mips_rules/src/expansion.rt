@@ -7,10 +7,10 @@ ghost use Rattle.mips_rules.specs.AppliedRules.{Applied};
 ghost use Rattle.mips_rules.specs.MipsRules.{action_at, part_at, register_of, number_in, source_of, name_in, constant_of, name_of, is_register, is_constant, code_by, part_by};
 
 use crate::action::Action;
+use crate::arithmetic::Arithmetic;
 use crate::instr::{Instr, Source};
 use crate::part::Part;
 use crate::rule_line::{RULES, RuleLine};
-use asm_text::BinaryOp;
 use lcc_base::Items;
 use op_forest::{Sym, Tree};
 use vcode::Reg;
@@ -98,7 +98,7 @@ fn name_at(parts: &Items<Part>, n: usize) -> u32
 }
 
 /// The operation on the two parts, a register, and a register or a constant.
-fn operation(op: BinaryOp, parts: &Items<Part>, to: Reg) -> Instr
+fn operation(op: Arithmetic, parts: &Items<Part>, to: Reg) -> Instr
     requires first { (r : ℕ) × (slice_get parts.now 0 ≡ Some (Part.Register r)) }
     requires second { (p : Parts) × (slice_get parts.now 1 ≡ Some p) × ((is_register p || is_constant p) ≡ true) }
     ensures { result ≡ Instr.Binary op to (register_of (part_at parts.now 0)) (source_of (part_at parts.now 1)) }

@@ -1,4 +1,4 @@
-use asm_text::BinaryOp;
+use crate::arithmetic::Arithmetic;
 use vcode::Reg;
 
 /// An instruction of MIPS over registers without number. A number is taken modulo 2^32.
@@ -12,7 +12,7 @@ pub enum Instr {
     /// `addu $to,$from,operand` and the like: the register gets what the operation makes of the
     /// other two.
     Binary {
-        op: BinaryOp,
+        op: Arithmetic,
         to: Reg,
         from: Reg,
         operand: Source,

@@ -2,6 +2,7 @@
 #![tactic(auto)]
 
 mod action;
+mod arithmetic;
 mod expansion;
 mod instr;
 mod mips;
@@ -11,6 +12,7 @@ mod part;
 mod rule_line;
 mod terminal_line;
 
+pub use arithmetic::Arithmetic;
 pub use instr::{Instr, Source};
 pub use mips::Mips;
 pub use mips_description::description;

@@ -1,5 +1,5 @@
 use crate::action::Action;
-use asm_text::BinaryOp;
+use crate::arithmetic::Arithmetic;
 
 /// The pattern of a rule, which has at most one operator. A nonterminal is given by its place among
 /// the nonterminals, from 0, and an operator by its number.
@@ -112,21 +112,21 @@ pub const RULES: [RuleLine; 13] = [
         form: Form::Binary(ADDI, REG, RC),
         template: b"addu $%c,$%0,%1\\n",
         cost: 1,
-        action: Action::Combine(BinaryOp::Add),
+        action: Action::Combine(Arithmetic::Add),
     },
     RuleLine {
         left: REG,
         form: Form::Binary(SUBI, REG, RC),
         template: b"subu $%c,$%0,%1\\n",
         cost: 1,
-        action: Action::Combine(BinaryOp::Subtract),
+        action: Action::Combine(Arithmetic::Subtract),
     },
     RuleLine {
         left: REG,
         form: Form::Binary(MULI, REG, RC),
         template: b"mul $%c,$%0,%1\\n",
         cost: 1,
-        action: Action::Combine(BinaryOp::Multiply),
+        action: Action::Combine(Arithmetic::Multiply),
     },
     RuleLine {
         left: REG,

@@ -3,8 +3,8 @@ ghost use Rattle.op_forest.specs.Nodes.{Leaf, One, Two};
 ghost use Rattle.vcode.specs.RuleSets.{Row, Applies};
 ghost use Rattle.mips_rules.specs.MipsRules.{mips_rules};
 
+use crate::arithmetic::Arithmetic;
 use crate::*;
-use asm_text::BinaryOp;
 use lburg_model::Description;
 use lcc_base::{Items, Memory};
 use op_forest::{Op, Operator, Suffix, Sym, Tree};
@@ -203,14 +203,14 @@ const INSTRUCTIONS: [(Instr, [Option<Operand>; 3], Instr); 10] = [
     ),
     (
         Instr::Binary {
-            op: BinaryOp::Subtract,
+            op: Arithmetic::Subtract,
             to: 64,
             from: 65,
             operand: Source::Register(66),
         },
         [TO, FROM, LAST],
         Instr::Binary {
-            op: BinaryOp::Subtract,
+            op: Arithmetic::Subtract,
             to: 71,
             from: 72,
             operand: Source::Register(73),
@@ -218,14 +218,14 @@ const INSTRUCTIONS: [(Instr, [Option<Operand>; 3], Instr); 10] = [
     ),
     (
         Instr::Binary {
-            op: BinaryOp::Add,
+            op: Arithmetic::Add,
             to: 64,
             from: 65,
             operand: Source::Number(66),
         },
         [TO, FROM, None],
         Instr::Binary {
-            op: BinaryOp::Add,
+            op: Arithmetic::Add,
             to: 71,
             from: 72,
             operand: Source::Number(66),
@@ -426,7 +426,7 @@ fn sums(rt: HostRuntime) -> Result<(), Fail> {
     let parts = [Part::Register(65), Part::Constant(5)];
     let (code, part) = expand(alloc, 7, &sum, &parts)?;
     let wanted = [Instr::Binary {
-        op: BinaryOp::Add,
+        op: Arithmetic::Add,
         to: 64,
         from: 65,
         operand: Source::Number(5),
@@ -443,7 +443,7 @@ fn differences(rt: HostRuntime) -> Result<(), Fail> {
     let parts = [Part::Register(65), Part::Register(66)];
     let (code, part) = expand(alloc, 8, &difference, &parts)?;
     let wanted = [Instr::Binary {
-        op: BinaryOp::Subtract,
+        op: Arithmetic::Subtract,
         to: 64,
         from: 65,
         operand: Source::Register(66),
@@ -460,7 +460,7 @@ fn products(rt: HostRuntime) -> Result<(), Fail> {
     let parts = [Part::Register(66), Part::Register(65)];
     let (code, part) = expand(alloc, 9, &product, &parts)?;
     let wanted = [Instr::Binary {
-        op: BinaryOp::Multiply,
+        op: Arithmetic::Multiply,
         to: 64,
         from: 66,
         operand: Source::Register(65),

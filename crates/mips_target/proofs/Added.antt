@@ -17,7 +17,7 @@ use Rattle.vcode.specs.Patterns.{Meeting, leaves_at, is_chain}
 use Rattle.vcode.specs.RuleSets.{Row, Applies}
 use Rattle.vcode.specs.Emission.{Emitted, EmittedAll, with_chain, with_rule, and_one, Emits, EmitsAll, ByChain, ByRule, Nothing, OneMore}
 use Rattle.vcode.specs.Leaves.{met_by, met, met_by_append, met_append, IsSum, fewer_met_by, fewer_met}
-use Rattle.asm_text.specs.declared.instruction.BinaryOp.{BinaryOp}
+use Rattle.mips_rules.specs.declared.arithmetic.Arithmetic.{Arithmetic}
 use Rattle.mips_rules.specs.declared.action.Action.{Action}
 use Rattle.mips_rules.specs.declared.instr.Instr.{Instr}
 use Rattle.mips_rules.specs.declared.instr.Instr.TheVariants as instr
@@ -32,8 +32,8 @@ use Rattle.mips_rules.specs.AppliedRules.{Applied, applied, Discards, TakesConst
 -- an instruction as a rule adds it: its registers are virtual, a number is a word, and what it calls is named
 pub data IsAdded (named : ℕ → Type 0) : Instr → Type 0 where
   AddsNumber : (to n : ℕ) → 64 ≤ to → n < 2 ^ 32 → IsAdded named (instr.LoadNumber to n)
-  AddsRegisters : (op : BinaryOp) (to from r : ℕ) → 64 ≤ to → 64 ≤ from → 64 ≤ r → IsAdded named (instr.Binary op to from (source.Register r))
-  AddsWithNumber : (op : BinaryOp) (to from n : ℕ) → 64 ≤ to → 64 ≤ from → IsAdded named (instr.Binary op to from (source.Number n))
+  AddsRegisters : (op : Arithmetic) (to from r : ℕ) → 64 ≤ to → 64 ≤ from → 64 ≤ r → IsAdded named (instr.Binary op to from (source.Register r))
+  AddsWithNumber : (op : Arithmetic) (to from n : ℕ) → 64 ≤ to → 64 ≤ from → IsAdded named (instr.Binary op to from (source.Number n))
   AddsNegate : (to from : ℕ) → 64 ≤ to → 64 ≤ from → IsAdded named (instr.Negate to from)
   AddsArgument : (from : ℕ) → 64 ≤ from → IsAdded named (instr.Argument from)
   AddsCall : (to name : ℕ) → 64 ≤ to → named name → IsAdded named (instr.Call to name)

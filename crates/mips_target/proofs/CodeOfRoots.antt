@@ -1,6 +1,6 @@
 -- The instructions of a function's roots, from their allocated code.
 use Rattle.std.proofs.Common.{◌≡◌, ℕ, ◌+◌, ◌*◌, ◌≤◌, List, length, sum_by, All, sym, ap, ◌∙◌, subst, arith}
-use Rattle.asm_text.specs.declared.instruction.Instruction.{Instruction}
+use Rattle.asm_text.specs.Program.{MInstruction}
 use Rattle.op_forest.specs.declared.forest.Forest.{Forest}
 use Rattle.op_forest.specs.Nodes.{Node, nodes, head_of}
 use Rattle.op_forest.specs.EachNode.{AtEachNode}
@@ -50,7 +50,7 @@ module _ (f : Forest) (roots : List Node) (c : MAllocated Instr) (a : IsAllocate
       subst (Fits u.names (layout_for c) 0) (sym a.code) (subst (λ l. Fits u.names l 0 (allotted_code a.virtual)) same_layout (code_fits roots a.selected.derivations a.virtual a.selected.linearised u f w k))
 
   -- the items are those of a function of the roots
-  pub is_code : (u : LoweredUnit) (labels : ℕ → List ℕ) → AreGood f roots → All IsUnitName u.names → All (AtEachNode (λ t. IsKnown u roots (head_of t).sym)) roots → (items : List (CodeItem Instruction)) → items ≡ function_code u.names (layout_for c) c.code → IsCodeOf u labels roots items
+  pub is_code : (u : LoweredUnit) (labels : ℕ → List ℕ) → AreGood f roots → All IsUnitName u.names → All (AtEachNode (λ t. IsKnown u roots (head_of t).sym)) roots → (items : List (CodeItem MInstruction)) → items ≡ function_code u.names (layout_for c) c.code → IsCodeOf u labels roots items
   is_code u labels w n k items made =
       let v = a.virtual in
       let s = a.selected in

@@ -7,7 +7,7 @@ use Rattle.std.proofs.lemmas.List.Elements.{recursion_from_All}
 use Rattle.lburg_model.specs.Derivation.{MDerivation}
 use Rattle.lburg_model.specs.Description.{MDescription}
 use Rattle.reducer.specs.AreBest.{AreBest}
-use Rattle.asm_text.specs.declared.instruction.Instruction.{Instruction}
+use Rattle.asm_text.specs.Program.{MInstruction}
 use Rattle.op_forest.specs.declared.forest.Forest.{Forest}
 use Rattle.op_forest.specs.declared.op.Op.TheVariants as op
 use Rattle.op_forest.specs.declared.suffix.Suffix.TheVariants as suffix
@@ -37,7 +37,7 @@ use Rattle.mips_target.proofs.Writing.{IsConstant, IsPlainName, HasText, roots_w
 use Rattle.mips_target.proofs.Emission.{each_both, each_root, kinds_of, is_global, code_named, code_fits, allotted_put}
 
 -- texts that say instructions say them as items
-items_said : (labels : ℕ → List ℕ) (texts : List (List ℕ)) (is : List Instruction) → AllZip SaysInstruction texts is → AllZip (Says labels) texts (unmarked is)
+items_said : (labels : ℕ → List ℕ) (texts : List (List ℕ)) (is : List MInstruction) → AllZip SaysInstruction texts is → AllZip (Says labels) texts (unmarked is)
 items_said labels [] [] h = tt
 items_said labels [] (i ∷ is) h = absurd h
 items_said labels (x ∷ texts) [] h = absurd h

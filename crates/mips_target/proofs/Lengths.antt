@@ -1,8 +1,8 @@
 -- How many instructions a function has, and how many bytes its frame.
 use Rattle.std.proofs.Common.{◌≡◌, ℕ, zero, suc, ◌+◌, ◌*◌, ◌≤◌, min, get_or, List, [], ◌∷◌, length, length-append, arith}
-use Rattle.asm_text.specs.declared.instruction.Instruction.TheVariants.{Move, Load, Call}
-use Rattle.asm_text.specs.declared.instruction.LoadOp.TheVariants as load
-use Rattle.asm_text.specs.declared.instruction.Target.TheVariants as target
+use Rattle.asm_lines.specs.declared.instruction.Instruction.TheVariants.{Move, Load, Call}
+use Rattle.asm_lines.specs.declared.operator.LoadOp.TheVariants as load
+use Rattle.asm_lines.specs.declared.instruction.Target.TheVariants as target
 use Rattle.mips_rules.specs.declared.instr.Instr.{Instr}
 use Rattle.mips_rules.specs.declared.instr.Instr.TheVariants as instr
 use Rattle.mips_target.specs.declared.layout.Layout.{Layout}

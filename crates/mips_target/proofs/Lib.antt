@@ -2,6 +2,7 @@ pub mod Unmarked
 pub mod Arguments
 pub mod Bodies
 pub mod Numbering
+pub mod CodeAlone
 pub mod Collecting
 pub mod Added
 pub mod AddedRoots

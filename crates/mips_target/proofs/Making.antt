@@ -1,20 +1,27 @@
 -- Generated lines make a program: each function's name is a label of its own, and each name that is called is one of
--- them or putchar.
-use Rattle.std.proofs.Common.{◌≡◌, ℕ, zero, suc, ◌+◌, ◌<◌, List, [], ◌∷◌, ◌++◌, length, map, get_or, codes, Some, refl, sym, ap, ◌∙◌, subst, inl, inr, arith}
-use Rattle.std.specs.Prelude.{All, slice_get, option_map}
+-- them or a built-in function's.
+use Rattle.std.proofs.Common.{◌≡◌, ℕ, zero, suc, ◌+◌, ◌<◌, Bool, true, false, List, [], ◌∷◌, ◌++◌, length, map, get_or, codes, Option, Some, None, refl, sym, ap, ◌∙◌, subst, inl, inr, arith}
+use Rattle.std.specs.Prelude.{All, slice_get, option_map, if◌then◌else◌}
 use Rattle.std.specs.List.{AllZip}
+use Rattle.std.specs.Str.{bytes_eq}
 use Rattle.std.proofs.lemmas.List.Elements.{All-get_or}
 use Rattle.std.proofs.lemmas.Option.{slice_get-map, slice_get-get_or, slice_get_read, slice_get_within, get_or_from_slice_get, none-some, same_Some}
+use Rattle.std.proofs.lemmas.Slice.Eq.{bytes_eq-Decides}
 use Rattle.lburg_model.specs.Description.{AreDistinct}
-use Rattle.asm_text.specs.declared.instruction.Instruction.{Instruction}
-use Rattle.asm_text.specs.declared.line.Line.{Line}
-use Rattle.asm_text.specs.declared.line.Statement.TheVariants as statement
-use Rattle.asm_text.specs.declared.line.Directive.TheVariants as directive
-use Rattle.asm_text.specs.declared.program.Program.{Program}
-use Rattle.asm_text.specs.declared.program.Label.{Label}
-use Rattle.asm_text.specs.Program.{code_of, code_in, numbers_in, label_at, labels_from, names_of, names_in, AreDistinct as HaveDistinctNames, IsKnown, Makes}
+use Rattle.asm_lines.specs.Statements.{Text}
+use Rattle.asm_text.specs.declared.place.Place.{Place}
+use Rattle.asm_text.specs.declared.place.Place.TheVariants.{Code}
+use Rattle.asm_text.specs.Addresses.{putchar_at, getchar_at, exit_at, built_in_at, address_at, address_by, IsKnown}
+use Rattle.asm_text.specs.CodeLines.{MakesCode, code_in, numbers_in, labels_from, names_in, code_made}
+use Rattle.asm_text.specs.Lines.{MLine}
+use Rattle.asm_text.specs.Made.{code_of, label_at}
+use Rattle.asm_text.specs.Makes.{Makes}
+use Rattle.asm_text.specs.Names.{names_of}
+use Rattle.asm_text.specs.Program.{MInstruction, MLabel, MProgram, place_of, AreDistinct as HaveDistinctNames}
 use Rattle.op_forest.specs.declared.lowered.LoweredFunction.{LoweredFunction}
+use Rattle.op_forest.specs.Functions.{BuiltIn, Putchar, Getchar, Exit}
 use Rattle.op_forest.specs.Nodes.{head_of}
+use Rattle.op_forest.specs.Units.{named_by}
 use Rattle.op_forest.specs.EachNode.{AtEachNode}
 use Rattle.op_forest.specs.Lowered.{LoweredUnit, IsFunctionOf, IsLowered}
 use Rattle.mips_rules.specs.declared.instr.Instr.{Instr}
@@ -24,19 +31,20 @@ use Rattle.mips_target.specs.UnitLines.{Item, Coded, plain, numbered, code_lines
 use Rattle.mips_target.specs.Generated.{IsFunction, IsGenerated}
 use Rattle.mips_target.specs.CalledNames.{CallIs, CallsAre}
 use Rattle.mips_target.specs.Callable.{IsCallable, HasCallable, AreCallable}
+use Rattle.mips_target.proofs.CodeAlone.{unit_code}
 use Rattle.mips_target.proofs.Speaking.{EachName, CodeItemsSpeak, ItemsSpeak, FunctionSpeaks, code_speaks, items_speak, functions_speak}
 use Rattle.mips_target.proofs.Unmarked.{function_instructions, function_unmarked}
 
 -- ---- the labels are the functions' names
 
-abbrev label_name : Label → List ℕ
+abbrev label_name : MLabel → List ℕ
 label_name l = l.name
 
 abbrev item_labels : List Item → List (List ℕ)
 item_labels [] = []
 item_labels (x ∷ xs) = x.labels ++ item_labels xs
 
-names_append : (place : ℕ) (names : List (List ℕ)) (more : List Label) → map label_name (map (label_at place) names ++ more) ≡ names ++ map label_name more
+names_append : (place : Place) (names : List (List ℕ)) (more : List MLabel) → map label_name (map (label_at place) names ++ more) ≡ names ++ map label_name more
 names_append place [] more = refl
 names_append place (n ∷ names) more = ap (λ l. n ∷ l) (names_append place names more)
 
@@ -44,9 +52,9 @@ numbered_labels : (place n : ℕ) (xs : List Item) → map label_name (labels_fr
 numbered_labels place n [] = refl
 numbered_labels place n (x ∷ xs) =
     let next = place + length (code_of x.statement) in
-    names_append place x.labels (labels_from next (numbered (n + 1) xs)) ∙ ap (λ l. x.labels ++ l) (numbered_labels next (n + 1) xs)
+    names_append (Code place) x.labels (labels_from next (numbered (n + 1) xs)) ∙ ap (λ l. x.labels ++ l) (numbered_labels next (n + 1) xs)
 
-unmarked_labels : (labels : ℕ → List ℕ) (is : List Instruction) (more : List Item) → item_labels (code_lines labels (unmarked is) ++ more) ≡ item_labels more
+unmarked_labels : (labels : ℕ → List ℕ) (is : List MInstruction) (more : List Item) → item_labels (code_lines labels (unmarked is) ++ more) ≡ item_labels more
 unmarked_labels labels [] more = refl
 unmarked_labels labels (i ∷ is) more = unmarked_labels labels is more
 
@@ -101,10 +109,10 @@ distinct_functions u lowered = λ i j n e f.
     let more = map (λ o. o.name) u.objects in
     lowered.owners i j a.0.name (own_name_at u.functions more i a.0 a.1) (own_name_at u.functions more j b.0 b.1 ∙ ap Some (sym same))
 
-label_name_at : (labels : List Label) (i : ℕ) (l : Label) → slice_get labels i ≡ Some l → slice_get (map label_name labels) i ≡ Some l.name
+label_name_at : (labels : List MLabel) (i : ℕ) (l : MLabel) → slice_get labels i ≡ Some l → slice_get (map label_name labels) i ≡ Some l.name
 label_name_at labels i l e = slice_get-map label_name labels i ∙ ap (λ o. option_map label_name o) e
 
-distinct_labels : (labels : List Label) (names : List (List ℕ)) → map label_name labels ≡ names → AreDistinct names → HaveDistinctNames labels
+distinct_labels : (labels : List MLabel) (names : List (List ℕ)) → map label_name labels ≡ names → AreDistinct names → HaveDistinctNames labels
 distinct_labels labels names are h = λ i j a b e f g.
     let at : slice_get names i ≡ Some b.name = ap (λ l. slice_get l i) (sym are) ∙ label_name_at labels i a e ∙ ap Some g in
     let there : slice_get names j ≡ Some b.name = ap (λ l. slice_get l j) (sym are) ∙ label_name_at labels j b f in
@@ -112,23 +120,53 @@ distinct_labels labels names are h = λ i j a b e f g.
 
 -- ---- each name is known
 
-label_of : (labels : List Label) (i : ℕ) (n : List ℕ) → slice_get (map label_name labels) i ≡ Some n → (l : Label) × (slice_get labels i ≡ Some l) × (l.name ≡ n)
+label_of : (labels : List MLabel) (i : ℕ) (n : List ℕ) → slice_get (map label_name labels) i ≡ Some n → (l : MLabel) × (slice_get labels i ≡ Some l) × (l.name ≡ n)
 label_of [] i n e = absurd (none-some n e)
 label_of (l ∷ labels) zero n e = (l, refl, same_Some l.name n e)
 label_of (l ∷ labels) (suc i) n e = label_of labels i n e
 
-function_known : (labels : List Label) (names : List (List ℕ)) (fs : List LoweredFunction) (i : ℕ) (f : LoweredFunction) → map label_name labels ≡ map (name_in names) fs → slice_get fs i ≡ Some f → IsKnown labels (name_in names f)
+-- a name that has a label has an address, whatever stands before it
+label_known : (b : Bool) (name : List ℕ) (place : Place) (rest : Option Place) → ((a : ℕ) × (address_by name rest ≡ Some a)) → (a : ℕ) × (address_by name (if b then Some place else rest) ≡ Some a)
+label_known true name place rest h = (address_at place, refl)
+label_known false name place rest h = h
+
+labelled : (labels : List MLabel) (name : List ℕ) (i : ℕ) (l : MLabel) → slice_get labels i ≡ Some l → l.name ≡ name → IsKnown labels name
+labelled [] name i l is named = absurd (none-some l is)
+labelled (x ∷ labels) name zero l is named =
+    let yes : bytes_eq x.name name ≡ true = (bytes_eq-Decides x.name name).1 (ap (λ (k : MLabel). k.name) (same_Some x l is) ∙ named) in
+    subst (λ (b : Bool). (a : ℕ) × (address_by name (if b then Some x.place else place_of labels name) ≡ Some a)) (sym yes) (address_at x.place, refl)
+labelled (x ∷ labels) name (suc i) l is named = label_known (bytes_eq x.name name) name x.place (place_of labels name) (labelled labels name i l is named)
+
+-- so has the name of a built-in function
+built_in_known : (name : List ℕ) (o : Option Place) (a : ℕ) → built_in_at name ≡ Some a → (b : ℕ) × (address_by name o ≡ Some b)
+built_in_known name None a e = (a, e)
+built_in_known name (Some place) a e = (address_at place, refl)
+
+built_in_by : (p g x : Bool) (b : BuiltIn) → (if p then Some Putchar else (if g then Some Getchar else (if x then Some Exit else None))) ≡ Some b → (a : ℕ) × ((if p then Some putchar_at else (if g then Some getchar_at else (if x then Some exit_at else None))) ≡ Some a)
+built_in_by true g x b e = (putchar_at, refl)
+built_in_by false true x b e = (getchar_at, refl)
+built_in_by false false true b e = (exit_at, refl)
+built_in_by false false false b e = absurd (none-some b e)
+
+-- the text of a name that is a built-in function's
+built_in_text : (o : Option (List ℕ)) (b : BuiltIn) → named_by o ≡ Some b → (text : List ℕ) × (o ≡ Some text) × (a : ℕ) × (built_in_at text ≡ Some a)
+built_in_text None b e = absurd (none-some b e)
+built_in_text (Some text) b e = let a = built_in_by (bytes_eq text (codes "putchar")) (bytes_eq text (codes "getchar")) (bytes_eq text (codes "exit")) b e in (text, refl, a.0, a.1)
+
+function_known : (labels : List MLabel) (names : List (List ℕ)) (fs : List LoweredFunction) (i : ℕ) (f : LoweredFunction) → map label_name labels ≡ map (name_in names) fs → slice_get fs i ≡ Some f → IsKnown labels (name_in names f)
 function_known labels names fs i f are e =
     let at : slice_get (map label_name labels) i ≡ Some (name_in names f) = ap (λ l. slice_get l i) are ∙ slice_get-map (name_in names) fs i ∙ ap (λ o. option_map (name_in names) o) e in
     let l = label_of labels i (name_in names f) at in
-    inl (i, l.0, l.1, l.2)
+    labelled labels (name_in names f) i l.0 l.1 l.2
 
-callable_known : (u : LoweredUnit) (labels : List Label) (name : ℕ) → map label_name labels ≡ map (name_in u.names) u.functions → IsCallable u name → IsKnown labels (get_or u.names name [])
+callable_known : (u : LoweredUnit) (labels : List MLabel) (name : ℕ) → map label_name labels ≡ map (name_in u.names) u.functions → IsCallable u name → IsKnown labels (get_or u.names name [])
 callable_known u labels name are h = elim h [
   | inl a ↦
       let at : slice_get u.functions a.0 ≡ Some a.1 = slice_get_read u.functions (length u.functions) a.0 a.1 refl a.2 (sym a.3) in
       subst (λ n. IsKnown labels (get_or u.names n [])) a.4 (function_known labels u.names u.functions a.0 a.1 are at)
-  | inr b ↦ inr (get_or_from_slice_get u.names name (codes "putchar") [] b)
+  | inr b ↦
+      let text = built_in_text (slice_get u.names name) b.0 b.1 in
+      subst (IsKnown labels) (sym (get_or_from_slice_get u.names name text.0 [] text.1)) (built_in_known text.0 (place_of labels text.0) text.2 text.3)
 ]
 
 call_weaker : (Q R : ℕ → Type 0) (i : Instr) → ((n : ℕ) → Q n → R n) → CallIs Q i → CallIs R i
@@ -161,7 +199,7 @@ all_fit u callable = λ k d below. (inl (k, get_or u.functions k d, below, same_
 abbrev AnyName : List ℕ → Type 0
 AnyName n = Unit {0}
 
-function_knows : (u : LoweredUnit) (labels : List Label) → map label_name labels ≡ map (name_in u.names) u.functions → (f : LoweredFunction) (c : Coded) → IsFunction u f c → IsFit u f → FunctionSpeaks AnyName (IsKnown labels) c
+function_knows : (u : LoweredUnit) (labels : List MLabel) → map label_name labels ≡ map (name_in u.names) u.functions → (f : LoweredFunction) (c : Coded) → IsFunction u f c → IsFit u f → FunctionSpeaks AnyName (IsKnown labels) c
 function_knows u labels are f c is fit =
     let P : List ℕ → Type 0 = λ n. IsKnown labels n in
     let i = is.code in
@@ -185,13 +223,13 @@ each_at P (n ∷ names) (suc i) name h e = each_at P names i name h.1 e
 
 -- ---- the program
 
-abbrev pub program_of : List Line → Program
-program_of lines = record { code = code_in lines; numbers = numbers_in lines; labels = labels_from 0 lines }
+abbrev pub program_of : List MLine → MProgram
+program_of lines = record { code = code_in lines; numbers = numbers_in lines; datums = []; labels = labels_from 0 lines }
 
-unit_makes : (u : LoweredUnit) (cs : List Coded) → IsLowered u → AreCallable u → AllZip (IsFunction u) u.functions cs → Makes (unit_lines cs) (program_of (unit_lines cs))
+unit_makes : (u : LoweredUnit) (cs : List Coded) → IsLowered u → AreCallable u → AllZip (IsFunction u) u.functions cs → MakesCode (unit_lines cs) (program_of (unit_lines cs))
 unit_makes u cs lowered callable each =
     let lines = unit_lines cs in
-    let items = plain (statement.Directive directive.Text) ∷ items_of cs in
+    let items = plain Text ∷ items_of cs in
     let labels = labels_from 0 lines in
     let P : List ℕ → Type 0 = λ n. IsKnown labels n in
     let are : map label_name labels ≡ map (name_in u.names) u.functions = numbered_labels 0 1 items ∙ function_labels u u.functions cs each ∙ own_names_are u u.functions cs each in
@@ -200,12 +238,14 @@ unit_makes u cs lowered callable each =
     record {
       code = refl;
       numbers = refl;
+      datums = refl;
       labels = refl;
       distinct = distinct_labels labels (map (name_in u.names) u.functions) are (distinct_functions u lowered);
       known = λ i name e. each_at P (names_in lines) i name known e;
     }
 
-pub makes : (u : LoweredUnit) (lines : List Line) → IsLowered u → AreCallable u → IsGenerated u lines → (p : Program) × Makes lines p
+pub makes : (u : LoweredUnit) (lines : List MLine) → IsLowered u → AreCallable u → IsGenerated u lines → (p : MProgram) × Makes lines p
 makes u lines lowered callable g =
-    let made = unit_makes u g.functions lowered callable g.each in
+    let unit = unit_lines g.functions in
+    let made : Makes unit (program_of unit) = code_made unit (program_of unit) (unit_code g.functions) (unit_makes u g.functions lowered callable g.each) in
     (program_of lines, subst (λ l. Makes l (program_of l)) (sym g.lines_are) made)

@@ -1,6 +1,6 @@
 -- Lines that are added behind others go on with the numbers.
 use Rattle.std.proofs.Common.{◌≡◌, ℕ, ◌+◌, List, [], ◌∷◌, ◌++◌, length, refl, sym, ap, ◌∙◌, arith, append_assoc, length-append, append-nil}
-use Rattle.asm_text.specs.declared.line.Line.{Line}
+use Rattle.asm_text.specs.Lines.{MLine}
 use Rattle.mips_target.specs.UnitLines.{Item, numbered}
 
 numbered_append : (n m : ℕ) (xs ys : List Item) → m ≡ n + length xs → numbered n (xs ++ ys) ≡ numbered n xs ++ numbered m ys
@@ -14,7 +14,7 @@ numbered_length n [] = refl
 numbered_length n (x ∷ xs) = let e = numbered_length (n + 1) xs in omega (arith, e)
 
 -- some, and then others
-pub added : (lines new : List Line) (xs ys : List Item) → new ≡ lines ++ numbered (length lines + 1) xs → new ++ numbered (length new + 1) ys ≡ lines ++ numbered (length lines + 1) (xs ++ ys)
+pub added : (lines new : List MLine) (xs ys : List Item) → new ≡ lines ++ numbered (length lines + 1) xs → new ++ numbered (length new + 1) ys ≡ lines ++ numbered (length lines + 1) (xs ++ ys)
 added lines new xs ys e =
     let a = length-append lines (numbered (length lines + 1) xs) in
     let b = numbered_length (length lines + 1) xs in
@@ -23,9 +23,9 @@ added lines new xs ys e =
     ap (λ l. l ++ numbered (length new + 1) ys) e ∙ append_assoc lines (numbered (length lines + 1) xs) (numbered (length new + 1) ys) ∙ ap (λ l. lines ++ l) (sym (numbered_append (length lines + 1) (length new + 1) xs ys d))
 
 -- one, and then others
-pub added_one : (lines new : List Line) (x : Item) (ys : List Item) (all : List Line) → new ≡ lines ++ numbered (length lines + 1) (x ∷ []) → lines ++ numbered (length lines + 1) (x ∷ ys) ≡ all → new ++ numbered (length new + 1) ys ≡ all
+pub added_one : (lines new : List MLine) (x : Item) (ys : List Item) (all : List MLine) → new ≡ lines ++ numbered (length lines + 1) (x ∷ []) → lines ++ numbered (length lines + 1) (x ∷ ys) ≡ all → new ++ numbered (length new + 1) ys ≡ all
 added_one lines new x ys all e f = added lines new (x ∷ []) ys e ∙ f
 
 -- with nothing behind them
-pub added_none : (lines all : List Line) (ys : List Item) → ys ≡ [] → lines ++ numbered (length lines + 1) ys ≡ all → lines ≡ all
+pub added_none : (lines all : List MLine) (ys : List Item) → ys ≡ [] → lines ++ numbered (length lines + 1) ys ≡ all → lines ≡ all
 added_none lines all ys e f = sym (append-nil lines) ∙ ap (λ y. lines ++ numbered (length lines + 1) y) (sym e) ∙ f

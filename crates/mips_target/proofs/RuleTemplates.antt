@@ -2,28 +2,28 @@
 use Rattle.std.proofs.Common.{◌≡◌, ℕ, suc, ◌+◌, List, [], ◌∷◌, ◌++◌, true, codes, refl, sym, ap, ◌∙◌, arith}
 use Rattle.std.specs.Prelude.{if◌then◌else◌, ◌==◌}
 use Rattle.std.specs.List.{AllByRecursion}
-use Rattle.asm_text.specs.declared.instruction.BinaryOp.{BinaryOp}
-use Rattle.asm_text.specs.declared.instruction.BinaryOp.TheVariants as binary
-use Rattle.asm_text.specs.Words.{binary_word}
 use Rattle.lburg_model.specs.Pattern.{MPattern, PHole}
 use Rattle.op_forest.specs.Nodes.{Node}
 use Rattle.vcode.specs.RuleSets.{Row, Applies}
 use Rattle.vcode.specs.Templates.{expanded, is_instruction}
 use Rattle.mips_rules.specs.declared.action.Action.{Action}
 use Rattle.mips_rules.specs.declared.action.Action.TheVariants as action
+use Rattle.mips_rules.specs.declared.arithmetic.Arithmetic.{Arithmetic}
+use Rattle.mips_rules.specs.declared.arithmetic.Arithmetic.TheVariants as arithmetic
 use Rattle.mips_rules.specs.declared.part.Part.{Part}
 use Rattle.mips_rules.specs.MipsRows.{Line, lines, reg}
 use Rattle.mips_rules.specs.MipsRules.{mips_rules, action_in, action_at}
 use Rattle.mips_rules.specs.AppliedRules.{at_row}
+use Rattle.mips_target.proofs.SaidLines.{binary_text}
 
 abbrev pub pass_template : MPattern → List ℕ
 pass_template (PHole k) = if k == reg then codes "$%0" else codes "%0"
 pass_template p = []
 
-abbrev pub binary_template : BinaryOp → List ℕ
-binary_template binary.Add = codes "addu $%c,$%0,%1\\n"
-binary_template binary.Subtract = codes "subu $%c,$%0,%1\\n"
-binary_template binary.Multiply = codes "mul $%c,$%0,%1\\n"
+abbrev pub binary_template : Arithmetic → List ℕ
+binary_template arithmetic.Add = codes "addu $%c,$%0,%1\\n"
+binary_template arithmetic.Subtract = codes "subu $%c,$%0,%1\\n"
+binary_template arithmetic.Multiply = codes "mul $%c,$%0,%1\\n"
 
 abbrev pub template_by : Action → MPattern → List ℕ
 template_by action.Discard p = codes ""
@@ -52,13 +52,13 @@ template_is number row t ps to a =
     let at : action_at number ≡ l.action = ap action_at f ∙ ap action_in found.1 in
     sym (ap (λ (x : Row). x.template) found.2) ∙ found.3 ∙ ap (λ d. template_by d l.row.pattern) (sym at) ∙ ap (λ (x : Row). template_by (action_at number) x.pattern) found.2
 
-pub binary_ends : (op : BinaryOp) → is_instruction (binary_template op) ≡ true
-binary_ends binary.Add = refl
-binary_ends binary.Subtract = refl
-binary_ends binary.Multiply = refl
+pub binary_ends : (op : Arithmetic) → is_instruction (binary_template op) ≡ true
+binary_ends arithmetic.Add = refl
+binary_ends arithmetic.Subtract = refl
+binary_ends arithmetic.Multiply = refl
 
 -- an operation's line, with these texts of its parts
-pub binary_expanded : (op : BinaryOp) (register symbol frame x y : List ℕ) → expanded (record { register = register; symbol = symbol; frame = frame; parts = x ∷ y ∷ [] }) (binary_template op) ≡ binary_word op ++ (codes " $" ++ (register ++ (codes ",$" ++ (x ++ (44 ∷ (y ++ 10 ∷ []))))))
-binary_expanded binary.Add register symbol frame x y = refl
-binary_expanded binary.Subtract register symbol frame x y = refl
-binary_expanded binary.Multiply register symbol frame x y = refl
+pub binary_expanded : (op : Arithmetic) (register symbol frame x y : List ℕ) → expanded (record { register = register; symbol = symbol; frame = frame; parts = x ∷ y ∷ [] }) (binary_template op) ≡ binary_text op ++ (codes " $" ++ (register ++ (codes ",$" ++ (x ++ (44 ∷ (y ++ 10 ∷ []))))))
+binary_expanded arithmetic.Add register symbol frame x y = refl
+binary_expanded arithmetic.Subtract register symbol frame x y = refl
+binary_expanded arithmetic.Multiply register symbol frame x y = refl

@@ -3,8 +3,8 @@ use Rattle.std.proofs.Common.{ℕ, zero, suc, List, [], ◌∷◌, ◌++◌, min
 use Rattle.std.specs.Prelude.{All}
 use Rattle.std.specs.List.{AllZip}
 use Rattle.std.proofs.lemmas.List.Elements.{All-head, All-tail}
-use Rattle.asm_text.specs.declared.instruction.Instruction.{Instruction}
-use Rattle.asm_text.specs.Program.{names_of, names_of_instruction}
+use Rattle.asm_text.specs.Names.{names_of, names_of_instruction}
+use Rattle.asm_text.specs.Program.{MInstruction}
 use Rattle.op_forest.specs.declared.lowered.LoweredFunction.{LoweredFunction}
 use Rattle.op_forest.specs.Lowered.{LoweredUnit}
 use Rattle.mips_rules.specs.declared.instr.Instr.{Instr}
@@ -23,7 +23,7 @@ EachName P [] = Unit {0}
 EachName P (n ∷ ns) = P n × EachName P ns
 
 -- P holds of each name that the instructions speak of
-abbrev pub CodeSpeaks : (List ℕ → Type 0) → List Instruction → Type 0
+abbrev pub CodeSpeaks : (List ℕ → Type 0) → List MInstruction → Type 0
 CodeSpeaks P [] = Unit {0}
 CodeSpeaks P (i ∷ is) = EachName P (names_of_instruction i) × CodeSpeaks P is
 
@@ -32,7 +32,7 @@ abbrev pub ItemsSpeak : (L P : List ℕ → Type 0) → List Item → Type 0
 ItemsSpeak L P [] = Unit {0}
 ItemsSpeak L P (x ∷ xs) = EachName L x.labels × EachName P (names_of x.statement) × ItemsSpeak L P xs
 
-code_append : (P : List ℕ → Type 0) (xs ys : List Instruction) → CodeSpeaks P xs → CodeSpeaks P ys → CodeSpeaks P (xs ++ ys)
+code_append : (P : List ℕ → Type 0) (xs ys : List MInstruction) → CodeSpeaks P xs → CodeSpeaks P ys → CodeSpeaks P (xs ++ ys)
 code_append P [] ys a b = b
 code_append P (x ∷ xs) ys a b = (a.0, code_append P xs ys a.1 b)
 
@@ -63,12 +63,12 @@ pub function_speaks : (P : List ℕ → Type 0) (names : List (List ℕ)) (l : L
 function_speaks P names l code h = (tt, (tt, body_speaks P names l zero code h))
 
 -- the same of code with labels, and L holds of each label's text
-abbrev pub CodeItemsSpeak : (L P : List ℕ → Type 0) → (ℕ → List ℕ) → List (CodeItem Instruction) → Type 0
+abbrev pub CodeItemsSpeak : (L P : List ℕ → Type 0) → (ℕ → List ℕ) → List (CodeItem MInstruction) → Type 0
 CodeItemsSpeak L P labels [] = Unit {0}
 CodeItemsSpeak L P labels (Line i ∷ xs) = EachName P (names_of_instruction i) × CodeItemsSpeak L P labels xs
 CodeItemsSpeak L P labels (Mark l ∷ xs) = L (labels l) × CodeItemsSpeak L P labels xs
 
-unmarked_speak : (L P : List ℕ → Type 0) (labels : ℕ → List ℕ) (is : List Instruction) → CodeSpeaks P is → CodeItemsSpeak L P labels (unmarked is)
+unmarked_speak : (L P : List ℕ → Type 0) (labels : ℕ → List ℕ) (is : List MInstruction) → CodeSpeaks P is → CodeItemsSpeak L P labels (unmarked is)
 unmarked_speak L P labels [] h = tt
 unmarked_speak L P labels (i ∷ is) h = (h.0, unmarked_speak L P labels is h.1)
 
@@ -85,7 +85,7 @@ abbrev pub FunctionsSpeak : (L P : List ℕ → Type 0) → List Coded → Type 
 FunctionsSpeak L P [] = Unit {0}
 FunctionsSpeak L P (f ∷ fs) = FunctionSpeaks L P f × FunctionsSpeak L P fs
 
-code_lines_speak : (L P : List ℕ → Type 0) (labels : ℕ → List ℕ) (code : List (CodeItem Instruction)) (more : List Item) → CodeItemsSpeak L P labels code → ItemsSpeak L P more → ItemsSpeak L P (code_lines labels code ++ more)
+code_lines_speak : (L P : List ℕ → Type 0) (labels : ℕ → List ℕ) (code : List (CodeItem MInstruction)) (more : List Item) → CodeItemsSpeak L P labels code → ItemsSpeak L P more → ItemsSpeak L P (code_lines labels code ++ more)
 code_lines_speak L P labels [] more h k = k
 code_lines_speak L P labels (Line i ∷ xs) more h k = (tt, h.0, code_lines_speak L P labels xs more h.1 k)
 code_lines_speak L P labels (Mark l ∷ xs) more h k = ((h.0, tt), tt, code_lines_speak L P labels xs more h.1 k)

@@ -2,7 +2,7 @@
 use Rattle.std.proofs.Common.{ℕ, List, [], ◌∷◌, All, arith}
 use Rattle.std.specs.List.{AllZip}
 use Rattle.std.proofs.lemmas.List.Elements.{All-head, All-tail}
-use Rattle.asm_text.specs.declared.program.Program.{Program}
+use Rattle.asm_text.specs.Program.{MProgram}
 use Rattle.op_forest.specs.declared.lowered.LoweredFunction.{LoweredFunction}
 use Rattle.op_forest.specs.Lowered.{LoweredUnit}
 use Rattle.mips_target.specs.Frame.{frame_size}
@@ -13,7 +13,7 @@ use Rattle.mips_target.specs.UnitProgram.{IsUnitProgram}
 use Rattle.mips_target.specs.UnitAssembly.{HasBounds, IsFunctionAssembly, IsUnitAssembly}
 use Rattle.mips_target.proofs.Bounded.{bounded}
 
-module _ (room most : LoweredFunction → ℕ) (u : LoweredUnit) (p : Program) where
+module _ (room most : LoweredFunction → ℕ) (u : LoweredUnit) (p : MProgram) where
   abbrev IsEntered : LoweredFunction → Coded → Type 0
   IsEntered f c = IsFunction u f c × HasEntry p c
 

@@ -5,13 +5,11 @@ use Rattle.std.specs.Int.{w32}
 use Rattle.std.specs.List.{AllZip, AllByRecursion}
 use Rattle.std.proofs.lemmas.List.Elements.{All-get_or}
 use Rattle.std.proofs.lemmas.Option.{same_Some}
-use Rattle.asm_text.specs.declared.instruction.Instruction.{Instruction}
-use Rattle.asm_text.specs.declared.instruction.Instruction.TheVariants as machine
-use Rattle.asm_text.specs.declared.instruction.BinaryOp.{BinaryOp}
-use Rattle.asm_text.specs.declared.instruction.UnaryOp.TheVariants as unary
-use Rattle.asm_text.specs.declared.instruction.Operand.TheVariants as operand
-use Rattle.asm_text.specs.declared.instruction.Target.TheVariants as target
-use Rattle.asm_text.specs.Words.{binary_word}
+use Rattle.asm_lines.specs.declared.instruction.Instruction.TheVariants as machine
+use Rattle.asm_lines.specs.declared.operator.UnaryOp.TheVariants as unary
+use Rattle.asm_lines.specs.declared.instruction.Value.TheVariants as operand
+use Rattle.asm_lines.specs.declared.instruction.Target.TheVariants as target
+use Rattle.asm_text.specs.Program.{MInstruction}
 use Rattle.lcc_text.specs.Lines.{lines_of}
 use Rattle.lburg_model.specs.declared.rule.Rule.{Rule}
 use Rattle.lburg_model.specs.Pattern.{MPattern, PHole, PLeaf, POne, PTwo}
@@ -29,6 +27,7 @@ use Rattle.vcode.specs.Templates.{fillings, expanded, is_instruction, signed_dec
 use Rattle.vcode.specs.VirtualCode.{joined}
 use Rattle.vcode.specs.Emission.{Emitted, EmittedAll, Emits, EmitsAll, EmitsRoots, ByChain, ByRule, Nothing, OneMore, NoRoot, OneRoot}
 use Rattle.mips_rules.specs.declared.action.Action.{Action}
+use Rattle.mips_rules.specs.declared.arithmetic.Arithmetic.{Arithmetic}
 use Rattle.mips_rules.specs.declared.instr.Instr.{Instr}
 use Rattle.mips_rules.specs.declared.instr.Instr.TheVariants as instr
 use Rattle.mips_rules.specs.declared.instr.Source.TheVariants as source
@@ -38,10 +37,11 @@ use Rattle.mips_rules.specs.MipsRows.{rows, stmt, con, rc, reg, addr, cnsti, add
 use Rattle.mips_rules.specs.MipsRules.{action_at, code_by, part_by, name_of, constant_of, mips_rules}
 use Rattle.mips_rules.specs.AppliedRules.{Applied, applied, Discards, TakesConstant, PassesConstant, PassesRegister, LoadsConstant, TakesName, CombinesRegisters, CombinesConstant, Negates, HandsOver, Calls, Returns}
 use Rattle.vcode.specs.Leaves.{turned}
+use Rattle.mips_target.specs.FunctionCode.{binary_of}
 use Rattle.mips_target.proofs.Added.{EachMet, each_front, each_last, at_root, at_met, applied_at}
 use Rattle.mips_target.proofs.AddedRoots.{joined_more, roots_front, roots_last}
 use Rattle.mips_target.proofs.PlainCode.{plain, plain_all}
-use Rattle.mips_target.proofs.SaidLines.{SaysInstruction, SaysAlone, unit_name, number_said, registers_said, with_number_said, negate_said, call_said}
+use Rattle.mips_target.proofs.SaidLines.{SaysInstruction, SaysAlone, binary_text, unit_name, number_said, registers_said, with_number_said, negate_said, call_said}
 use Rattle.mips_target.proofs.Deriving.{derived, each_derived, RootsDerive, roots_parted}
 use Rattle.mips_target.proofs.RuleTemplates.{template_by, binary_template, template_is, binary_ends, binary_expanded}
 
@@ -160,7 +160,7 @@ module _ (names : List (List ℕ)) where
       }
 
       -- the rule's template is a line
-      as_line : (template : List ℕ) (k : ℕ) (p : Part) (o : ℕ) (texts : List (List ℕ)) (i : Instr) (j : Instruction) → row.template ≡ template → WritesAll rows names labels frame xs ms texts lines → is_instruction template ≡ true → o < 64 → IsText k p o (decimal o) → plain names i ≡ j ∷ [] → SaysAlone (expanded (fillings names labels frame t (decimal 8) texts) template) j → Written k t (Apply number (parts_of xs)) p (code ++ i ∷ []) o
+      as_line : (template : List ℕ) (k : ℕ) (p : Part) (o : ℕ) (texts : List (List ℕ)) (i : Instr) (j : MInstruction) → row.template ≡ template → WritesAll rows names labels frame xs ms texts lines → is_instruction template ≡ true → o < 64 → IsText k p o (decimal o) → plain names i ≡ j ∷ [] → SaysAlone (expanded (fillings names labels frame t (decimal 8) texts) template) j → Written k t (Apply number (parts_of xs)) p (code ++ i ∷ []) o
       as_line template k p o texts i j e w end lt is one s = record {
         text = decimal o;
         lines = lines ++ lines_of (expanded (fillings names labels frame t (decimal 8) texts) row.template);
@@ -194,18 +194,18 @@ module _ (names : List (List ℕ)) where
         subst (λ y. SaysAlone (codes "li $" ++ (decimal 8 ++ (44 ∷ (y ++ 10 ∷ [])))) (machine.LoadNumber 8 n)) (sym h.3)
         (subst (λ m. SaysAlone (codes "li $" ++ (decimal 8 ++ (44 ∷ (signed_decimal h.0 ++ 10 ∷ [])))) (machine.LoadNumber 8 m)) (sym h.2) (number_said h.0 h.1))
 
-    abbrev operation_line : BinaryOp → List ℕ → List ℕ → List ℕ
-    operation_line op x y = binary_word op ++ (codes " $" ++ (decimal 8 ++ (codes ",$" ++ (x ++ (44 ∷ (y ++ 10 ∷ []))))))
+    abbrev operation_line : Arithmetic → List ℕ → List ℕ → List ℕ
+    operation_line op x y = binary_text op ++ (codes " $" ++ (decimal 8 ++ (codes ",$" ++ (x ++ (44 ∷ (y ++ 10 ∷ []))))))
 
-    combine_said : (op : BinaryOp) (x y : List ℕ) → x ≡ decimal 9 → y ≡ 36 ∷ decimal 10 → SaysAlone (operation_line op x y) (machine.Binary op 8 9 (operand.Register 10))
+    combine_said : (op : Arithmetic) (x y : List ℕ) → x ≡ decimal 9 → y ≡ 36 ∷ decimal 10 → SaysAlone (operation_line op x y) (machine.Binary (binary_of op) 8 9 (operand.Register 10))
     combine_said op x y e f =
-        subst (λ a. SaysAlone (operation_line op a y) (machine.Binary op 8 9 (operand.Register 10))) (sym e) (subst (λ b. SaysAlone (operation_line op (decimal 9) b) (machine.Binary op 8 9 (operand.Register 10))) (sym f) (registers_said op))
+        subst (λ a. SaysAlone (operation_line op a y) (machine.Binary (binary_of op) 8 9 (operand.Register 10))) (sym e) (subst (λ b. SaysAlone (operation_line op (decimal 9) b) (machine.Binary (binary_of op) 8 9 (operand.Register 10))) (sym f) (registers_said op))
 
-    combine_number_said : (op : BinaryOp) (n : ℕ) (x y : List ℕ) → x ≡ decimal 9 → (z : ℤ) × FitsSigned w32 z × (n ≡ bits_of z) × (y ≡ signed_decimal z) → SaysAlone (operation_line op x y) (machine.Binary op 8 9 (operand.Number n))
+    combine_number_said : (op : Arithmetic) (n : ℕ) (x y : List ℕ) → x ≡ decimal 9 → (z : ℤ) × FitsSigned w32 z × (n ≡ bits_of z) × (y ≡ signed_decimal z) → SaysAlone (operation_line op x y) (machine.Binary (binary_of op) 8 9 (operand.Number n))
     combine_number_said op n x y e h =
-        subst (λ a. SaysAlone (operation_line op a y) (machine.Binary op 8 9 (operand.Number n))) (sym e)
-        (subst (λ b. SaysAlone (operation_line op (decimal 9) b) (machine.Binary op 8 9 (operand.Number n))) (sym h.3)
-        (subst (λ m. SaysAlone (operation_line op (decimal 9) (signed_decimal h.0)) (machine.Binary op 8 9 (operand.Number m))) (sym h.2) (with_number_said op h.0 h.1)))
+        subst (λ a. SaysAlone (operation_line op a y) (machine.Binary (binary_of op) 8 9 (operand.Number n))) (sym e)
+        (subst (λ b. SaysAlone (operation_line op (decimal 9) b) (machine.Binary (binary_of op) 8 9 (operand.Number n))) (sym h.3)
+        (subst (λ m. SaysAlone (operation_line op (decimal 9) (signed_decimal h.0)) (machine.Binary (binary_of op) 8 9 (operand.Number m))) (sym h.2) (with_number_said op h.0 h.1)))
 
     negative_said : (x : List ℕ) → x ≡ decimal 9 → SaysAlone (codes "negu $" ++ (decimal 8 ++ (codes ",$" ++ (x ++ 10 ∷ [])))) (machine.Unary unary.Negate 8 9)
     negative_said x e = subst (λ a. SaysAlone (codes "negu $" ++ (decimal 8 ++ (codes ",$" ++ (a ++ 10 ∷ [])))) (machine.Unary unary.Negate 8 9)) (sym e) negate_said
@@ -236,13 +236,13 @@ module _ (names : List (List ℕ)) where
           as_part number row _ xs _ w.lines code row_is fits w.say (codes "%a") addr _ o w.texts [] e w.writes refl (name_written h'.sym h'.value o (h.1 e')) refl
       step to number row xs code first o (CombinesRegisters op h' a b q r low_q low_r e') row_is fits e h c lt w =
           two_texts (λ ys. WritesAll rows names labels frame xs ((reg, a) ∷ (rc, b) ∷ []) ys w.lines → Written reg _ (Apply number (parts_of xs)) (part.Register to) (code ++ instr.Binary op to q (source.Register r) ∷ []) o) first (reg, a) (rc, b) (part.Register q) (part.Register r) w.texts w.are
-          (λ x y k l wr. as_line number row _ xs _ w.lines code row_is fits w.say (binary_template op) reg (part.Register to) o (x ∷ y ∷ []) (instr.Binary op to q (source.Register r)) (machine.Binary op 8 9 (operand.Register 10)) e wr (binary_ends op) lt refl refl
-          (subst (λ m. SaysAlone m (machine.Binary op 8 9 (operand.Register 10))) (sym (binary_expanded op (decimal 8) _ frame x y)) (combine_said op x y (k ∙ ap decimal c) l)))
+          (λ x y k l wr. as_line number row _ xs _ w.lines code row_is fits w.say (binary_template op) reg (part.Register to) o (x ∷ y ∷ []) (instr.Binary op to q (source.Register r)) (machine.Binary (binary_of op) 8 9 (operand.Register 10)) e wr (binary_ends op) lt refl refl
+          (subst (λ m. SaysAlone m (machine.Binary (binary_of op) 8 9 (operand.Register 10))) (sym (binary_expanded op (decimal 8) _ frame x y)) (combine_said op x y (k ∙ ap decimal c) l)))
           w.writes
       step to number row xs code first o (CombinesConstant op h' a b q n low e') row_is fits e h c lt w =
           two_texts (λ ys. WritesAll rows names labels frame xs ((reg, a) ∷ (rc, b) ∷ []) ys w.lines → Written reg _ (Apply number (parts_of xs)) (part.Register to) (code ++ instr.Binary op to q (source.Number n) ∷ []) o) first (reg, a) (rc, b) (part.Register q) (part.Constant n) w.texts w.are
-          (λ x y k l wr. as_line number row _ xs _ w.lines code row_is fits w.say (binary_template op) reg (part.Register to) o (x ∷ y ∷ []) (instr.Binary op to q (source.Number n)) (machine.Binary op 8 9 (operand.Number n)) e wr (binary_ends op) lt refl refl
-          (subst (λ m. SaysAlone m (machine.Binary op 8 9 (operand.Number n))) (sym (binary_expanded op (decimal 8) _ frame x y)) (combine_number_said op n x y (k ∙ ap decimal c) l)))
+          (λ x y k l wr. as_line number row _ xs _ w.lines code row_is fits w.say (binary_template op) reg (part.Register to) o (x ∷ y ∷ []) (instr.Binary op to q (source.Number n)) (machine.Binary (binary_of op) 8 9 (operand.Number n)) e wr (binary_ends op) lt refl refl
+          (subst (λ m. SaysAlone m (machine.Binary (binary_of op) 8 9 (operand.Number n))) (sym (binary_expanded op (decimal 8) _ frame x y)) (combine_number_said op n x y (k ∙ ap decimal c) l)))
           w.writes
       step to number row xs code first o (Negates h' a r low e') row_is fits e h c lt w =
           one_text (λ ys. WritesAll rows names labels frame xs ((reg, a) ∷ []) ys w.lines → Written reg _ (Apply number (parts_of xs)) (part.Register to) (code ++ instr.Negate to r ∷ []) o) first (reg, a) (part.Register r) w.texts w.are

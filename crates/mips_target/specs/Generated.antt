@@ -6,8 +6,8 @@ use Rattle.std.specs.List.{AllZip}
 use Rattle.lburg_model.specs.Derivation.{MDerivation}
 use Rattle.lburg_model.specs.Description.{MDescription}
 use Rattle.reducer.specs.AreBest.{AreBest}
-use Rattle.asm_text.specs.declared.instruction.Instruction.{Instruction}
-use Rattle.asm_text.specs.declared.line.Line.{Line}
+use Rattle.asm_text.specs.Lines.{MLine}
+use Rattle.asm_text.specs.Program.{MInstruction}
 use Rattle.op_forest.specs.declared.lowered.LoweredFunction.{LoweredFunction}
 use Rattle.op_forest.specs.Lowered.{LoweredUnit}
 use Rattle.op_forest.specs.Nodes.{Node, nodes, head_of, tree_of}
@@ -51,7 +51,7 @@ abbrev pub code_bound : ℕ → ℕ
 code_bound n = 256 + 32 * n
 
 -- the items are those of a function of the unit that has these roots, where its labels have these texts
-pub record IsCodeOf (u : LoweredUnit) (labels : ℕ → List ℕ) (roots : List Node) (items : List (CodeItem Instruction)) : Type 0 where
+pub record IsCodeOf (u : LoweredUnit) (labels : ℕ → List ℕ) (roots : List Node) (items : List (CodeItem MInstruction)) : Type 0 where
   pub virtual : MCode Instr
   pub selected : IsSelected roots virtual
   -- code over the machine's registers and the frame's slots, which does what the virtual code does
@@ -74,13 +74,13 @@ pub record IsFunction (u : LoweredUnit) (f : LoweredFunction) (c : Coded) : Type
   pub code : IsCodeOf u c.labels f.forest.roots c.items
 
 -- the lines of a function of the unit come behind others
-pub record AddsFunction (u : LoweredUnit) (f : LoweredFunction) (before behind : List Line) : Type 0 where
+pub record AddsFunction (u : LoweredUnit) (f : LoweredFunction) (before behind : List MLine) : Type 0 where
   pub function : Coded
   pub is : IsFunction u f function
   pub adds : behind ≡ before ++ numbered (length before + 1) (function_items function)
 
 -- the lines are those of the unit's functions
-pub record IsGenerated (u : LoweredUnit) (lines : List Line) : Type 0 where
+pub record IsGenerated (u : LoweredUnit) (lines : List MLine) : Type 0 where
   pub functions : List Coded
   pub each : AllZip (IsFunction u) u.functions functions
   pub lines_are : lines ≡ unit_lines functions

@@ -5,7 +5,7 @@ use Rattle.std.specs.List.{AllZip}
 use Rattle.lburg_model.specs.Derivation.{MDerivation}
 use Rattle.lburg_model.specs.Description.{MDescription}
 use Rattle.reducer.specs.AreBest.{AreBest}
-use Rattle.asm_text.specs.declared.program.Program.{Program}
+use Rattle.asm_text.specs.Program.{MProgram}
 use Rattle.op_forest.specs.declared.lowered.LoweredFunction.{LoweredFunction}
 use Rattle.op_forest.specs.Lowered.{LoweredUnit}
 use Rattle.op_forest.specs.Nodes.{nodes, tree_of}
@@ -23,7 +23,7 @@ pub record HasBounds (room most : LoweredFunction → ℕ) (f : LoweredFunction)
 
 -- A function of a program: its name is a label at its first instruction, its code is the templates of the best
 -- derivations of its forest's roots by the shipped description, and it keeps its bounds of bytes and instructions.
-pub record IsFunctionAssembly (room most : ℕ) (names : List (List ℕ)) (p : Program) (f : LoweredFunction) (c : Coded) : Type 0 where
+pub record IsFunctionAssembly (room most : ℕ) (names : List (List ℕ)) (p : MProgram) (f : LoweredFunction) (c : Coded) : Type 0 where
   pub name : c.name ≡ get_or names f.name []
   pub place : HasEntry p c
   pub description : MDescription
@@ -36,7 +36,7 @@ pub record IsFunctionAssembly (room most : ℕ) (names : List (List ℕ)) (p : P
   pub bounds : KeepsBounds room most p place.entry c.items
 
 -- the program is the unit's functions in order
-pub record IsUnitAssembly (room most : LoweredFunction → ℕ) (u : LoweredUnit) (p : Program) : Type 0 where
+pub record IsUnitAssembly (room most : LoweredFunction → ℕ) (u : LoweredUnit) (p : MProgram) : Type 0 where
   pub functions : List Coded
   pub code : p.code ≡ codes_of functions
   pub each : AllZip (λ f c. IsFunctionAssembly (room f) (most f) u.names p f c) u.functions functions

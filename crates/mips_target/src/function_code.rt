@@ -2,17 +2,18 @@
 ghost use Rattle.std.specs.Prelude.{◌≡◌, ◌+◌, ◌*◌, ◌≤◌, ◌<◌, ◌^◌, ◌++◌, [], ◌∷◌, max, min, length, get_or, drop, OnOk};
 ghost use Rattle.mips_rules.specs.Mips.{mips};
 ghost use Rattle.mips_target.specs.Frame.{slot_place, return_place, frame_size};
-ghost use Rattle.mips_target.specs.FunctionCode.{in_frame, operand_of, prologue, epilogue, loads_of, call_of, instructions_of, handed_behind, most_handed, argument_words, unmarked, body_of, function_code};
+ghost use Rattle.mips_target.specs.FunctionCode.{in_frame, binary_of, operand_of, prologue, epilogue, loads_of, call_of, instructions_of, handed_behind, most_handed, argument_words, unmarked, body_of, function_code};
 ghost use Rattle.mips_target.specs.UnitLines.{numbered, label_text, code_lines};
 ghost use Rattle.mips_target.specs.Sizes.{IsSourceWithin, FitsOne, Fits};
 
 use crate::layout::Layout;
-use crate::unit_lines::push_instruction;
+use crate::unit_lines::push_plain;
 use asm_text::{
-    Address, BinaryOp, Instruction, Lines, LoadOp, Operand, Register, StoreOp, Target, UnaryOp,
+    Address, BinaryOp, Instruction, Lines, LoadOp, Register, Statement, StoreOp, Target, UnaryOp,
+    Value,
 };
 use lcc_base::{Bytes, Memory};
-use mips_rules::{Instr, Source};
+use mips_rules::{Arithmetic, Instr, Source};
 use std::alloc::Global;
 use vcode::Reg;
 
@@ -28,36 +29,51 @@ fn register(number: Reg) -> Register
 }
 
 /// A place in the frame, in bytes from the stack pointer, which is `$29`.
-fn in_frame(place: u32) -> Address
+fn in_frame(place: u32) -> Address<&'static [u8]>
     ensures { result ≡ in_frame place }
 {
     Address {
+        name: None,
         offset: place,
-        base: register(29),
+        base: Some(register(29)),
     }
 }
 
 /// The register of this number gets the word at the place in the frame.
-fn load(to: Reg, place: u32) -> Instruction
+fn load(to: Reg, place: u32) -> Statement<&'static [u8]>
     requires { to < 32 }
-    ensures { result ≡ Instruction.Load LoadOp.Word to (in_frame place) }
+    ensures { result ≡ Statement.Instruction (Instruction.Load LoadOp.Word to (in_frame place)) }
 {
-    Instruction::Load(LoadOp::Word, register(to), in_frame(place))
+    Statement::Instruction(Instruction::Load(LoadOp::Word, register(to), in_frame(place)))
 }
 
 /// The register of this number is stored at the place in the frame.
-fn store(from: Reg, place: u32) -> Instruction
+fn store(from: Reg, place: u32) -> Statement<&'static [u8]>
     requires { from < 32 }
-    ensures { result ≡ Instruction.Store StoreOp.Word from (in_frame place) }
+    ensures { result ≡ Statement.Instruction (Instruction.Store StoreOp.Word from (in_frame place)) }
 {
-    Instruction::Store(StoreOp::Word, register(from), in_frame(place))
+    Statement::Instruction(Instruction::Store(StoreOp::Word, register(from), in_frame(place)))
+}
+
+/// The first register gets the second.
+fn copy(to: Reg, from: Reg) -> Statement<&'static [u8]>
+    requires to { to < 32 }
+    requires from { from < 32 }
+    ensures { result ≡ Statement.Instruction (Instruction.Move to from) }
+{
+    Statement::Instruction(Instruction::Move(register(to), register(from)))
 }
 
 /// The stack pointer moves by so many bytes.
-fn move_stack_pointer(op: BinaryOp, bytes: u32) -> Instruction
-    ensures { result ≡ Instruction.Binary op 29 29 (Operand.Number bytes) }
+fn move_stack_pointer(op: BinaryOp, bytes: u32) -> Statement<&'static [u8]>
+    ensures { result ≡ Statement.Instruction (Instruction.Binary op 29 29 (Value.Number bytes)) }
 {
-    Instruction::Binary(op, register(29), register(29), Operand::Number(bytes))
+    Statement::Instruction(Instruction::Binary(
+        op,
+        register(29),
+        register(29),
+        Value::Number(bytes),
+    ))
 }
 
 /// Adds the lines that make the frame.
@@ -65,12 +81,12 @@ fn push_prologue(alloc: Global, layout: Layout, lines: &mut Lines) -> Result<(),
     requires { layout.arguments + layout.slots < 2 ^ 28 }
     ensures { OnOk result (lines.new ≡ lines.old ++ numbered (length lines.old + 1) (code_lines label_text (unmarked (prologue layout)))) }
 {
-    push_instruction(
+    push_plain(
         alloc,
         lines,
         move_stack_pointer(BinaryOp::Subtract, layout.frame_size()),
     )?;
-    push_instruction(alloc, lines, store(31, layout.return_place()))
+    push_plain(alloc, lines, store(31, layout.return_place()))
 }
 
 /// Adds the lines that give the frame back and return.
@@ -78,27 +94,38 @@ fn push_epilogue(alloc: Global, layout: Layout, lines: &mut Lines) -> Result<(),
     requires { layout.arguments + layout.slots < 2 ^ 28 }
     ensures { OnOk result (lines.new ≡ lines.old ++ numbered (length lines.old + 1) (code_lines label_text (unmarked (epilogue layout)))) }
 {
-    push_instruction(alloc, lines, load(31, layout.return_place()))?;
-    push_instruction(
+    push_plain(alloc, lines, load(31, layout.return_place()))?;
+    push_plain(
         alloc,
         lines,
         move_stack_pointer(BinaryOp::Add, layout.frame_size()),
     )?;
-    push_instruction(
+    push_plain(
         alloc,
         lines,
-        Instruction::Jump(Target::Register(register(31))),
+        Statement::Instruction(Instruction::Jump(Target::Register(register(31)))),
     )
 }
 
+/// The machine's operation.
+fn binary_of(op: Arithmetic) -> BinaryOp
+    ensures { result ≡ binary_of op }
+{
+    match op {
+        Arithmetic::Add => BinaryOp::Add,
+        Arithmetic::Subtract => BinaryOp::Subtract,
+        Arithmetic::Multiply => BinaryOp::Multiply,
+    }
+}
+
 /// The last operand of an operation.
-fn operand_of(source: Source) -> Operand
+fn operand_of(source: Source) -> Value
     requires { IsSourceWithin source }
     ensures { result ≡ operand_of source }
 {
     match source {
-        Source::Register(reg) => Operand::Register(register(reg)),
-        Source::Number(number) => Operand::Number(number),
+        Source::Register(reg) => Value::Register(register(reg)),
+        Source::Number(number) => Value::Number(number),
     }
 }
 
@@ -117,11 +144,15 @@ fn push_call(
     ensures { OnOk result (lines.new ≡ lines.old ++ numbered (length lines.old + 1) (code_lines label_text (unmarked (call_of names.now words to name)))) }
 {
     for word in 0..words.min(4) {
-        push_instruction(alloc, lines, load(4 + word, 4 * word))?;
+        push_plain(alloc, lines, load(4 + word, 4 * word))?;
     }
-    let label = Bytes::copied(alloc, names[name as usize].as_slice())?;
-    push_instruction(alloc, lines, Instruction::Call(Target::Label(label)))?;
-    push_instruction(alloc, lines, Instruction::Move(register(to), register(2)))
+    let label = names[name as usize].as_slice();
+    push_plain(
+        alloc,
+        lines,
+        Statement::Instruction(Instruction::Call(Target::Label(label))),
+    )?;
+    push_plain(alloc, lines, copy(to, 2))
 }
 
 /// Adds the lines of an instruction, where so many argument words were handed since the last call.
@@ -138,43 +169,44 @@ fn push_instructions(
     ensures { OnOk result (lines.new ≡ lines.old ++ numbered (length lines.old + 1) (code_lines label_text (unmarked (instructions_of names.now layout handed instr)))) }
 {
     match instr {
-        Instr::LoadNumber { to, number } => push_instruction(
+        Instr::LoadNumber { to, number } => push_plain(
             alloc,
             lines,
-            Instruction::LoadNumber(register(to), number),
+            Statement::Instruction(Instruction::LoadNumber(register(to), number)),
         ),
         Instr::Binary {
             op,
             to,
             from,
             operand,
-        } => push_instruction(
+        } => push_plain(
             alloc,
             lines,
-            Instruction::Binary(op, register(to), register(from), operand_of(operand)),
+            Statement::Instruction(Instruction::Binary(
+                binary_of(op),
+                register(to),
+                register(from),
+                operand_of(operand),
+            )),
         ),
-        Instr::Negate { to, from } => push_instruction(
+        Instr::Negate { to, from } => push_plain(
             alloc,
             lines,
-            Instruction::Unary(UnaryOp::Negate, register(to), register(from)),
+            Statement::Instruction(Instruction::Unary(
+                UnaryOp::Negate,
+                register(to),
+                register(from),
+            )),
         ),
-        Instr::Argument { from } => push_instruction(alloc, lines, store(from, 4 * handed)),
+        Instr::Argument { from } => push_plain(alloc, lines, store(from, 4 * handed)),
         Instr::Call { to, name } => push_call(alloc, names, handed, to, name, lines),
         Instr::Return { from } => {
-            push_instruction(alloc, lines, Instruction::Move(register(2), register(from)))?;
+            push_plain(alloc, lines, copy(2, from))?;
             push_epilogue(alloc, layout, lines)
         }
-        Instr::Copy { to, from } => push_instruction(
-            alloc,
-            lines,
-            Instruction::Move(register(to), register(from)),
-        ),
-        Instr::LoadSlot { to, slot } => push_instruction(
-            alloc,
-            lines,
-            load(to, layout.slot_place(slot)),
-        ),
-        Instr::StoreSlot { from, slot } => push_instruction(
+        Instr::Copy { to, from } => push_plain(alloc, lines, copy(to, from)),
+        Instr::LoadSlot { to, slot } => push_plain(alloc, lines, load(to, layout.slot_place(slot))),
+        Instr::StoreSlot { from, slot } => push_plain(
             alloc,
             lines,
             store(from, layout.slot_place(slot)),

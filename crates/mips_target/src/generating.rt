@@ -4,8 +4,8 @@ ghost use Rattle.op_forest.specs.Nodes.{nodes};
 ghost use Rattle.op_forest.specs.WellFormed.{IsWellFormed};
 ghost use Rattle.mips_rules.specs.Shipped.{IsShipped, CoversRoots};
 ghost use Rattle.op_forest.specs.Lowered.{IsUnitName, IsFunctionOf};
-ghost use Rattle.asm_text.specs.declared.program.Program.{Program};
-ghost use Rattle.asm_text.specs.Program.{Makes};
+ghost use Rattle.asm_text.specs.Makes.{Makes};
+ghost use Rattle.asm_text.specs.Program.{MProgram};
 ghost use Rattle.asm_text.specs.Printable.{ArePrintable};
 ghost use Rattle.mips_target.specs.Callable.{AreCallable};
 ghost use Rattle.mips_target.specs.Allocated.{IsAllocated};
@@ -16,8 +16,8 @@ ghost use Rattle.mips_target.specs.UnitProgram.{IsUnitProgram};
 use crate::function_code::{argument_words, push_function_code};
 use crate::layout::Layout;
 use crate::unit_lines::{push_name, push_plain};
-use asm_text::{Directive, Lines, Statement};
-use lcc_base::{Items, Memory};
+use asm_text::{Lines, Statement};
+use lcc_base::Memory;
 use mips_rules::{Mips, MipsRules, rules};
 use op_forest::{Forest, Lowered, LoweredFunction, WellFormed, check_forest};
 use reducer::best_derivations;
@@ -98,13 +98,13 @@ pub fn generate(alloc: Global, lowered: &Lowered) -> Result<Lines, Memory>
     requires size { All (λ f. sum_by nodes f.forest.roots ≤ 2 ^ 24) lowered.now.functions }
     ensures value { IfOk result (λ lines. IsGenerated lowered.now lines) }
     ensures printable { IfOk result (λ lines. ArePrintable lines) }
-    ensures unit { IfOk result (λ lines. (p : Program) → Makes lines p → IsUnitProgram lowered.now p) }
-    ensures assembly { IfOk result (λ lines. (p : Program) → Makes lines p → (room most : LoweredFunction → ℕ) → All (HasBounds room most) lowered.now.functions → IsUnitAssembly room most lowered.now p) }
-    ensures program { IfOk result (λ lines. AreCallable lowered.now → (p : Program) × Makes lines p) }
+    ensures unit { IfOk result (λ lines. (p : MProgram) → Makes lines p → IsUnitProgram lowered.now p) }
+    ensures assembly { IfOk result (λ lines. (p : MProgram) → Makes lines p → (room most : LoweredFunction → ℕ) → All (HasBounds room most) lowered.now.functions → IsUnitAssembly room most lowered.now p) }
+    ensures program { IfOk result (λ lines. AreCallable lowered.now → (p : MProgram) × Makes lines p) }
 {
     let rules = rules(alloc)?;
-    let mut lines = Items::new(alloc);
-    push_plain(alloc, &mut lines, Statement::Directive(Directive::Text))?;
+    let mut lines = Lines::new(alloc);
+    push_plain(alloc, &mut lines, Statement::Text)?;
     for function in lowered.functions() {
         push_function(alloc, lowered, &rules, function, &mut lines)?;
     }

@@ -5,9 +5,9 @@ ghost use Rattle.mips_target.specs.NamedBelow.{IsNamedBelow};
 
 use super::*;
 use Part::{Number, Putchar};
-use asm_text::{BinaryOp, print};
+use asm_text::print;
 use lcc_base::{Bytes, Items, Order};
-use mips_rules::{Instr, Mips, Source, rules};
+use mips_rules::{Arithmetic, Instr, Mips, Source, rules};
 use op_forest::{
     Forest, ForestFault, Frame, Lowered, LoweredFunction, Op, Operator, Suffix, Sym, Tree,
     WellFormed, check_forest,
@@ -286,7 +286,7 @@ fn code_of_mips(rt: HostRuntime) -> Result<(), Fail> {
     let wanted = [
         Instr::LoadNumber { to: 64, number: 1 },
         Instr::Binary {
-            op: BinaryOp::Add,
+            op: Arithmetic::Add,
             to: 66,
             from: 64,
             operand: Source::Number(2),
@@ -301,7 +301,7 @@ fn code_of_mips(rt: HostRuntime) -> Result<(), Fail> {
         Instr::StoreSlot { from: 8, slot: 0 },
         Instr::LoadSlot { to: 9, slot: 0 },
         Instr::Binary {
-            op: BinaryOp::Add,
+            op: Arithmetic::Add,
             to: 8,
             from: 9,
             operand: Source::Number(2),

@@ -1,29 +1,33 @@
-use Rattle.std.proofs.Common.{◌≡◌, List, drop, refl, ap, subst, ◌∙◌}
-use Rattle.std.proofs.lemmas.List.{at_drop_all}
-use Rattle.asm_text.specs.declared.line.Line.{Line}
-use Rattle.asm_text.specs.Printed.{line_text, lines_text, AreWithin}
-use Rattle.asm_text.proofs.Lists.{walk_done}
-use Rattle.asm_text.proofs.Printed.{printed, printed_program, within_done}
+use Rattle.std.proofs.Common.{◌≡◌, ◌++◌, ℕ, List, sym, subst, ap, ◌∙◌}
+use Rattle.std.specs.Prelude.{All}
+use Rattle.lcc_text.specs.Lines.{lines_of}
+use Rattle.asm_text.specs.declared.lines.Line.{Line}
+use Rattle.asm_text.specs.LineBack.{IsLineBack}
+use Rattle.asm_text.specs.Lines.{MLine, AreLines}
+use Rattle.asm_text.specs.LineTable.{lines_behind}
+use Rattle.asm_text.specs.Printable.{ArePrintable}
+use Rattle.asm_text.specs.Printed.{lines_text}
+use Rattle.asm_text.proofs.ReadBack.{lines_back}
 use Rattle.asm_text.proofs.printing.print.Goals as goal
 
+-- the lines that were printed
+seen : (c : goal.In_ok-add_lines) → lines_behind c.lines.inside.names 1 c.deref.result.now c.deref-2.result.now ≡ c.args.lines.now
+seen c =
+    let names = c.lines.inside.names in
+    ap (λ (ls : List ℕ). lines_behind names 1 ls c.deref-2.result.now) c.deref.ensures.value ∙ ap (λ (ls : List Line). lines_behind names 1 c.lines.inside.labels.items ls) c.deref-2.ensures.value ∙ c.lines.view_is
+
+printed : (c : goal.In_ok-add_lines) → c.add_lines.new.out ≡ lines_text c.args.lines.now
+printed c =
+    c.in_ok-add_lines.ensures.text ∙ ap (λ (t : List ℕ). t ++ lines_text (lines_behind c.lines.inside.names 1 c.deref.result.now c.deref-2.result.now)) c.new-out.ensures ∙ ap lines_text (seen c)
+
+spelled : (c : goal.In_ok-add_lines) → ArePrintable c.args.lines.now → AreLines (lines_of c.add_lines.new.out) 1 c.args.lines.now
+spelled c p =
+    let back = subst (λ (ms : List MLine). All IsLineBack ms) (seen c) c.in_ok-add_lines.ensures.back in
+    subst (λ (t : List ℕ). AreLines (lines_of t) 1 c.args.lines.now) (sym (printed c)) (lines_back 1 c.args.lines.now back p)
+
 pub returns-clause-lines : goal.returns-clause-lines
-returns-clause-lines c = λ k.
-    let all = c.as_slice-all.result.now in
-    let i = c.loop-line.line-index in
-    let e : c.loop-line.out ≡ lines_text all = walk_done lines_text line_text (λ l ls. refl) refl c.loop-line.out (lines_text all) all i c.loop-line-test.false c.loop-line.invariant.text in
-    let within = within_done (drop i all) all (at_drop_all (λ (l : List Line). l) all i c.loop-line-test.false) c.loop-line.invariant.within in
-    let P : List Line → Type 0 = λ l. AreWithin l in
-    let f = e ∙ ap lines_text c.as_slice-all.ensures in
-    let g = subst P c.as_slice-all.ensures within in
-    printed c.loop-line.out c.args.lines.now f g k
+returns-clause-lines c = spelled c
 
 pub returns-clause-program : goal.returns-clause-program
-returns-clause-program c = λ p k m.
-    let all = c.as_slice-all.result.now in
-    let i = c.loop-line.line-index in
-    let e : c.loop-line.out ≡ lines_text all = walk_done lines_text line_text (λ l ls. refl) refl c.loop-line.out (lines_text all) all i c.loop-line-test.false c.loop-line.invariant.text in
-    let within = within_done (drop i all) all (at_drop_all (λ (l : List Line). l) all i c.loop-line-test.false) c.loop-line.invariant.within in
-    let P : List Line → Type 0 = λ l. AreWithin l in
-    let f = e ∙ ap lines_text c.as_slice-all.ensures in
-    let g = subst P c.as_slice-all.ensures within in
-    printed_program c.loop-line.out c.args.lines.now p f g k m
+returns-clause-program c =
+    λ p printable made. record { lines = c.args.lines.now; spelled = spelled c printable; made = made }

@@ -1,8 +1,8 @@
-use Rattle.asm_text.proofs.Exact.{made_of, text_made}
+use Rattle.asm_text.proofs.ReadTexts.{found, fit}
 use Rattle.asm_text.proofs.reading.mips_program.Goals as goal
 
 pub returns-clause-found : goal.returns-clause-found
-returns-clause-found c = text_made c.args.text.now c.in_ok-lines.lines c.program_of.result c.in_ok-lines.ensures.found c.program_of.ensures.found c.program_of.ensures.within
+returns-clause-found c = found c.args.text.now c.in_ok-assembly.assembly c.into_program.result c.in_ok-assembly.ensures.made c.into_program.ensures.program c.into_program.ensures.known
 
-pub returns-clause-only : goal.returns-clause-only
-returns-clause-only c = λ p h. c.program_of.ensures.only p (made_of c.args.text.now c.in_ok-lines.lines p c.in_ok-lines.ensures.found h.text) h.limit
+pub returns-clause-program : goal.returns-clause-program
+returns-clause-program c = fit c.args.text.now c.into_program.result (found c.args.text.now c.in_ok-assembly.assembly c.into_program.result c.in_ok-assembly.ensures.made c.into_program.ensures.program c.into_program.ensures.known)

@@ -1,9 +1,8 @@
-use Rattle.asm_text.proofs.Exact.{program_read}
-use Rattle.asm_text.proofs.MadeProgram.{read_program}
+use Rattle.asm_text.proofs.ReadTexts.{same_program, only_memory}
 use Rattle.asm_text.proofs.reading.read.Goals as goal
 
 pub returns-clause-one : goal.returns-clause-one
-returns-clause-one c = λ p h. program_read c.args.text.now c.mips_program.result p c.mips_program.ensures.found h
+returns-clause-one c = same_program c.one_program.ensures c.args.text.now c.mips_program.result c.mips_program.ensures.found
 
-pub returns-clause-program : goal.returns-clause-program
-returns-clause-program c = read_program c.args.text.now c.mips_program.result c.mips_program.ensures.found
+pub returns-clause-only : goal.returns-clause-only
+returns-clause-only c = only_memory c.one_fault.ensures.fine c.args.text.now c.mips_program.result c.mips_program.ensures.fault

@@ -6,7 +6,7 @@ use Rattle.lcc_top.specs.Call.{IsFree}
 use Rattle.lcc_top.specs.Answers.{IsEndStatus, HasDone, IsTold}
 use Rattle.lcc_top.proofs.Answered.{has_done, done_or_memory, refused_kept, told_or_free}
 use Rattle.lcc_top.proofs.CommandLaws.{TextLaws}
-use Rattle.lcc_top.proofs.Faults.{input_kept, usage, too_long_or_free, fault_told, fault_of_input}
+use Rattle.lcc_top.proofs.Faults.{input_kept, usage, too_long_or_free, fault_told, fault_of_input, fault_of_output}
 use Rattle.lcc_top.proofs.Headlines.{cover_headline, run_headline, compiler_headline}
 use Rattle.lcc_top.proofs.calling.top.Goals as goal
 
@@ -19,7 +19,7 @@ pub returns-in-Ok-clause-cover_headline : goal.returns-in-Ok-clause-cover_headli
 returns-in-Ok-clause-cover_headline g c = λ bytes words is. cover_headline bytes _ _ _ _ _ (returns-in-Ok-clause-done g c Cover bytes words is)
 
 pub returns-in-Ok-clause-simrun_headline : goal.returns-in-Ok-clause-simrun_headline
-returns-in-Ok-clause-simrun_headline g c = λ bytes words is. run_headline bytes _ _ _ _ _ (returns-in-Ok-clause-done g c Simrun bytes words is)
+returns-in-Ok-clause-simrun_headline g c = λ o bytes words is. run_headline o bytes _ _ _ _ _ (returns-in-Ok-clause-done g c (Simrun o) bytes words is)
 
 pub returns-in-Ok-clause-compiler_headline : goal.returns-in-Ok-clause-compiler_headline
 returns-in-Ok-clause-compiler_headline g c = λ bytes words is. compiler_headline bytes _ _ _ _ _ (returns-in-Ok-clause-done g c Rcc bytes words is)
@@ -31,13 +31,13 @@ returns-in-Ok-clause-complete g c = λ command bytes words is small accepts fine
 
 pub returns-in-Ok-clause-refused : goal.returns-in-Ok-clause-refused
 returns-in-Ok-clause-refused g c = λ command bytes why words is small refuses fine.
-    (let laws : TextLaws = record { one_fault = c.one_fault.ensures.one; no_fault = c.one_fault.ensures.none; one_description = c.one_description.ensures; one_tree_fault = c.one_tree_fault.ensures.one; no_tree_fault = c.one_tree_fault.ensures.none } in
+    (let laws : TextLaws = record { one_fault = c.one_fault.ensures.one; no_fault = c.one_fault.ensures.none; one_description = c.one_description.ensures; one_tree_fault = c.one_tree_fault.ensures.one; no_tree_fault = c.one_tree_fault.ensures.none; one_assembly_fault = c.one_fault-2.ensures.one; no_assembly_fault = c.one_fault-2.ensures.fine; one_program = c.one_program.ensures } in
     let Answer : Status → Type 0 = λ s. IsTold why (g.E.Sink.taken c.args.report.now) (g.E.Sink.taken c.write_line.new.report) s ⊎ IsFree s in
     (refused_kept laws command _ c.run-outcome.result bytes why c.run-outcome.ensures.caused words is refuses, subst Answer (sym c.status.ensures) (told_or_free laws command _ c.run-outcome.result bytes why _ _ c.run-outcome.ensures.caused words is small refuses fine c.in-Ok.ensures.all)))
 
 pub returns-in-Err-clause-refused : goal.returns-in-Err-clause-refused
 returns-in-Err-clause-refused g c = λ command bytes why words is small refuses fine.
-    (let laws : TextLaws = record { one_fault = c.one_fault.ensures.one; no_fault = c.one_fault.ensures.none; one_description = c.one_description.ensures; one_tree_fault = c.one_tree_fault.ensures.one; no_tree_fault = c.one_tree_fault.ensures.none } in
+    (let laws : TextLaws = record { one_fault = c.one_fault.ensures.one; no_fault = c.one_fault.ensures.none; one_description = c.one_description.ensures; one_tree_fault = c.one_tree_fault.ensures.one; no_tree_fault = c.one_tree_fault.ensures.none; one_assembly_fault = c.one_fault-2.ensures.one; no_assembly_fault = c.one_fault-2.ensures.fine; one_program = c.one_program.ensures } in
     (refused_kept laws command _ c.run-outcome.result bytes why c.run-outcome.ensures.caused words is refuses, inr (inr refl)))
 
 pub returns-in-Ok-clause-wrong_words : goal.returns-in-Ok-clause-wrong_words
@@ -62,3 +62,6 @@ returns-in-Ok-clause-write_fault g c = λ is. inl (fault_told _ c.run-outcome.re
 
 pub returns-in-Ok-clause-unbroken : goal.returns-in-Ok-clause-unbroken
 returns-in-Ok-clause-unbroken g c = λ more. inl (c.status.ensures ∙ fault_of_input _ c.run-outcome.result c.run-outcome.ensures.caused more)
+
+pub returns-in-Ok-clause-output_unbroken : goal.returns-in-Ok-clause-output_unbroken
+returns-in-Ok-clause-output_unbroken g c = λ more. c.status.ensures ∙ fault_of_output _ c.run-outcome.result c.run-outcome.ensures.caused more

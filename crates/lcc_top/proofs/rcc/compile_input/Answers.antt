@@ -1,4 +1,4 @@
-use Rattle.std.proofs.Common.{ℕ, List, sym, ap, subst}
+use Rattle.std.proofs.Common.{ℕ, List, refl, sym, ap, subst}
 use Rattle.std.specs.Prelude.{Err}
 use Rattle.std.proofs.KnownBytes.{Keeps-refl}
 use Rattle.lcc_top.specs.declared.words.Command.TheVariants as command
@@ -11,4 +11,4 @@ returns-in-Ok-clause-worked g c =
     c.write_text.ensures.worked command.Rcc c.args.input.now (subst Compiles (sym c.as_slice.ensures) c.in-Ok.ensures.found)
 
 pub returns-in-Err-BadText-clause-worked : goal.returns-in-Err-BadText-clause-worked
-returns-in-Err-BadText-clause-worked g c = (c.in-Err-BadText.ensures.bad (ap Err c.in-Err-BadText.field-0-is), Keeps-refl _)
+returns-in-Err-BadText-clause-worked g c = (c.in-Err-BadText.ensures.bad (ap Err c.in-Err-BadText.field-0-is), Keeps-refl _, refl)

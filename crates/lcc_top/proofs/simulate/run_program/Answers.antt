@@ -3,4 +3,4 @@ use Rattle.lcc_top.proofs.simulate.run_program.Goals as goal
 
 pub returns-in-Ok-clause-ran : goal.returns-in-Ok-clause-ran
 returns-in-Ok-clause-ran g c =
-    run_of _ _ _ _ _ _ _ c.run_machine.result _ c.in-Ok.ensures.loaded c.stack_size.ensures c.step_limit.ensures c.run_machine.ensures.ran
+    run_of c.args.options c.args.program c.args.bytes _ _ _ _ c.run_machine.result c.in-Ok.machine c.in-Ok.ensures.loaded c.run_machine.ensures.ran

@@ -1,8 +1,6 @@
-use Rattle.std.proofs.Common.{◌≡◌, ◌≤◌, ◌<◌, length, [], get_or, ap, ◌∙◌, subst, rules}
-use Rattle.mips_target.specs.FunctionCode.{unmarked}
-use Rattle.mips_target.specs.UnitLines.{label_text, Coded}
+use Rattle.std.proofs.Common.{◌≡◌, ◌≤◌, ◌<◌, length, get_or, subst, rules}
 use Rattle.mips_target.specs.Generated.{IsFunction}
-use Rattle.mips_target.proofs.Collecting.{one_more, name_is, all_done}
+use Rattle.mips_target.proofs.Collecting.{one_more, all_done}
 use Rattle.mips_target.proofs.Printing.{printable}
 use Rattle.mips_target.proofs.Making.{makes}
 use Rattle.mips_target.proofs.Placing.{unit_program}

@@ -1,16 +1,20 @@
-use Rattle.std.proofs.Common.{◌∙◌, sym, ap, drop}
+use Rattle.std.proofs.Common.{◌≡◌, ◌∙◌, Some, sym, ap, drop}
 use Rattle.mips_machine.specs.State.{MMachine}
-use Rattle.mips_machine.proofs.Steps.{step-prints, step-takes}
+use Rattle.mips_machine.specs.StepTable.{fetched}
+use Rattle.mips_machine.proofs.Steps.{step-prints, stepped-acts}
 use Rattle.mips_machine.proofs.machine.Machine.step.Goals as goal
 
-pub returns-in-3145728-clause-stepped : goal.returns-in-3145728-clause-stepped
-returns-in-3145728-clause-stepped g c =
-    let m = c.args.self.now in
-    let input = c.args.input.now in
-    rw (step-prints m.program m.order m.cpu (drop input.place input.bytes) (ap (λ (m : MMachine). m.cpu.pc) (sym c.self.view_is) ∙ sym c.pc.ensures ∙ c.in-3145728.is)) (c.print.ensures.stepped input)
+pub returns-in-Some-clause-stepped : goal.returns-in-Some-clause-stepped
+returns-in-Some-clause-stepped g c =
+    let m = c.self.inside in
+    let at : fetched m.code.items m.processor.pc ≡ Some c.in-Some.instruction.now = sym (rw (c.deref.ensures.value, c.pc-pc.ensures) at c.in-Some.ensures.is) in
+    rw (← c.self.view_is) (stepped-acts (record { code = m.code.items; order = m.order; cpu = m.processor }) c.args.input.now (g.K.Sink.taken c.args.out.now) (g.K.Sink.faults c.args.out.now) c.act.new.self c.in-Some.instruction.now c.act.result at c.act.ensures)
 
-pub returns-in-3145732-clause-stepped : goal.returns-in-3145732-clause-stepped
-returns-in-3145732-clause-stepped g c =
+pub returns-in-None-clause-stepped : goal.returns-in-None-clause-stepped
+returns-in-None-clause-stepped g c =
     let m = c.args.self.now in
     let input = c.args.input.now in
-    rw (step-takes m.program m.order m.cpu (drop input.place input.bytes) (ap (λ (m : MMachine). m.cpu.pc) (sym c.self.view_is) ∙ sym c.pc.ensures ∙ c.in-3145732.is)) (c.read.ensures (g.K.Sink.taken c.args.out.now) (g.K.Sink.faults c.args.out.now))
+    rw (step-prints m.code m.order m.cpu (drop input.place input.bytes) (ap (λ (m : MMachine). m.cpu.pc) (sym c.self.view_is) ∙ sym c.pc-pc.ensures ∙ c.if-pc-eq-PUTCHAR_AT.true)) (c.print.ensures.stepped input)
+
+pub returns-in-None-2-clause-stepped : goal.returns-in-None-2-clause-stepped
+returns-in-None-2-clause-stepped g c = c.call_quiet.ensures.1 (g.K.Sink.taken c.args.out.now) (g.K.Sink.faults c.args.out.now)

@@ -1,6 +1,0 @@
-use Rattle.std.proofs.Common.{◌≡◌, take}
-use Rattle.asm_programs.specs.Linked.{address_in, all_bytes}
-use Rattle.asm_programs.proofs.linking.data_bytes.Given as goal
-
-abbrev pub invariant-loop-datum : goal.invariant-loop-datum
-invariant-loop-datum l = l.out.items ≡ all_bytes l.order (address_in l.addresses) (take l.datum-index l.datums)

@@ -1,6 +1,0 @@
-use Rattle.std.proofs.Common.{◌≡◌, drop}
-use Rattle.mips_machine.specs.StepTable.{lost, without}
-use Rattle.mips_machine.proofs.processor.lose.Given as goal
-
-abbrev pub invariant-loop-r : goal.invariant-loop-r
-invariant-loop-r l = without (drop l.r-index lost) l.registers ≡ without lost l.initial.registers
