@@ -1,1 +1,15 @@
 pub mod Choices
+pub mod Sizes
+pub mod States
+pub mod Readers
+pub mod Complete
+pub mod Operators
+pub mod Firsts
+pub mod FoundExprs
+pub mod FoundSpecifiers
+pub mod FoundDeclarators
+pub mod FoundUnits
+pub mod Rounds
+pub mod MarkLaws
+pub mod Tests
+pub mod OnePieces

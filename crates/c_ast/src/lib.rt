@@ -1,13 +1,36 @@
-//! C's syntax: the classes of tokens, and how keywords and signs are spelled.
+//! C's syntax: the classes of tokens, how keywords and signs are spelled, and syntax trees.
 #![tactic(auto)]
 
 mod class;
+mod expr;
 mod keyword;
+mod laws;
+mod operator;
+mod pieces;
 mod sign;
+mod specifier;
 mod spelling;
+mod statement;
 #[cfg(test)]
 mod tests;
+mod unit;
+mod worked;
 
 pub use class::{Class, IntKind};
+pub use expr::{
+    Declarator, DeclaratorCore, Enumerator, Expr, ExprForm, Member, MemberDeclarator, Parameter,
+    Specifier, SpecifierForm, Specifiers, Suffix, SuffixForm, TypeName,
+};
 pub use keyword::{keyword_number, keyword_text};
+pub use laws::{marks_run, one_unit};
+pub use operator::{
+    AssignOperator, BinaryOperator, MemberOperator, PostfixOperator, PrefixOperator,
+};
+pub use pieces::{one_declaration, one_declarator, one_expression, one_statement, one_type};
 pub use sign::{sign_number, sign_text};
+pub use specifier::{BasicType, Qualifier, RecordKind, Storage};
+pub use statement::{
+    Block, Declaration, InitDeclarator, Initialiser, InitialiserForm, Statement, StatementForm,
+};
+pub use unit::{External, ExternalForm, Unit};
+pub use worked::{nearest_if, scopes_and_types, typedef_names};

@@ -1,0 +1,9 @@
+use Rattle.c_ast.proofs.OnePieces as pieces
+use Rattle.c_ast.proofs.pieces.one_declaration.Goals as goal
+
+pub returns : goal.returns
+returns c = record {
+  initialiser = pieces.initialiser;
+  declaration = pieces.declaration;
+  declarations = pieces.declarations;
+}

@@ -1,0 +1,8 @@
+use Rattle.c_ast.proofs.OnePieces as pieces
+use Rattle.c_ast.proofs.pieces.one_statement.Goals as goal
+
+pub returns : goal.returns
+returns c = record {
+  statement = pieces.statement;
+  external = pieces.external;
+}

@@ -1,0 +1,151 @@
+-- Which token goes on from an expression: an operator that binds what stands before it.
+-- Source: C89 3.3.
+use Rattle.std.specs.Prelude.{◌≡◌, ◌+◌, ◌==◌, if◌then◌else◌, ℕ, Bool, false, ◌||◌, ◌&&◌, Option, Some, None, nat_le, List}
+use Rattle.c_ast.specs.declared.operator.BinaryOperator.{BinaryOperator}
+use Rattle.c_ast.specs.declared.operator.BinaryOperator.TheVariants as binary
+use Rattle.c_ast.specs.declared.operator.AssignOperator.{AssignOperator}
+use Rattle.c_ast.specs.declared.operator.AssignOperator.TheVariants as assign
+use Rattle.c_ast.specs.declared.operator.PostfixOperator.{PostfixOperator}
+use Rattle.c_ast.specs.declared.operator.PostfixOperator.TheVariants as postfix
+use Rattle.c_ast.specs.declared.operator.MemberOperator.{MemberOperator}
+use Rattle.c_ast.specs.declared.operator.MemberOperator.TheVariants as member
+use Rattle.c_ast.specs.Lexemes.{Lexeme, Name, Keyword, Integer, Character, Text, Sign}
+use Rattle.c_ast.specs.Operators.{level_of, operand_level, binary_sign, assign_sign, postfix_sign, member_sign}
+use Rattle.c_ast.specs.Trees.{ExprTree, Variable, IntegerConstant, CharacterConstant, Literal, Enclosed, Subscript, Called, Selected, Stepped, Prefixed, SizedExpr, SizedType, Converted, Combined, Chosen, Assigned, Sequence, ExprTrees, NoExprs, Exprs}
+use Rattle.c_ast.specs.Levels.{rank}
+use Rattle.c_ast.specs.Marks.{Mark, next, is_sign}
+
+-- what a token makes of the expression before it
+pub data LinkKind : Type 0 where
+  Index : LinkKind
+  Call : LinkKind
+  Select : (op : MemberOperator) → LinkKind
+  Step : (op : PostfixOperator) → LinkKind
+  Operate : (op : BinaryOperator) → LinkKind
+  Question : LinkKind
+  Assign : (op : AssignOperator) → LinkKind
+
+abbrev pub sign_of_link : LinkKind → ℕ
+sign_of_link Index = 0
+sign_of_link Call = 2
+sign_of_link (Select op) = member_sign op
+sign_of_link (Step op) = postfix_sign op
+sign_of_link (Operate op) = binary_sign op
+sign_of_link Question = 30
+sign_of_link (Assign op) = assign_sign op
+
+abbrev pub link_of_sign : ℕ → Option LinkKind
+link_of_sign k =
+    if k == 0 then Some Index
+    else (if k == 2 then Some Call
+    else (if k == 6 then Some (Select member.Dot)
+    else (if k == 7 then Some (Select member.Arrow)
+    else (if k == 8 then Some (Step postfix.Increment)
+    else (if k == 9 then Some (Step postfix.Decrement)
+    else (if k == 10 then Some (Operate binary.BitAnd)
+    else (if k == 11 then Some (Operate binary.Multiply)
+    else (if k == 12 then Some (Operate binary.Add)
+    else (if k == 13 then Some (Operate binary.Subtract)
+    else (if k == 16 then Some (Operate binary.Divide)
+    else (if k == 17 then Some (Operate binary.Remainder)
+    else (if k == 18 then Some (Operate binary.ShiftLeft)
+    else (if k == 19 then Some (Operate binary.ShiftRight)
+    else (if k == 20 then Some (Operate binary.Less)
+    else (if k == 21 then Some (Operate binary.Greater)
+    else (if k == 22 then Some (Operate binary.LessEqual)
+    else (if k == 23 then Some (Operate binary.GreaterEqual)
+    else (if k == 24 then Some (Operate binary.Equal)
+    else (if k == 25 then Some (Operate binary.NotEqual)
+    else (if k == 26 then Some (Operate binary.BitXor)
+    else (if k == 27 then Some (Operate binary.BitOr)
+    else (if k == 28 then Some (Operate binary.And)
+    else (if k == 29 then Some (Operate binary.Or)
+    else (if k == 30 then Some Question
+    else (if k == 34 then Some (Assign assign.Plain)
+    else (if k == 35 then Some (Assign assign.Multiply)
+    else (if k == 36 then Some (Assign assign.Divide)
+    else (if k == 37 then Some (Assign assign.Remainder)
+    else (if k == 38 then Some (Assign assign.Add)
+    else (if k == 39 then Some (Assign assign.Subtract)
+    else (if k == 40 then Some (Assign assign.ShiftLeft)
+    else (if k == 41 then Some (Assign assign.ShiftRight)
+    else (if k == 42 then Some (Assign assign.BitAnd)
+    else (if k == 43 then Some (Assign assign.BitXor)
+    else (if k == 44 then Some (Assign assign.BitOr) else None)))))))))))))))))))))))))))))))))))
+
+abbrev pub link_of : Lexeme → Option LinkKind
+link_of (Sign k) = link_of_sign k
+link_of (Name n) = None
+link_of (Keyword k) = None
+link_of (Integer v k) = None
+link_of (Character v) = None
+link_of (Text b) = None
+
+-- the rank that it needs before it
+abbrev pub needed : LinkKind → ℕ
+needed Index = 15
+needed Call = 15
+needed (Select op) = 15
+needed (Step op) = 15
+needed (Operate op) = level_of op
+needed Question = 3
+needed (Assign op) = 14
+
+-- the rank of what it makes
+abbrev pub made : LinkKind → ℕ
+made Index = 15
+made Call = 15
+made (Select op) = 15
+made (Step op) = 15
+made (Operate op) = level_of op
+made Question = 2
+made (Assign op) = 1
+
+abbrev pub links : ℕ → ℕ → Option LinkKind → Bool
+links level rank None = false
+links level rank (Some k) = nat_le level (made k) && nat_le (needed k) rank
+
+-- the token goes on from what is of the rank, at the level
+abbrev pub extends : ℕ → ℕ → Lexeme → Bool
+extends level rank l = links level rank (link_of l)
+
+abbrev mutual
+  -- the token goes on from the last part of the expression
+  pub behind : ExprTree → Lexeme → Bool
+  behind (Variable l n) t = false
+  behind (IntegerConstant l v k) t = false
+  behind (CharacterConstant l v) t = false
+  behind (Literal l bs) t = false
+  behind (Enclosed l e) t = false
+  behind (Subscript l a i) t = false
+  behind (Called l f es) t = false
+  behind (Selected l op a n) t = false
+  behind (Stepped l op a) t = false
+  behind (Prefixed l op a) t = extends (operand_level op) (rank a) t || behind a t
+  behind (SizedExpr l a) t = extends 14 (rank a) t || behind a t
+  behind (SizedType l n) t = false
+  behind (Converted l n a) t = extends 13 (rank a) t || behind a t
+  behind (Combined l op a b) t = extends (level_of op + 1) (rank b) t || behind b t
+  behind (Chosen l a b c) t = extends 2 (rank c) t || behind c t
+  behind (Assigned l op a b) t = extends 1 (rank b) t || behind b t
+  behind (Sequence l es) t = behind_last es t false
+
+  -- the last one's, where there is one
+  pub behind_last : ExprTrees → Lexeme → Bool → Bool
+  behind_last NoExprs t other = other
+  behind_last (Exprs e es) t other = behind_last es t (extends 1 (rank e) t || behind e t)
+
+-- the token goes on from the expression, which is of the level, 1 or more
+abbrev pub goes_on : ℕ → ExprTree → Lexeme → Bool
+goes_on level e t = extends level (rank e) t || behind e t
+
+-- the same of an expression of level 0, from which a comma goes on
+abbrev pub goes_on_whole : ExprTree → Lexeme → Bool
+goes_on_whole e t = is_sign 45 t || goes_on 1 e t
+
+-- what is next doesn't go on from the expression
+abbrev pub Stops : ℕ → ExprTree → List Mark → Type 0
+Stops level e r = (t : Lexeme) → next r ≡ Some t → goes_on level e t ≡ false
+
+abbrev pub StopsWhole : ExprTree → List Mark → Type 0
+StopsWhole e r = (t : Lexeme) → next r ≡ Some t → goes_on_whole e t ≡ false

@@ -1,0 +1,34 @@
+use crate::expr::{Declarator, Specifiers};
+use crate::statement::{Block, Declaration};
+use lcc_base::Items;
+
+/// A translation unit: external declarations, at least one. Source: C89 3.7.
+#[derive(Drop)]
+pub struct Unit {
+    /// The line of its first token.
+    pub line: u32,
+    pub externals: Items<External>,
+}
+
+/// An external declaration. Source: C89 3.7.
+#[derive(Drop)]
+pub struct External {
+    /// The line of its first token.
+    pub line: u32,
+    pub form: ExternalForm,
+}
+
+/// What an external declaration is.
+#[derive(Drop)]
+pub enum ExternalForm {
+    /// A function's definition, with the declarations of old-style parameters.
+    Function {
+        specifiers: Option<Specifiers>,
+        declarator: Declarator,
+        parameters: Items<Declaration>,
+        body: Block,
+    },
+    Declaration(Declaration),
+    /// A lone `;`, which isn't the first.
+    Empty,
+}
