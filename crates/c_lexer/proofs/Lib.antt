@@ -9,3 +9,4 @@ mod Starts
 mod Lists
 mod Lengths
 mod Values
+pub mod OneUnit

@@ -15,3 +15,4 @@ pub mod Readings
 pub mod Tokens
 pub mod LexerState
 pub mod Texts
+pub mod SourceUnits

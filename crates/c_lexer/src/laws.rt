@@ -8,6 +8,10 @@ ghost use Rattle.c_lexer.specs.Runs.{run};
 ghost use Rattle.c_lexer.specs.LongestSigns.{longest_sign};
 ghost use Rattle.c_lexer.specs.Characters.{Characters, Values};
 ghost use Rattle.c_lexer.specs.Tokens.{Answer, Cuts, AreTokens};
+ghost use Rattle.c_ast.specs.Trees.{UnitTree};
+ghost use Rattle.c_lexer.specs.SourceUnits.{DenotesUnit};
+
+use c_ast::one_unit;
 
 /// From one place a source is cut in one way: one answer, and one place behind it.
 pub fn one_cut()
@@ -31,3 +35,10 @@ pub fn one_text()
     ensures some { (quote : ℕ) (bytes : List ℕ) (x : ℕ × ℕ) → Characters quote bytes (Ok x) → (vs : List ℕ) × Values quote bytes vs × (length vs ≡ x.0) }
     ensures one { (quote : ℕ) (bytes vs ws : List ℕ) → Values quote bytes vs → Values quote bytes ws → vs ≡ ws }
 {}
+
+/// A source denotes at most one unit of C's grammar.
+pub fn one_source_unit()
+    ensures { (source : List ℕ) (u v : UnitTree) → DenotesUnit source u → DenotesUnit source v → u ≡ v }
+{
+    one_unit();
+}

@@ -22,7 +22,7 @@ mod start;
 mod tests;
 mod token;
 
-pub use laws::{longest, one_cut, one_list, one_text};
+pub use laws::{longest, one_cut, one_list, one_source_unit, one_text};
 pub use lex_fault::{LexFault, LexFaultKind};
 pub use lexer::Lexer;
 pub use place::Place;
