@@ -11,5 +11,5 @@ pub mod FoundDeclarators
 pub mod FoundUnits
 pub mod Rounds
 pub mod MarkLaws
-pub mod Tests
+pub mod Questions
 pub mod OnePieces
