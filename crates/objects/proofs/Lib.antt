@@ -1,0 +1,4 @@
+mod Examples
+pub mod Holding
+pub mod KnownLoads
+pub mod Wholes

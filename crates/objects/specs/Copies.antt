@@ -1,0 +1,25 @@
+-- A structure assigned: its bytes are copied, unknown ones too.
+-- Source: ISO/IEC 9899:1990, 6.3.16.1.
+use Rattle.std.specs.Prelude.{ℕ, List, [], ◌∷◌, Option, Some, None, Result}
+use Rattle.lcc_base.specs.declared.cause.Cause.{Cause}
+use Rattle.lcc_base.specs.declared.cause.Cause.TheVariants.{Overlap}
+use Rattle.objects.specs.declared.value.Value.{Value}
+use Rattle.objects.specs.Objects.{Object}
+use Rattle.objects.specs.Causes.{first_cause, unless, overlaps_in_part}
+use Rattle.objects.specs.Accesses.{read_cause, write_cause, bytes_through, stored_through}
+
+-- the first cause of these
+abbrev pub or_cause : Option Cause → Option Cause → Option Cause
+or_cause None other = other
+or_cause (Some c) other = Some c
+
+-- why it isn't assigned: its source can't be read, its target can't be written, or they overlap in part
+abbrev pub copy_cause : List Object → Value → Value → ℕ → ℕ → Option Cause
+copy_cause objects from to size alignment =
+    or_cause (read_cause objects from size alignment)
+    (or_cause (write_cause objects to size alignment) (first_cause ((overlaps_in_part size from to, Overlap) ∷ [])))
+
+-- the objects once so many bytes are copied
+abbrev pub copied : List Object → Value → Value → ℕ → ℕ → Result (List Object) Cause
+copied objects from to size alignment =
+    unless (copy_cause objects from to size alignment) (stored_through objects to (bytes_through objects from size))

@@ -1,0 +1,37 @@
+//! Values, bytes and objects of C programs: what is read and written, what is undefined and why, and
+//! arithmetic on words.
+#![tactic(auto)]
+
+mod arithmetic;
+mod byte;
+mod conversions;
+mod field;
+mod fields;
+mod laws;
+mod object;
+mod operators;
+mod pointers;
+mod scalars;
+mod slices;
+#[cfg(test)]
+mod tests;
+mod value;
+mod width;
+
+pub use arithmetic::{binary, compare, test_integer, unary};
+pub use byte::Byte;
+pub use conversions::{convert, extend, to_scalar};
+pub use field::Field;
+pub use fields::{read_field, write_field};
+pub use laws::{
+    bits_are_written, bytes_are_written, fields_are_read_back, scalars_are_read_back,
+    written_scalars_are_read,
+};
+pub use object::Object;
+pub use operators::{Binary, Comparison, Unary};
+pub use pointers::{
+    compare_pointers, move_pointer, order_pointers, subtract_pointers, test_pointer,
+};
+pub use scalars::{half_bytes, parts, same_object, same_whole, scalar, word_bytes};
+pub use value::{ObjectName, Value};
+pub use width::{Scalar, Width};

@@ -1,0 +1,230 @@
+//! An object: its bytes as values, with masks of known bits only where a bit is unknown, and bytes of
+//! pointers and functions only where there are any.
+ghost use Rattle.std.specs.Prelude.{◌≡◌, ◌<◌, ◌≤◌, ◌+◌, ◌^◌, ℕ, [], ◌∷◌, Some, length, take, drop, map, replicate, slice_get, IfOk, OnOk, OnErr};
+ghost use Rattle.objects.specs.Bytes.{known_bytes, number_bytes};
+ghost use Rattle.objects.specs.Objects.{with_bytes};
+ghost use Rattle.objects.specs.Scalars.{scalar_of};
+ghost use Rattle.objects.specs.Values.{bytes_in};
+ghost use Rattle.objects.specs.declared.byte.Byte.TheVariants.{Bits};
+
+use crate::conversions::to_scalar;
+use crate::scalars::{half_bytes, scalar as scalar_in, word_bytes};
+use crate::slices::{complete, number_at, paste, shown};
+use crate::{Byte, Scalar, Value, Width};
+use lcc_base::{Cause, Memory, Order};
+use std::alloc::Global;
+use std::collections::BTreeMap;
+use std::marker::Model;
+
+/// An object in its lifetime, which contracts see as how many were made before it, whether it may not be
+/// written, and its bytes.
+#[derive(Drop)]
+pub struct Object {
+    made: u64,
+    constant: bool,
+    values: Vec<u8>,
+    masks: Vec<u8>,
+    parts: BTreeMap<u32, Byte<Value>>,
+}
+
+impl Model for Object {
+    ghost use Rattle.std.specs.BTreeMap.{get};
+    ghost use Rattle.std.specs.Ordering.{nat_cmp};
+    ghost use Rattle.objects.specs.Held.{held, IsHeld};
+    ghost use Rattle.objects.specs.Objects as spec;
+
+    ghost Value = { spec.Object };
+
+    ghost view = { λ o. record { made = o.made; constant = o.constant; bytes = held (get nat_cmp o.parts) 0 o.values.items o.masks.items } };
+
+    ghost invariant = { λ o. IsHeld o.values.items o.masks.items };
+}
+
+impl Object {
+    /// An object of zero bytes.
+    pub fn zeroed(alloc: Global, made: u64, constant: bool, size: u32) -> Result<Self, Memory>
+        ensures { IfOk result (λ o. o ≡ record { made = made; constant = constant; bytes = replicate size (Bits 255 0) }) }
+    {
+        let values = vec![in alloc; 0u8; size as usize]?;
+        Ok(Object {
+            made,
+            constant,
+            values,
+            masks: Vec::new(alloc),
+            parts: BTreeMap::new(alloc),
+        })
+    }
+
+    /// An object of unknown bytes.
+    pub fn unknown(alloc: Global, made: u64, constant: bool, size: u32) -> Result<Self, Memory>
+        ensures { IfOk result (λ o. o ≡ record { made = made; constant = constant; bytes = replicate size (Bits 0 0) }) }
+    {
+        let values = vec![in alloc; 0u8; size as usize]?;
+        let masks = vec![in alloc; 0u8; size as usize]?;
+        Ok(Object {
+            made,
+            constant,
+            values,
+            masks,
+            parts: BTreeMap::new(alloc),
+        })
+    }
+
+    /// How many objects were made before it.
+    pub fn made(&self) -> u64
+        ensures { result ≡ self.now.made }
+    {
+        self.made
+    }
+
+    /// Whether it may not be written.
+    pub fn is_constant(&self) -> bool
+        ensures { result ≡ self.now.constant }
+    {
+        self.constant
+    }
+
+    /// How many bytes it has.
+    pub fn size(&self) -> u32
+        ensures { result ≡ length self.now.bytes }
+    {
+        self.values.len() as u32
+    }
+
+    /// The byte at a place.
+    pub fn byte(&self, place: u32) -> Byte<Value>
+        requires { place < length self.now.bytes }
+        ensures { slice_get self.now.bytes place ≡ Some result }
+    {
+        let at = place as usize;
+        let value = self.values[at];
+        if self.masks.is_empty() {
+            Byte::Bits { known: 255, value }
+        } else {
+            shown(&self.parts, place, self.masks[at], value)
+        }
+    }
+
+    /// Sets the byte at a place. After `Memory` the object is as before.
+    pub fn set(&mut self, place: u32, byte: Byte<Value>) -> Result<(), Memory>
+        requires { place < length self.old.bytes }
+        ensures ok { OnOk result (self.new ≡ with_bytes self.old place (byte ∷ [])) }
+        ensures err { OnErr result (self.new ≡ self.old) }
+    {
+        match byte {
+            Byte::Bits { known: 255, value } => {
+                self.set_known(place, value);
+                Ok(())
+            }
+            Byte::Bits { known, value } => self.set_bits(place, known, value),
+            Byte::Part { .. } => self.set_part(place, byte),
+        }
+    }
+
+    /// Sets the byte at a place, all of whose bits are known.
+    fn set_known(&mut self, place: u32, value: u8)
+        requires { place < length self.old.bytes }
+        ensures { self.new ≡ with_bytes self.old place (Bits 255 value ∷ []) }
+    {
+        let at = place as usize;
+        self.values[at] = value;
+        if !self.masks.is_empty() {
+            self.masks[at] = 255;
+        }
+    }
+
+    /// Sets the byte at a place, some of whose bits are known.
+    fn set_bits(&mut self, place: u32, known: u8, value: u8) -> Result<(), Memory>
+        requires { place < length self.old.bytes }
+        ensures ok { OnOk result (self.new ≡ with_bytes self.old place (Bits known value ∷ [])) }
+        ensures err { OnErr result (self.new ≡ self.old) }
+    {
+        let at = place as usize;
+        complete(&mut self.masks, self.values.len())?;
+        self.parts.remove(&place);
+        self.values[at] = value;
+        self.masks[at] = known;
+        Ok(())
+    }
+
+    /// Sets the byte at a place to one of a pointer or function.
+    fn set_part(&mut self, place: u32, part: Byte<Value>) -> Result<(), Memory>
+        requires { place < length self.old.bytes }
+        ensures ok { OnOk result (self.new ≡ with_bytes self.old place (part ∷ [])) }
+        ensures err { OnErr result (self.new ≡ self.old) }
+    {
+        let at = place as usize;
+        complete(&mut self.masks, self.values.len())?;
+        self.parts.insert(place, part)?;
+        self.values[at] = 0;
+        self.masks[at] = 0;
+        Ok(())
+    }
+
+    /// Sets the bytes from a place on, all of whose bits are known.
+    fn set_all_known(&mut self, place: u32, bytes: &[u8], full: &[u8])
+        requires inside { place + length bytes.now ≤ length self.old.bytes }
+        requires full { full.now ≡ replicate (length bytes.now) 255 }
+        ensures { self.new ≡ with_bytes self.old place (known_bytes bytes.now) }
+    {
+        let at = place as usize;
+        paste(&mut self.values, at, bytes);
+        if !self.masks.is_empty() {
+            paste(&mut self.masks, at, full);
+        }
+    }
+
+    /// Stores the low bytes of a number.
+    pub fn store_number(&mut self, order: Order, width: Width, place: u32, n: u32)
+        requires { place + bytes_in width ≤ length self.old.bytes }
+        ensures { self.new ≡ with_bytes self.old place (known_bytes (number_bytes order (bytes_in width) n)) }
+    {
+        match width {
+            Width::One => self.set_all_known(place, &[(n & 0xff) as u8], &[255]),
+            Width::Two => self.set_all_known(place, &half_bytes(order, n), &[255, 255]),
+            Width::Four => {
+                self.set_all_known(place, &word_bytes(order, n), &[255, 255, 255, 255])
+            }
+        }
+    }
+
+    /// The scalar of a type at a place. `Unknown` where a bit is unknown, else `PointerBytes` where some
+    /// bytes are those of pointers or functions, and not all of one in order.
+    pub fn load(&self, order: Order, scalar: Scalar, place: u32) -> Result<Value, Cause>
+        requires { place + bytes_in scalar.width ≤ length self.now.bytes }
+        ensures { result ≡ scalar_of order scalar (take (bytes_in scalar.width) (drop place self.now.bytes)) }
+    {
+        if self.masks.is_empty() {
+            let n = number_at(&self.values, order, scalar.width, place as usize);
+            return Ok(Value::Number(to_scalar(scalar, n)));
+        }
+        match scalar.width {
+            Width::One => scalar_in(order, scalar, &[self.byte(place)]),
+            Width::Two => scalar_in(order, scalar, &self.pair(place)),
+            Width::Four => scalar_in(order, scalar, &self.unit(place)),
+        }
+    }
+
+    /// Two bytes from a place on.
+    fn pair(&self, place: u32) -> [Byte<Value>; 2]
+        requires { place + 2 ≤ length self.now.bytes }
+        ensures { result ≡ take 2 (drop place self.now.bytes) }
+    {
+        let _ = &self.made;
+        [self.byte(place), self.byte(place + 1)]
+    }
+
+    /// Four bytes from a place on.
+    pub fn unit(&self, place: u32) -> [Byte<Value>; 4]
+        requires { place + 4 ≤ length self.now.bytes }
+        ensures { result ≡ take 4 (drop place self.now.bytes) }
+    {
+        let _ = &self.made;
+        [
+            self.byte(place),
+            self.byte(place + 1),
+            self.byte(place + 2),
+            self.byte(place + 3),
+        ]
+    }
+}

@@ -1,0 +1,65 @@
+//! Bytes written over others, and masks.
+ghost use Rattle.std.specs.Prelude.{◌≡◌, ◌≤◌, ◌+◌, ◌==◌, length, take, drop, replicate, OnOk, OnErr, if◌then◌else◌};
+ghost use Rattle.std.specs.BTreeMap.{get};
+ghost use Rattle.std.specs.Ordering.{nat_cmp};
+ghost use Rattle.objects.specs.Held.{shown as shown_byte};
+ghost use Rattle.lcc_base.specs.NumberIn.{number_in};
+ghost use Rattle.objects.specs.Objects.{overwritten};
+ghost use Rattle.objects.specs.Values.{bytes_in};
+
+use crate::{Byte, Value, Width};
+use lcc_base::{Memory, Order, join};
+use std::collections::BTreeMap;
+
+/// Writes bytes over those of a vector, from a place on.
+pub fn paste(bytes: &mut Vec<u8>, at: usize, new: &[u8])
+    requires { at + length new.now ≤ length bytes.old.items }
+    ensures { bytes.new.items ≡ overwritten at new.now bytes.old.items }
+{
+    paste_slice(bytes, at, new);
+}
+
+/// Writes bytes over those from a place on.
+fn paste_slice(bytes: &mut [u8], at: usize, new: &[u8])
+    requires { at + length new.now ≤ length bytes.old }
+    ensures { bytes.new ≡ overwritten at new.now bytes.old }
+{
+    bytes[at..at + new.len()].copy_from_slice(new);
+}
+
+/// Makes so many masks, full, if there are none. After `Memory` they are as before.
+pub fn complete(masks: &mut Vec<u8>, count: usize) -> Result<(), Memory>
+    ensures ok { OnOk result (masks.new.items ≡ (if length masks.old.items == 0 then replicate count 255 else masks.old.items)) }
+    ensures err { OnErr result (masks.new.items ≡ masks.old.items) }
+{
+    if masks.is_empty() {
+        let alloc = *masks.allocator();
+        *masks = vec![in alloc; 255u8; count]?;
+    }
+    Ok(())
+}
+
+/// The byte at a place, given its mask and its value.
+pub fn shown(parts: &BTreeMap<u32, Byte<Value>>, place: u32, known: u8, value: u8) -> Byte<Value>
+    ensures { result ≡ shown_byte (get nat_cmp parts.now place) known value }
+{
+    if known != 0 {
+        return Byte::Bits { known, value };
+    }
+    match parts.get(&place) {
+        Some(part) => *part,
+        None => Byte::Bits { known, value },
+    }
+}
+
+/// The unsigned number of so many bytes from a place on.
+pub fn number_at(bytes: &[u8], order: Order, width: Width, at: usize) -> u32
+    requires { at + bytes_in width ≤ length bytes.now }
+    ensures { result ≡ number_in order (take (bytes_in width) (drop at bytes.now)) }
+{
+    match width {
+        Width::One => join(order, &bytes[at..at + 1]),
+        Width::Two => join(order, &bytes[at..at + 2]),
+        Width::Four => join(order, &bytes[at..at + 4]),
+    }
+}

@@ -1,0 +1,279 @@
+//! Values and bytes worked out by hand.
+use crate::*;
+use lcc_base::{Cause, Order};
+use std::cmp::Ordering;
+use std::test::Fail;
+
+const ZERO: Byte<Value> = Byte::Bits {
+    known: 255,
+    value: 0,
+};
+
+const UNKNOWN: Byte<Value> = Byte::Bits { known: 0, value: 0 };
+
+const OBJECT: ObjectName = ObjectName {
+    place: 3,
+    made: 7,
+    size: 12,
+};
+
+const OTHER: ObjectName = ObjectName {
+    place: 3,
+    made: 8,
+    size: 12,
+};
+
+fn known(value: u8) -> Byte<Value> {
+    Byte::Bits { known: 255, value }
+}
+
+fn at(object: ObjectName, offset: u32) -> Value {
+    Value::Pointer { object, offset }
+}
+
+fn typed(width: Width, signed: bool) -> Scalar {
+    Scalar { width, signed }
+}
+
+#[test]
+fn numbers_of_bytes(rt: HostRuntime) -> Result<(), Fail> {
+    let bytes = [known(0x81), known(0x02), known(0x03), known(0xf4)];
+    let rows = [
+        (Order::Big, Width::One, true, 0xffff_ff81),
+        (Order::Big, Width::One, false, 0x81),
+        (Order::Big, Width::Two, true, 0xffff_8102),
+        (Order::Big, Width::Two, false, 0x8102),
+        (Order::Big, Width::Four, true, 0x8102_03f4),
+        (Order::Little, Width::One, true, 0xffff_ff81),
+        (Order::Little, Width::One, false, 0x81),
+        (Order::Little, Width::Two, true, 0x0281),
+        (Order::Little, Width::Two, false, 0x0281),
+        (Order::Little, Width::Four, false, 0xf403_0281),
+    ];
+    for (order, width, signed, number) in rows {
+        let count = width.bytes() as usize;
+        let read = scalar(order, typed(width, signed), &bytes[..count]);
+        assert_eq!(rt; read, Ok(Value::Number(number)));
+    }
+    Ok(())
+}
+
+#[test]
+fn bytes_that_are_no_number(rt: HostRuntime) -> Result<(), Fail> {
+    let half = typed(Width::Two, true);
+    let word = typed(Width::Four, false);
+    let pointer = at(OBJECT, 12);
+    for order in [Order::Big, Order::Little] {
+        let [a, b, c, d] = parts(order, pointer);
+        assert_eq!(rt; scalar(order, word, &[a, b, c, d]), Ok(pointer));
+        assert_eq!(rt;
+            scalar(order, word, &[a, b, d, c]),
+            Err(Cause::PointerBytes)
+        );
+        assert_eq!(rt;
+            scalar(order, word, &[a, b, c, ZERO]),
+            Err(Cause::PointerBytes)
+        );
+        assert_eq!(rt;
+            scalar(order, word, &[a, b, c, UNKNOWN]),
+            Err(Cause::Unknown)
+        );
+        assert_eq!(rt; scalar(order, half, &[a, b]), Err(Cause::PointerBytes));
+        assert_eq!(rt; scalar(order, half, &[ZERO, UNKNOWN]), Err(Cause::Unknown));
+        let [e, f, g, h] = parts(order, at(OTHER, 12));
+        assert_eq!(rt;
+            scalar(order, word, &[a, b, g, h]),
+            Err(Cause::PointerBytes)
+        );
+        assert_eq!(rt; scalar(order, word, &[e, f, g, h]), Ok(at(OTHER, 12)));
+    }
+    let [a, b, c, d] = parts(Order::Big, Value::Function(5));
+    assert_eq!(rt;
+        scalar(Order::Big, word, &[a, b, c, d]),
+        Ok(Value::Function(5))
+    );
+    assert_eq!(rt;
+        scalar(Order::Little, word, &[a, b, c, d]),
+        Err(Cause::PointerBytes)
+    );
+    Ok(())
+}
+
+#[test]
+fn a_union_of_fields_and_a_word(rt: HostRuntime) -> Result<(), Fail> {
+    let field = Field {
+        first: 0,
+        width: 4,
+        signed: false,
+    };
+    for (order, number) in [(Order::Little, 0), (Order::Big, 9)] {
+        let unit = write_field(order, field, 9, &[ZERO, ZERO, ZERO, ZERO]);
+        assert_eq!(rt; read_field(order, field, &unit), Ok(Value::Number(9)));
+        let word = scalar(order, typed(Width::Four, false), &unit)?;
+        let shifted = binary(false, Binary::ShiftRight, word, Value::Number(28));
+        assert_eq!(rt; shifted, Ok(Value::Number(number)));
+    }
+    Ok(())
+}
+
+#[test]
+fn fields_beside_others(rt: HostRuntime) -> Result<(), Fail> {
+    let [_, part, ..] = parts(Order::Big, Value::Function(7));
+    let field = Field {
+        first: 4,
+        width: 8,
+        signed: true,
+    };
+    let unit = write_field(
+        Order::Big,
+        field,
+        0xa5,
+        &[known(255), part, known(1), UNKNOWN],
+    );
+    let wanted = [
+        known(0xfa),
+        Byte::Bits {
+            known: 0xf0,
+            value: 0x50,
+        },
+        known(1),
+        UNKNOWN,
+    ];
+    assert_eq!(rt; unit, wanted);
+    assert_eq!(rt;
+        read_field(Order::Big, field, &unit),
+        Ok(Value::Number(0xffff_ffa5))
+    );
+    let next = Field {
+        first: 12,
+        width: 1,
+        signed: false,
+    };
+    assert_eq!(rt; read_field(Order::Big, next, &unit), Err(Cause::Unknown));
+    let before = read_field(Order::Big, field, &[known(255), part, known(1), UNKNOWN]);
+    assert_eq!(rt; before, Err(Cause::PointerBytes));
+    Ok(())
+}
+
+#[test]
+fn values_converted(rt: HostRuntime) -> Result<(), Fail> {
+    let rows = [
+        (Width::One, true, 0x1ff, 0xffff_ffff),
+        (Width::One, false, 0x1ff, 0xff),
+        (Width::Two, true, 0xffff_7fff, 0x7fff),
+        (Width::Two, true, 0x8000, 0xffff_8000),
+        (Width::Four, true, 0x8000_0000, 0x8000_0000),
+    ];
+    for (width, signed, from, to) in rows {
+        let value = convert(typed(width, signed), Value::Number(from));
+        assert_eq!(rt; value, Ok(Value::Number(to)));
+    }
+    let pointer = at(OBJECT, 0);
+    assert_eq!(rt; convert(typed(Width::Four, true), pointer), Ok(pointer));
+    assert_eq!(rt;
+        convert(typed(Width::Two, true), pointer),
+        Err(Cause::PointerNumber)
+    );
+    Ok(())
+}
+
+#[test]
+fn pointers_moved_and_compared(rt: HostRuntime) -> Result<(), Fail> {
+    let p = at(OBJECT, 8);
+    let null = Value::Number(0);
+    assert_eq!(rt; move_pointer(false, p, 4), Ok(at(OBJECT, 12)));
+    assert_eq!(rt; move_pointer(false, p, 5), Err(Cause::PointerRange));
+    assert_eq!(rt; move_pointer(false, p, -8), Ok(at(OBJECT, 0)));
+    assert_eq!(rt; move_pointer(false, p, -9), Err(Cause::PointerRange));
+    assert_eq!(rt; move_pointer(true, p, 0), Err(Cause::Dead));
+    assert_eq!(rt; move_pointer(false, null, 0), Ok(null));
+    assert_eq!(rt;
+        move_pointer(false, Value::Function(1), 1),
+        Err(Cause::PointerRange)
+    );
+    assert_eq!(rt; order_pointers(false, p, at(OBJECT, 9)), Ok(Ordering::Less));
+    assert_eq!(rt;
+        order_pointers(false, p, at(OTHER, 9)),
+        Err(Cause::PointerOrder)
+    );
+    assert_eq!(rt;
+        order_pointers(false, null, Value::Number(1)),
+        Ok(Ordering::Less)
+    );
+    assert_eq!(rt;
+        subtract_pointers(false, 4, at(OBJECT, 0), p),
+        Ok(Value::Number(0xffff_fffe))
+    );
+    assert_eq!(rt;
+        subtract_pointers(false, 3, at(OBJECT, 0), p),
+        Err(Cause::PointerOrder)
+    );
+    assert_eq!(rt; compare_pointers(false, p, at(OTHER, 8)), Ok(false));
+    assert_eq!(rt;
+        compare_pointers(false, at(OBJECT, 12), at(OTHER, 8)),
+        Err(Cause::PointerEqual)
+    );
+    assert_eq!(rt; compare_pointers(false, p, null), Ok(false));
+    assert_eq!(rt;
+        compare_pointers(false, p, Value::Number(1)),
+        Err(Cause::PointerEqual)
+    );
+    assert_eq!(rt; compare_pointers(true, p, null), Err(Cause::Dead));
+    assert_eq!(rt; test_pointer(false, p), Ok(true));
+    Ok(())
+}
+
+#[test]
+fn words_combined(rt: HostRuntime) -> Result<(), Fail> {
+    let rows = [
+        (true, Binary::Add, 0x7fff_ffff, 1, Ok(0x8000_0000)),
+        (true, Binary::Divide, 0xffff_fff9, 2, Ok(0xffff_fffd)),
+        (false, Binary::Divide, 0xffff_fff9, 2, Ok(0x7fff_fffc)),
+        (true, Binary::Remainder, 0xffff_fff9, 2, Ok(0xffff_ffff)),
+        (true, Binary::Divide, 1, 0, Err(Cause::ZeroDivisor)),
+        (
+            true,
+            Binary::Remainder,
+            0x8000_0000,
+            0xffff_ffff,
+            Err(Cause::DivideOverflow),
+        ),
+        (
+            false,
+            Binary::Remainder,
+            0x8000_0000,
+            0xffff_ffff,
+            Ok(0x8000_0000),
+        ),
+        (true, Binary::ShiftRight, 0x8000_0000, 31, Ok(0xffff_ffff)),
+        (false, Binary::ShiftRight, 0x8000_0000, 31, Ok(1)),
+        (true, Binary::ShiftLeft, 1, 32, Err(Cause::ShiftCount)),
+    ];
+    for (signed, op, x, y, wanted) in rows {
+        let value = binary(signed, op, Value::Number(x), Value::Number(y));
+        assert_eq!(rt; value, wanted.map(|n| Value::Number(n)));
+    }
+    let p = at(OBJECT, 0);
+    assert_eq!(rt;
+        binary(true, Binary::Divide, p, Value::Number(0)),
+        Err(Cause::ZeroDivisor)
+    );
+    assert_eq!(rt;
+        binary(true, Binary::Add, p, Value::Number(0)),
+        Err(Cause::PointerNumber)
+    );
+    assert_eq!(rt;
+        unary(Unary::Negate, Value::Number(1)),
+        Ok(Value::Number(0xffff_ffff))
+    );
+    assert_eq!(rt; unary(Unary::Plus, p), Err(Cause::PointerNumber));
+    let less = compare(
+        true,
+        Comparison::Less,
+        Value::Number(0xffff_ffff),
+        Value::Number(0),
+    );
+    assert_eq!(rt; less, Ok(true));
+    assert_eq!(rt; test_integer(p), Err(Cause::PointerNumber));
+    Ok(())
+}
