@@ -2,6 +2,8 @@
 //! which are compatible, their composites, and the conversions of arithmetic.
 #![tactic(auto)]
 
+mod compatible;
+mod conversions;
 mod definition;
 mod extent;
 mod form_key;
