@@ -11,5 +11,8 @@ pub mod FoundDeclarators
 pub mod FoundUnits
 pub mod Rounds
 pub mod MarkLaws
-pub mod Questions
+pub mod Tests
 pub mod OnePieces
+pub mod Tallest
+pub mod ValueHeights
+pub mod UnitValueHeights
