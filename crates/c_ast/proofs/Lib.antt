@@ -11,8 +11,5 @@ pub mod FoundDeclarators
 pub mod FoundUnits
 pub mod Rounds
 pub mod MarkLaws
-pub mod Tests
+pub mod Questions
 pub mod OnePieces
-pub mod Tallest
-pub mod ValueHeights
-pub mod UnitValueHeights

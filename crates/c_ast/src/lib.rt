@@ -7,18 +7,13 @@ mod keyword;
 mod laws;
 mod operator;
 mod pieces;
-mod print_expr;
-mod print_unit;
 mod sign;
 mod specifier;
 mod spelling;
 mod statement;
 #[cfg(test)]
 mod tests;
-mod token_text;
-mod tree_height;
 mod unit;
-mod unit_height;
 mod worked;
 
 pub use class::{Class, IntKind};
@@ -32,12 +27,10 @@ pub use operator::{
     AssignOperator, BinaryOperator, MemberOperator, PostfixOperator, PrefixOperator,
 };
 pub use pieces::{one_declaration, one_declarator, one_expression, one_statement, one_type};
-pub use print_unit::print;
 pub use sign::{sign_number, sign_text};
 pub use specifier::{BasicType, Qualifier, RecordKind, Storage};
 pub use statement::{
     Block, Declaration, InitDeclarator, Initialiser, InitialiserForm, Statement, StatementForm,
 };
 pub use unit::{External, ExternalForm, Unit};
-pub use unit_height::height;
 pub use worked::{nearest_if, scopes_and_types, typedef_names};

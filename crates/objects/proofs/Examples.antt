@@ -1,23 +1,19 @@
 -- Reads and writes worked out by hand.
-use Rattle.std.proofs.Common.{◌≡◌, ℕ, ◌^◌, ◌-◌, Bool, true, false, List, [], ◌∷◌, Option, Some, None, Result, Ok, Err, refl, pos, negsuc}
+use Rattle.std.proofs.Common.{◌≡◌, true, false, List, [], ◌∷◌, Ok, Err, refl, pos, negsuc}
 use Rattle.std.specs.Int.{int_wrap}
 use Rattle.lcc_base.specs.declared.order.Order.TheVariants.{Big, Little}
-use Rattle.lcc_base.specs.declared.cause.Cause.{Cause}
 use Rattle.lcc_base.specs.declared.cause.Cause.TheVariants as cause
-use Rattle.objects.specs.declared.byte.Byte.{Byte}
 use Rattle.objects.specs.declared.byte.Byte.TheVariants.{Bits, Part}
-use Rattle.objects.specs.declared.field.Field.{Field}
 use Rattle.objects.specs.declared.value.ObjectName.{ObjectName}
-use Rattle.objects.specs.declared.value.Value.{Value}
 use Rattle.objects.specs.declared.value.Value.TheVariants.{Number, Pointer, Function}
-use Rattle.objects.specs.declared.width.Width.TheVariants.{One, Two, Four}
+use Rattle.objects.specs.declared.width.Width.TheVariants.{Two, Four}
 use Rattle.objects.specs.declared.width.Scalar.{Scalar}
 use Rattle.objects.specs.Objects.{Object}
-use Rattle.objects.specs.Scalars.{scalar_bytes, scalar_of}
+use Rattle.objects.specs.Scalars.{scalar_bytes}
 use Rattle.objects.specs.Fields.{field_in, with_field}
 use Rattle.objects.specs.Accesses.{read, written, field_read}
 use Rattle.objects.specs.Copies.{copied}
-use Rattle.objects.specs.Pointers.{moved, ordered, subtracted, compared}
+use Rattle.objects.specs.Pointers.{moved, subtracted, compared}
 
 -- 0x01020304 in both orders
 big_word : scalar_bytes Big Four (Number 16909060) ≡ Bits 255 1 ∷ Bits 255 2 ∷ Bits 255 3 ∷ Bits 255 4 ∷ []

@@ -1,5 +1,5 @@
 -- What an object keeps for its bytes: what is at a place, and what a change there changes.
-use Rattle.std.proofs.Common.{◌≡◌, ◌≢◌, ◌≤◌, ◌<◌, ◌⊎◌, inl, inr, ℕ, zero, suc, ◌+◌, ◌-◌, ◌==◌, Bool, true, false, cond, List, [], ◌∷◌, ◌++◌, length, take, drop, map, replicate, get_or, set, slice_get, Option, Some, None, Result, Ok, Err, OnErr, refl, sym, ap, ◌∙◌, arith, add-zero, if◌then◌else◌}
+use Rattle.std.proofs.Common.{◌≡◌, ◌≢◌, ◌≤◌, ◌<◌, ◌⊎◌, inl, inr, ℕ, zero, suc, ◌+◌, ◌==◌, Bool, true, false, List, [], ◌∷◌, ◌++◌, length, take, drop, map, replicate, get_or, set, slice_get, Option, Some, None, Result, Ok, Err, OnErr, refl, sym, ap, ◌∙◌, arith, add-zero, if◌then◌else◌}
 use Rattle.std.proofs.lemmas.Bool.{eqb-true, eqb-false}
 use Rattle.std.proofs.lemmas.List.{get_or_read, length-replicate}
 use Rattle.std.proofs.lemmas.Map.Lookups.{exact_unsigned}
@@ -7,7 +7,7 @@ use Rattle.std.specs.Ordering.{nat_cmp, is_eq}
 use Rattle.std.specs.declared.cmp.Ordering.{Ordering}
 use Rattle.std.specs.declared.cmp.Ordering.TheVariants.{Less, Equal, Greater}
 use Rattle.objects.specs.declared.byte.Byte.{Byte}
-use Rattle.objects.specs.declared.byte.Byte.TheVariants.{Bits, Part}
+use Rattle.objects.specs.declared.byte.Byte.TheVariants.{Bits}
 use Rattle.objects.specs.declared.value.Value.{Value}
 use Rattle.objects.specs.Bytes.{known_bytes}
 use Rattle.objects.specs.Held.{held, shown}

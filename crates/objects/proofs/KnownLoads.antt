@@ -1,6 +1,6 @@
 -- The scalar of bytes all of whose bits are known is their number.
-use Rattle.std.proofs.Common.{◌≡◌, ◌≤◌, ℕ, suc, ◌+◌, ◌-◌, Bool, true, false, List, [], ◌∷◌, ◌++◌, length, take, drop, map, reverse, Option, Some, None, is_none, Result, Ok, refl, sym, ap, ◌∙◌, arith, ◌&&◌}
-use Rattle.std.proofs.lemmas.List.{take-map, drop-map, map-append, reverse-append, nil_from_length}
+use Rattle.std.proofs.Common.{◌≡◌, ℕ, Bool, false, List, [], ◌∷◌, ◌++◌, length, take, drop, map, reverse, Option, None, is_none, Ok, refl, sym, ap, ◌∙◌, arith, ◌&&◌}
+use Rattle.std.proofs.lemmas.List.{take-map, drop-map, map-append, reverse-append}
 use Rattle.lcc_base.specs.declared.order.Order.{Order}
 use Rattle.lcc_base.specs.declared.order.Order.TheVariants.{Big, Little}
 use Rattle.lcc_base.specs.declared.cause.Cause.TheVariants.{Unknown, PointerBytes}

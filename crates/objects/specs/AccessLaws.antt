@@ -1,5 +1,5 @@
 -- What was written through a pointer is read back through it, as the value converted to its type.
-use Rattle.std.specs.Prelude.{◌≡◌, ◌≤◌, ◌<◌, ℕ, zero, suc, ◌+◌, ◌%◌, ◌==◌, ◌&&◌, not, nat_lt, Bool, true, false, List, [], ◌∷◌, length, take, drop, Option, Some, None, is_none, slice_get, Result, Ok, Err, if◌then◌else◌}
+use Rattle.std.specs.Prelude.{◌≡◌, ◌≤◌, ℕ, zero, suc, ◌+◌, ◌%◌, ◌==◌, ◌&&◌, not, nat_lt, Bool, true, false, List, [], ◌∷◌, length, take, drop, Option, Some, None, is_none, slice_get, Result, Ok, if◌then◌else◌}
 use Rattle.std.proofs.Common.{refl, sym, ap, subst, ◌∙◌, arith}
 use Rattle.std.proofs.lemmas.Bool.{eqb-true}
 use Rattle.lcc_base.specs.declared.order.Order.{Order}
@@ -18,7 +18,7 @@ use Rattle.objects.specs.Objects.{Object, is_named, if_named, object_of, content
 use Rattle.objects.specs.Causes.{first_cause, unless, is_outside, is_misaligned, is_dead, is_read_only, is_narrowed}
 use Rattle.objects.specs.Conversions.{converted}
 use Rattle.objects.specs.Scalars.{scalar_bytes, scalar_of}
-use Rattle.objects.specs.Accesses.{read_cause, write_cause, bytes_through, if_none, read, written}
+use Rattle.objects.specs.Accesses.{read_cause, write_cause, if_none, read, written}
 use Rattle.objects.specs.ByteLaws.{length-overwritten, reads_written}
 use Rattle.objects.specs.ScalarLaws.{read_back}
 

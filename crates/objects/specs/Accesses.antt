@@ -1,7 +1,7 @@
 -- Scalars and bit-fields read and written through pointers. Where several causes stand together, the first in this order is
 -- told: Outside, Misaligned, Dead, ReadOnly, and then of what is read Unknown and PointerBytes.
 -- Source: ISO/IEC 9899:1990, 6.3, 6.3.3.2, 6.3.16, in the profile of this compiler.
-use Rattle.std.specs.Prelude.{ℕ, Bool, List, [], ◌∷◌, Option, Some, None, Result, Ok, Err}
+use Rattle.std.specs.Prelude.{ℕ, List, [], ◌∷◌, Option, Some, None, Result, Err}
 use Rattle.lcc_base.specs.declared.order.Order.{Order}
 use Rattle.lcc_base.specs.declared.cause.Cause.{Cause}
 use Rattle.lcc_base.specs.declared.cause.Cause.TheVariants.{Outside, Misaligned, Dead, ReadOnly, PointerNumber}

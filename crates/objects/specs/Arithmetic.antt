@@ -2,7 +2,7 @@
 -- ZeroDivisor, DivideOverflow, ShiftCount, PointerNumber is told.
 -- Source: ISO/IEC 9899:1990, 6.3.3.3, 6.3.5 to 6.3.12: signed numbers wrap modulo 2^32, division truncates toward zero, the
 -- right shift of a negative number is arithmetic.
-use Rattle.std.specs.Prelude.{ℕ, ℤ, ◌+◌, ◌-◌, ◌*◌, ◌/◌, ◌%◌, ◌^◌, ◌==◌, ◌&&◌, ◌||◌, not, nat_lt, nat_le, int_lt, int_le, int_div, int_rem, bit_and, bit_or, bit_xor, Bool, true, false, List, [], ◌∷◌, Option, Some, None, Result, if◌then◌else◌}
+use Rattle.std.specs.Prelude.{ℕ, ℤ, ◌+◌, ◌-◌, ◌*◌, ◌/◌, ◌%◌, ◌^◌, ◌==◌, ◌&&◌, ◌||◌, not, nat_lt, int_lt, int_div, int_rem, bit_and, bit_or, bit_xor, Bool, true, false, [], ◌∷◌, Option, Some, None, Result, if◌then◌else◌}
 use Rattle.std.specs.Int.{cast_signed, cast_unsigned, w32, int_shr}
 use Rattle.lcc_base.specs.declared.cause.Cause.{Cause}
 use Rattle.lcc_base.specs.declared.cause.Cause.TheVariants.{ZeroDivisor, DivideOverflow, ShiftCount, PointerNumber}

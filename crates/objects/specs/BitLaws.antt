@@ -1,7 +1,7 @@
 -- Laws of a number with others in place of some of its bits: these bits are the new ones, each other bit is as before.
-use Rattle.std.specs.Prelude.{◌≡◌, ◌≤◌, ◌<◌, ◌⊎◌, ℕ, ◌+◌, ◌-◌, ◌*◌, ◌/◌, ◌%◌, ◌^◌}
+use Rattle.std.specs.Prelude.{◌≡◌, ◌≤◌, ◌<◌, ℕ, ◌+◌, ◌-◌, ◌*◌, ◌/◌, ◌%◌, ◌^◌}
 use Rattle.std.proofs.Common.{ap, sym, subst, ◌∙◌, arith}
-use Rattle.std.proofs.Math.Nat.{mul_comm, mul_assoc}
+use Rattle.std.proofs.Math.Nat.{mul_comm}
 use Rattle.std.proofs.lemmas.Nat.{mul-add-lt, pow-add, shr_below, mod_below, pow_pos, shr_high, mod_low, shr-shr, field_of, mod-pow-add}
 use Rattle.objects.specs.Causes.{bits_from}
 use Rattle.objects.specs.Fields.{with_bits}

@@ -1,6 +1,6 @@
 -- When a run is undefined by values, bytes and objects: each case as a test, under the name of its cause.
 -- Source: ISO/IEC 9899:1990, 6.2.2.3, 6.3 to 6.3.16, in the profile of this compiler.
-use Rattle.std.specs.Prelude.{ℕ, ℤ, pos, ◌+◌, ◌-◌, ◌*◌, ◌/◌, ◌%◌, ◌^◌, ◌+ℤ◌, ◌==◌, ◌&&◌, ◌||◌, not, nat_lt, nat_le, int_le, int_rem, Bool, true, false, List, [], ◌∷◌, map, Option, Some, None, is_none, Result, Ok, Err, if◌then◌else◌}
+use Rattle.std.specs.Prelude.{ℕ, ℤ, pos, ◌+◌, ◌-◌, ◌/◌, ◌%◌, ◌^◌, ◌+ℤ◌, ◌==◌, ◌&&◌, ◌||◌, not, nat_lt, int_le, int_rem, Bool, true, false, List, [], ◌∷◌, map, Option, Some, None, is_none, Result, Ok, Err, if◌then◌else◌}
 use Rattle.std.specs.Int.RustNames.{unsigned_abs}
 use Rattle.lcc_base.specs.declared.order.Order.{Order}
 use Rattle.lcc_base.specs.declared.cause.Cause.{Cause}
@@ -11,7 +11,7 @@ use Rattle.objects.specs.declared.value.Value.{Value}
 use Rattle.objects.specs.declared.value.Value.TheVariants.{Number, Pointer, Function}
 use Rattle.objects.specs.declared.width.Width.{Width}
 use Rattle.objects.specs.declared.width.Width.TheVariants.{One, Two, Four}
-use Rattle.objects.specs.Values.{same_object, same_whole}
+use Rattle.objects.specs.Values.{same_object}
 use Rattle.objects.specs.Bytes.{has_unknown_bits, has_parts, settled_of, part_bits_of, by_weight, whole_of}
 use Rattle.objects.specs.Objects.{Object, object_of, is_constant}
 

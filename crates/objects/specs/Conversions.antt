@@ -1,15 +1,14 @@
 -- Conversions between integer types of 1, 2 and 4 bytes and pointers. A number is kept as a word, modulo 2^32.
 -- Source: ISO/IEC 9899:1990, 6.2.1.2 and 6.3.4: a conversion to a narrower type keeps the low bits; one between a pointer
 -- and a 32-bit integer type keeps the pointer.
-use Rattle.std.specs.Prelude.{ℕ, ◌+◌, ◌-◌, ◌%◌, ◌^◌, nat_lt, Bool, List, [], ◌∷◌, Result, if◌then◌else◌}
+use Rattle.std.specs.Prelude.{ℕ, ◌+◌, ◌-◌, ◌%◌, ◌^◌, nat_lt, Bool, [], ◌∷◌, Result, if◌then◌else◌}
 use Rattle.lcc_base.specs.declared.cause.Cause.{Cause}
 use Rattle.lcc_base.specs.declared.cause.Cause.TheVariants.{PointerNumber}
 use Rattle.objects.specs.declared.value.Value.{Value}
 use Rattle.objects.specs.declared.value.Value.TheVariants.{Number, Pointer, Function}
-use Rattle.objects.specs.declared.width.Width.{Width}
 use Rattle.objects.specs.declared.width.Scalar.{Scalar}
 use Rattle.objects.specs.Values.{bits_in}
-use Rattle.objects.specs.Causes.{first_cause, unless, is_narrowed, is_no_number}
+use Rattle.objects.specs.Causes.{first_cause, unless, is_narrowed}
 
 -- the word of a number of so many bits, of which the highest is its sign
 abbrev pub sign_extended : ℕ → ℕ → ℕ

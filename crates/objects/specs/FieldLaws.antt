@@ -1,20 +1,18 @@
 -- A bit-field that was written is read back as the number of its width, whatever its unit held.
-use Rattle.std.specs.Prelude.{◌≡◌, ◌≤◌, ◌<◌, ℕ, suc, ◌+◌, ◌-◌, ◌*◌, ◌/◌, ◌%◌, ◌^◌, ◌==◌, not, Bool, true, false, List, [], ◌∷◌, map, length, Option, None, Result, Ok, if◌then◌else◌}
-use Rattle.std.proofs.Common.{refl, ap, sym, subst, ◌∙◌, arith}
+use Rattle.std.specs.Prelude.{◌≡◌, ◌≤◌, ◌<◌, ℕ, ◌+◌, ◌-◌, ◌/◌, ◌%◌, ◌^◌, ◌==◌, not, Bool, List, [], ◌∷◌, map, None, Ok, if◌then◌else◌}
+use Rattle.std.proofs.Common.{refl, ap, ◌∙◌, arith}
 use Rattle.std.proofs.Math.Nat.{mod-eq_of_lt}
 use Rattle.std.proofs.lemmas.Bool.{eq-eqb}
 use Rattle.std.proofs.lemmas.Nat.{pow_pos, shr_le}
 use Rattle.lcc_base.specs.declared.order.Order.{Order}
 use Rattle.lcc_base.specs.declared.order.Order.TheVariants.{Big, Little}
-use Rattle.lcc_base.specs.declared.cause.Cause.{Cause}
 use Rattle.lcc_base.specs.declared.cause.Cause.TheVariants.{Unknown, PointerBytes}
 use Rattle.lcc_base.specs.NumberIn.{number_in}
 use Rattle.objects.specs.declared.byte.Byte.{Byte}
-use Rattle.objects.specs.declared.byte.Byte.TheVariants.{Bits, Part}
 use Rattle.objects.specs.declared.field.Field.{Field}
 use Rattle.objects.specs.declared.value.Value.{Value}
 use Rattle.objects.specs.declared.value.Value.TheVariants.{Number}
-use Rattle.objects.specs.Bytes.{AreBytes, IsByte, settled_of, part_bits_of, known_of, value_of, number_bytes, number_of_bytes}
+use Rattle.objects.specs.Bytes.{settled_of, part_bits_of, known_of, value_of, number_bytes, number_of_bytes}
 use Rattle.objects.specs.Causes.{first_cause, unless, bits_from}
 use Rattle.objects.specs.Conversions.{sign_extended, extended}
 use Rattle.objects.specs.Fields.{shift_of, bits_of, with_bits, with_field, field_cause, field_in}

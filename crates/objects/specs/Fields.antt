@@ -1,7 +1,7 @@
 -- Bit-fields: some bits of a unit of four bytes.
 -- Source: ISO/IEC 9899:1990, 6.5.2.1: a unit is filled from its most significant bit where the first byte weighs most, and
 -- from the least significant one where it weighs least.
-use Rattle.std.specs.Prelude.{ℕ, ◌+◌, ◌-◌, ◌*◌, ◌/◌, ◌%◌, ◌^◌, Bool, List, [], ◌∷◌, map, Option, Result}
+use Rattle.std.specs.Prelude.{ℕ, ◌+◌, ◌-◌, ◌*◌, ◌/◌, ◌%◌, ◌^◌, List, [], ◌∷◌, map, Option, Result}
 use Rattle.lcc_base.specs.declared.order.Order.{Order}
 use Rattle.lcc_base.specs.declared.order.Order.TheVariants.{Big, Little}
 use Rattle.lcc_base.specs.declared.cause.Cause.{Cause}

@@ -1,6 +1,6 @@
 -- Objects in their lifetimes, and what is changed in them.
 -- Source: ISO/IEC 9899:1990, 3.14 (object), 6.1.2.4 (storage durations).
-use Rattle.std.specs.Prelude.{ℕ, zero, suc, ◌+◌, ◌==◌, ◌&&◌, Bool, false, List, [], ◌∷◌, length, take, drop, Option, Some, None, slice_get, if◌then◌else◌}
+use Rattle.std.specs.Prelude.{ℕ, zero, suc, ◌==◌, ◌&&◌, Bool, false, List, [], ◌∷◌, length, take, drop, Option, Some, None, slice_get, if◌then◌else◌}
 use Rattle.objects.specs.declared.byte.Byte.{Byte}
 use Rattle.objects.specs.declared.value.ObjectName.{ObjectName}
 use Rattle.objects.specs.declared.value.Value.{Value}

@@ -1,6 +1,6 @@
 -- Values of pointer type moved, ordered, subtracted, compared and tested. Dead goes before the other causes.
 -- Source: ISO/IEC 9899:1990, 6.3.6, 6.3.8, 6.3.9, in the profile of this compiler.
-use Rattle.std.specs.Prelude.{ℕ, ℤ, pos, ◌+◌, ◌-◌, ◌%◌, ◌^◌, ◌+ℤ◌, ◌-ℤ◌, ◌==◌, ◌&&◌, ◌||◌, not, nat_lt, int_div, Bool, true, false, List, [], ◌∷◌, Result}
+use Rattle.std.specs.Prelude.{ℕ, ℤ, pos, ◌+◌, ◌-◌, ◌%◌, ◌^◌, ◌+ℤ◌, ◌-ℤ◌, ◌==◌, ◌||◌, not, int_div, Bool, true, List, [], ◌∷◌, Result}
 use Rattle.std.specs.Int.{cast_signed, cast_unsigned, w32, int_wrap}
 use Rattle.std.specs.Int.RustNames.{unsigned_abs}
 use Rattle.std.specs.Ordering.{nat_cmp}
@@ -9,7 +9,7 @@ use Rattle.lcc_base.specs.declared.cause.Cause.{Cause}
 use Rattle.lcc_base.specs.declared.cause.Cause.TheVariants.{Dead, PointerRange, PointerOrder, PointerEqual}
 use Rattle.objects.specs.declared.value.Value.{Value}
 use Rattle.objects.specs.declared.value.Value.TheVariants.{Number, Pointer, Function}
-use Rattle.objects.specs.Values.{same_object, same_whole}
+use Rattle.objects.specs.Values.{same_whole}
 use Rattle.objects.specs.Objects.{Object}
 use Rattle.objects.specs.Causes.{first_cause, unless, is_dead, leaves_object, has_no_order, is_no_multiple, has_no_equality}
 

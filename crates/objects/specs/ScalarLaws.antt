@@ -1,23 +1,19 @@
 -- Laws of scalars: what was written is read back as the value converted to its type, in each width and order; and a word
 -- that was written by halves.
-use Rattle.std.specs.Prelude.{◌≡◌, ◌<◌, ◌≤◌, ℕ, ◌+◌, ◌-◌, ◌*◌, ◌%◌, ◌^◌, ◌==◌, ◌&&◌, Bool, true, false, nat_lt, List, [], ◌∷◌, ◌++◌, Result, Ok, Err, Option, Some, None, if◌then◌else◌}
+use Rattle.std.specs.Prelude.{◌≡◌, ◌<◌, ℕ, ◌+◌, ◌-◌, ◌*◌, ◌%◌, ◌^◌, ◌==◌, ◌&&◌, Bool, true, false, nat_lt, ◌++◌, Ok, if◌then◌else◌}
 use Rattle.std.proofs.Common.{refl, arith, ap, cond, ◌∙◌}
 use Rattle.std.proofs.lemmas.Bool.{eq-eqb}
 use Rattle.lcc_base.specs.declared.order.Order.{Order}
 use Rattle.lcc_base.specs.declared.order.Order.TheVariants.{Big, Little}
-use Rattle.lcc_base.specs.declared.cause.Cause.{Cause}
-use Rattle.lcc_base.specs.declared.cause.Cause.TheVariants.{PointerBytes}
 use Rattle.lcc_base.specs.NumberIn.{number_in}
-use Rattle.objects.specs.declared.byte.Byte.{Byte}
-use Rattle.objects.specs.declared.byte.Byte.TheVariants.{Bits, Part}
 use Rattle.objects.specs.declared.value.ObjectName.{ObjectName}
 use Rattle.objects.specs.declared.value.Value.{Value}
 use Rattle.objects.specs.declared.value.Value.TheVariants.{Number, Pointer, Function}
 use Rattle.objects.specs.declared.width.Width.{Width}
 use Rattle.objects.specs.declared.width.Width.TheVariants.{One, Two, Four}
 use Rattle.objects.specs.declared.width.Scalar.{Scalar}
-use Rattle.objects.specs.Values.{bytes_in, bits_in, same_object, same_whole}
-use Rattle.objects.specs.Bytes.{known_bytes, number_bytes, part_bytes}
+use Rattle.objects.specs.Values.{bits_in, same_object, same_whole}
+use Rattle.objects.specs.Bytes.{number_bytes, part_bytes}
 use Rattle.objects.specs.Conversions.{sign_extended, extended, as_type, converted}
 use Rattle.objects.specs.Scalars.{scalar_bytes, scalar_of}
 use Rattle.objects.specs.NumberLaws.{number_of_one, number_of_two, number_of_four, number_of_halves, by_order}

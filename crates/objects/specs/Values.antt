@@ -3,7 +3,7 @@
 use Rattle.std.specs.Prelude.{ℕ, ◌==◌, ◌&&◌, Bool, false}
 use Rattle.objects.specs.declared.value.ObjectName.{ObjectName}
 use Rattle.objects.specs.declared.value.Value.{Value}
-use Rattle.objects.specs.declared.value.Value.TheVariants.{Number, Pointer, Function}
+use Rattle.objects.specs.declared.value.Value.TheVariants.{Pointer, Function}
 use Rattle.objects.specs.declared.width.Width.{Width}
 use Rattle.objects.specs.declared.width.Width.TheVariants.{One, Two, Four}
 

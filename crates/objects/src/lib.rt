@@ -13,7 +13,6 @@ mod operators;
 mod pointers;
 mod scalars;
 mod slices;
-mod storage;
 #[cfg(test)]
 mod tests;
 mod value;
@@ -34,6 +33,5 @@ pub use pointers::{
     compare_pointers, move_pointer, order_pointers, subtract_pointers, test_pointer,
 };
 pub use scalars::{half_bytes, parts, same_object, same_whole, scalar, word_bytes};
-pub use storage::Storage;
 pub use value::{ObjectName, Value};
 pub use width::{Scalar, Width};

@@ -188,23 +188,6 @@ impl Object {
         }
     }
 
-    /// Sets the bytes from a place on. After `Memory` some of the first were set.
-    pub fn put(&mut self, place: u32, bytes: &[Byte<Value>]) -> Result<(), Memory>
-        requires { place + length bytes.now ≤ length self.old.bytes }
-        ensures ok { OnOk result (self.new ≡ with_bytes self.old place bytes.now) }
-        ensures err { OnErr result ((count : ℕ) × (self.new ≡ with_bytes self.old place (take count bytes.now))) }
-    {
-        match bytes {
-            [] => Ok(()),
-            [last] => self.set(place, *last),
-            [first, rest @ ..] => {
-                let _ = &self.made;
-                self.set(place, *first)?;
-                self.put(place + 1, rest)
-            }
-        }
-    }
-
     /// The scalar of a type at a place. `Unknown` where a bit is unknown, else `PointerBytes` where some
     /// bytes are those of pointers or functions, and not all of one in order.
     pub fn load(&self, order: Order, scalar: Scalar, place: u32) -> Result<Value, Cause>

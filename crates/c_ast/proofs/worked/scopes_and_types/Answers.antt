@@ -1,7 +1,7 @@
 use Rattle.std.proofs.Common.{refl}
 use Rattle.c_ast.specs.InForce.{nothing_in_force}
 use Rattle.c_ast.specs.UnitMarks.{unit}
-use Rattle.c_ast.proofs.Tests.{classed}
+use Rattle.c_ast.proofs.Questions.{classed}
 use Rattle.c_ast.specs.Examples.{prototype_ends, function_parameter, own_parameters, label, size_of_type, enumerator_later}
 use Rattle.c_ast.proofs.worked.scopes_and_types.Goals as goal
 

@@ -1,7 +1,7 @@
 use Rattle.std.proofs.Common.{refl}
 use Rattle.c_ast.specs.InForce.{nothing_in_force}
 use Rattle.c_ast.specs.UnitMarks.{unit}
-use Rattle.c_ast.proofs.Tests.{classed}
+use Rattle.c_ast.proofs.Questions.{classed}
 use Rattle.c_ast.specs.Examples.{hidden_difference, shown_cast}
 use Rattle.c_ast.proofs.worked.typedef_names.Goals as goal
 

@@ -1,4 +1,4 @@
-use Rattle.std.proofs.Common.{ap, sym, ◌∙◌, arith, inr}
+use Rattle.std.proofs.Common.{arith}
 use Rattle.std.specs.BTreeMap.{get}
 use Rattle.std.specs.Ordering.{nat_cmp}
 use Rattle.objects.proofs.Holding.{bytes_length, known_byte, masked_byte, all_masked, none_masked}

@@ -1,7 +1,6 @@
-use Rattle.std.proofs.Common.{◌≡◌, ◌<◌, ℕ, take, drop, ap, sym, ◌∙◌, arith, Ok}
+use Rattle.std.proofs.Common.{ℕ, take, drop, ap, sym, ◌∙◌, arith, Ok}
 use Rattle.std.specs.BTreeMap.{get}
 use Rattle.std.specs.Ordering.{nat_cmp}
-use Rattle.lcc_base.specs.NumberIn.{number_in}
 use Rattle.objects.specs.declared.value.Value.TheVariants.{Number}
 use Rattle.objects.specs.declared.width.Width.{Width}
 use Rattle.objects.specs.Conversions.{as_scalar}

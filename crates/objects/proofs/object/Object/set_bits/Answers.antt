@@ -1,7 +1,7 @@
-use Rattle.std.proofs.Common.{ap, sym, ◌∙◌, arith, inr}
+use Rattle.std.proofs.Common.{◌∙◌, arith}
 use Rattle.std.specs.BTreeMap.{get, get_by}
 use Rattle.std.specs.Ordering.{nat_cmp}
-use Rattle.objects.proofs.Holding.{bytes_length, masked_changed, completed_length, completed_view, parts_view, other_key, shown_none}
+use Rattle.objects.proofs.Holding.{bytes_length, masked_changed, completed_length, completed_view, other_key, shown_none}
 use Rattle.objects.proofs.object.Object.set_bits.Goals as goal
 
 pub index_mut-requires : goal.index_mut-requires

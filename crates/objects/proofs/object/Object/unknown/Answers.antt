@@ -1,4 +1,4 @@
-use Rattle.std.proofs.Common.{ap, sym, ◌∙◌, arith, inr, ◌≡◌, ℕ, replicate, None, rules}
+use Rattle.std.proofs.Common.{ap, ◌≡◌, replicate, rules}
 use Rattle.std.specs.BTreeMap.{get, is_at}
 use Rattle.std.specs.Map.{lookup}
 use Rattle.std.specs.Ordering.{nat_cmp}

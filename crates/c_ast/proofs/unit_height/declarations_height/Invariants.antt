@@ -1,7 +1,0 @@
-use Rattle.std.proofs.Common.{◌≡◌, max, drop}
-use Rattle.c_ast.specs.ValueHeights.{most}
-use Rattle.c_ast.specs.UnitValueHeights.{declaration_high}
-use Rattle.c_ast.proofs.unit_height.declarations_height.Given as goal
-
-abbrev pub invariant-loop-declaration : goal.invariant-loop-declaration
-invariant-loop-declaration l = max l.most (most declaration_high (drop l.declaration-index l.declarations)) ≡ most declaration_high l.declarations
