@@ -19,7 +19,10 @@ fn innermost_declaration(rt: HostRuntime) -> Result<(), Fail> {
     assert_eq!(rt; scopes.find(b"x"), Some(outer));
     assert_eq!(rt; scopes.find(b" x"), Some(tag));
     assert_eq!(rt; scopes.find(b"y"), None);
-    assert_eq!(rt; scopes.declare(b"x", symbol(Storage::Static, 3)), Err(Declare::Redeclared { old: outer }));
+    assert_eq!(rt;
+        scopes.declare(b"x", symbol(Storage::Static, 3)),
+        Err(Declare::Redeclared { old: outer })
+    );
     scopes.enter()?;
     assert_eq!(rt; scopes.find(b"x"), Some(outer));
     let inner = scopes.declare(b"x", symbol(Storage::Auto, 4))?;

@@ -17,8 +17,8 @@ or_none a = same_from_bits (bit_or a 0) a (λ i. bit_at_or a 0 i ∙ ap (λ z. m
 pub or_assoc : (a b c : ℕ) → bit_or (bit_or a b) c ≡ bit_or a (bit_or b c)
 or_assoc a b c =
     same_from_bits (bit_or (bit_or a b) c) (bit_or a (bit_or b c)) (λ i.
-        bit_at_or (bit_or a b) c i ∙ ap (λ z. max z (bit_at c i)) (bit_at_or a b i) ∙ max_assoc (bit_at a i) (bit_at b i) (bit_at c i)
-        ∙ sym (bit_at_or a (bit_or b c) i ∙ ap (λ z. max (bit_at a i) z) (bit_at_or b c i)))
+    bit_at_or (bit_or a b) c i ∙ ap (λ z. max z (bit_at c i)) (bit_at_or a b i) ∙ max_assoc (bit_at a i) (bit_at b i) (bit_at c i)
+    ∙ sym (bit_at_or a (bit_or b c) i ∙ ap (λ z. max (bit_at a i) z) (bit_at_or b c i)))
 
 pub qualify_none : (t : CType) → qualify 0 t ≡ t
 qualify_none (Plain q k) = ap (λ z. Plain z k) (or_none q)

@@ -51,8 +51,8 @@ definition_lookup t [] id o l g = refl
 definition_lookup t (e ∷ ds) id o l g = by (nat_eq id e.0) refl (number_test t id e.0 l g o.0 (open_tagged _ o.1)) (definition_lookup t ds id o.2 l g)
   where
     by : (b : Bool) → nat_eq id e.0 ≡ b → nat_eq (number_at t id) (number_at t e.0) ≡ nat_eq id e.0
-       → definition_of t (completed_in ds) (number_at t id) ≡ option_map (λ (d : Definition). record { place = id; members = d.members }) (lookup (nat_eq id) ds)
-       → definition_of t (completed_in (e ∷ ds)) (number_at t id) ≡ option_map (λ (d : Definition). record { place = id; members = d.members }) (lookup (nat_eq id) (e ∷ ds))
+        → definition_of t (completed_in ds) (number_at t id) ≡ option_map (λ (d : Definition). record { place = id; members = d.members }) (lookup (nat_eq id) ds)
+        → definition_of t (completed_in (e ∷ ds)) (number_at t id) ≡ option_map (λ (d : Definition). record { place = id; members = d.members }) (lookup (nat_eq id) (e ∷ ds))
     by true p n rest = let i : e.0 ≡ id = grind (arith, nat_tests) in rw (n, p) (ap (λ j. Some (record { place = j; members = e.1.members })) i)
     by false p n rest = rw (n, p) rest
 

@@ -120,7 +120,7 @@ module _ (basics : List TypeForm) (es : List (FormKey × Formed)) (ds : List (�
         formed = λ i e g. elim (push_cases es x i e g) [ inl j ↦ k.formed i e j | inr j ↦ rw j.1 u ];
         over = λ i e g. elim (push_cases es x i e g) [ inl j ↦ k.over i e j | inr j ↦ rw (j.0, j.1) o ];
         facts = λ i e g. elim (push_cases es x i e g) [
-            inl j ↦ fact_stays before_it (more before_it x.1.form) (10 + i) e.1.facts s (let w = slice_get_within es i e j in omega (arith, l, w)) (k.facts i e j)
+          | inl j ↦ fact_stays before_it (more before_it x.1.form) (10 + i) e.1.facts s (let w = slice_get_within es i e j in omega (arith, l, w)) (k.facts i e j)
           | inr j ↦ rw (j.0, j.1) (subst (λ n. IsFact (more before_it x.1.form) n x.1.facts) l (new_fact before_it x.1.form x.1.facts s u h))
         ];
         defined = λ i e g. definition_stays before_it (more before_it x.1.form) e.0 e.1 s (k.defined i e g);

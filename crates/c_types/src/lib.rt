@@ -2,8 +2,6 @@
 //! which are compatible, their composites, and the conversions of arithmetic.
 #![tactic(auto)]
 
-mod compatible;
-mod conversions;
 mod definition;
 mod extent;
 mod form_key;

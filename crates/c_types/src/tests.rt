@@ -1,35 +1,44 @@
 use super::*;
-use lcc_base::{Bytes, Items};
 use std::test::Fail;
 
-fn member(rt: HostRuntime, name: &[u8], of: TypeId, width: Option<u8>) -> Result<Member, Fail> {
-    let name = Bytes::copied(rt.alloc(), name)?;
-    Ok(Member { name, of, width })
+#[test]
+fn basic_types(rt: HostRuntime) -> Result<(), Fail> {
+    let types = TypeTable::new(rt.alloc());
+    assert_eq!(rt; types.size(0), None);
+    assert_eq!(rt; types.size(1), Some(1));
+    assert_eq!(rt; types.align(4), Some(2));
+    assert_eq!(rt; types.size(9), Some(4));
+    assert!(rt; matches!(types.form(6), TypeForm::Int));
+    assert_eq!(rt; types.members(6).len(), 0);
+    assert_eq!(rt; types.member(6, b"x"), None);
+    Ok(())
 }
 
 #[test]
-fn one_structure(rt: HostRuntime) -> Result<(), Fail> {
-    let alloc = rt.alloc();
-    let mut types = TypeTable::new(alloc);
-    let s = types.add(TypeForm::Structure)?;
-    let mut members = Vec::new(alloc);
-    members.push(member(rt, b"c", 1, None)?)?;
-    members.push(member(rt, b"s", 4, None)?)?;
-    members.push(member(rt, b"a", 6, Some(20))?)?;
-    members.push(member(rt, b"b", 7, Some(13))?)?;
-    members.push(member(rt, b"d", 1, None)?)?;
-    types.complete(s, Items::from_vec(members))?;
-    assert_eq!(rt; types.size(s), Some(16));
-    assert_eq!(rt; types.align(s), Some(4));
-    let place = types.member(s, b"d");
-    assert_eq!(rt;
-        place,
-        Some(MemberPlace {
-            of: 1,
-            offset: 12,
-            first: 0,
-            width: 0
-        })
-    );
+fn added_types(rt: HostRuntime) -> Result<(), Fail> {
+    let mut types = TypeTable::new(rt.alloc());
+    let array = types.add(TypeForm::Array {
+        of: 4,
+        length: Some(3),
+    })?;
+    assert_eq!(rt; array, 10);
+    assert_eq!(rt; types.size(array), Some(6));
+    assert_eq!(rt; types.align(array), Some(2));
     Ok(())
+}
+
+#[test]
+fn refused_types(rt: HostRuntime) {
+    let mut types = TypeTable::new(rt.alloc());
+    let of_void = types.add(TypeForm::Array {
+        of: 0,
+        length: Some(3),
+    });
+    assert_eq!(rt; of_void, Err(TypeFault::Incomplete));
+    let mut types = TypeTable::new(rt.alloc());
+    let large = types.add(TypeForm::Array {
+        of: 1,
+        length: Some(16_777_217),
+    });
+    assert_eq!(rt; large, Err(TypeFault::TooLarge));
 }

@@ -1,5 +1,4 @@
-use Rattle.std.proofs.Common.{◌≡◌, ◌+◌, ◌-◌, ◌<◌, length, drop, sym, ap, ◌∙◌, arith}
-use Rattle.std.specs.Prelude.{None}
+use Rattle.std.proofs.Common.{◌≡◌, ◌+◌, ◌-◌, ◌<◌, length, drop, ap, ◌∙◌, arith}
 use Rattle.c_symbols.specs.Scoping.{found}
 use Rattle.c_symbols.proofs.Naming.{found_at}
 use Rattle.c_symbols.proofs.scopes.find_around.Goals as goal

@@ -1,4 +1,4 @@
-use Rattle.std.proofs.Common.{◌≡◌, List, ℕ, sym, subst, ◌∙◌}
+use Rattle.std.proofs.Common.{◌≡◌, List, ℕ, subst, ◌∙◌}
 use Rattle.c_symbols.specs.Scoping.{symbol_named}
 use Rattle.c_symbols.proofs.Naming.{named_entries}
 use Rattle.c_symbols.proofs.scope.Scope.find.Goals as goal

@@ -63,8 +63,11 @@ returns-in_ok-insert-in-None-clause-added c =
     let n = none_of _ c.in-None.ensures.found in
     let e = c.in_ok-insert-in-None.ensures.entries ∙ insert_entry-new _ i.formed c.args.key c.args.entry n in
     let m = is_new i.basic i.formed.entries i.definitions.entries c.args.entry.form c.args.key (length c.args.self.now.forms) c.self.invariant c.requires.key c.requires.formed n in
-    inr (subst (λ (t : Table). IsNew t c.args.entry.form) c.self.view_is m, c.len-next.ensures,
-    ap (λ (es : List (FormKey × Formed)). table_of i.basic es i.definitions.entries) e ∙ table_push i.basic i.formed.entries i.definitions.entries x ∙ ap (λ (t : Table). more t c.args.entry.form) c.self.view_is)
+    inr (
+      subst (λ (t : Table). IsNew t c.args.entry.form) c.self.view_is m,
+      c.len-next.ensures,
+      ap (λ (es : List (FormKey × Formed)). table_of i.basic es i.definitions.entries) e ∙ table_push i.basic i.formed.entries i.definitions.entries x ∙ ap (λ (t : Table). more t c.args.entry.form) c.self.view_is,
+    )
 
 pub returns-in_ok-insert-in-None-clause-means : goal.returns-in_ok-insert-in-None-clause-means
 returns-in_ok-insert-in-None-clause-means c =

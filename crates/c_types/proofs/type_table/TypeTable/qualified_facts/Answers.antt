@@ -18,8 +18,11 @@ returns-clause-ok c =
     let u = type_at t b.0 in
     record {
       own = λ z. absurd (true≢false z);
-      other = λ z. ((let w = c.unqualified-base.ensures.within in let l = c.requires in omega arith), c.unqualified-base.ensures.form,
-        ap (qualify q) c.unqualified-base.ensures.means ∙ qualify_twice q b.1.0 u ∙ ap (λ z. qualify z u) (sym c.with.ensures));
+      other = λ z. (
+        (let w = c.unqualified-base.ensures.within in let l = c.requires in omega arith),
+        c.unqualified-base.ensures.form,
+        ap (qualify q) c.unqualified-base.ensures.means ∙ qualify_twice q b.1.0 u ∙ ap (λ z. qualify z u) (sym c.with.ensures),
+      );
       depth = c.depth-depth.ensures.is ∙ sym (depth_qualify q (type_at t c.args.of));
       deep = c.depth-depth.ensures.bound;
       bounded = subst IsBounded (sym c.no_object.ensures) no_object_bounded;

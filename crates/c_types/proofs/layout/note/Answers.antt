@@ -1,7 +1,0 @@
-use Rattle.c_types.proofs.layout.note.Goals as goal
-
-pub returns-then-is_empty : goal.returns-then-is_empty
-returns-then-is_empty c = ?
-
-pub returns : goal.returns
-returns c = ?
