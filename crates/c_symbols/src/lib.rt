@@ -1,0 +1,13 @@
+//! Names and what they were declared as, by scopes (C89 3.1.2.1).
+#![tactic(auto)]
+
+mod declare;
+mod scope;
+mod scopes;
+mod symbol;
+#[cfg(test)]
+mod tests;
+
+pub use declare::Declare;
+pub use scopes::{Scopes, SymbolId};
+pub use symbol::{Storage, Symbol};

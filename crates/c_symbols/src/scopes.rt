@@ -1,0 +1,146 @@
+ghost use Rattle.std.specs.Prelude.{ℕ, ◌≡◌, ◌≢◌, ◌++◌, ◌∷◌, ◌<◌, [], None, Some, length, slice_get, slice_set, IfOk, IfErr, OnOk, OnErr};
+ghost use Rattle.c_symbols.specs.declared.declare.Declare.TheVariants.{Memory as NoMemory, Redeclared};
+ghost use Rattle.c_symbols.specs.Scoping.{found, symbol_named};
+
+use crate::declare::Declare;
+use crate::scope::Scope;
+use crate::symbol::Symbol;
+use lcc_base::Memory;
+use std::alloc::Global;
+use std::marker::Model;
+
+/// The place of a symbol.
+pub type SymbolId = usize;
+
+/// The scopes that are open, and each symbol that was declared. Contracts see the innermost scope and
+/// those around it, the outermost first, each as the list of its names with their symbols; and the
+/// list of the symbols, which leaving a scope doesn't change.
+#[derive(Drop)]
+pub struct Scopes {
+    alloc: Global,
+    outer: Vec<Scope>,
+    inner: Scope,
+    symbols: Vec<Symbol>,
+}
+
+impl Model for Scopes {
+    ghost use Rattle.c_symbols.specs.Scoping.{Scoping};
+
+    ghost Value = { Scoping };
+
+    ghost view = { λ s. record { outer = s.outer.items; inner = s.inner; symbols = s.symbols.items } };
+}
+
+impl Scopes {
+    /// One scope without names: file scope.
+    pub fn new(alloc: Global) -> Result<Self, Memory>
+        ensures outer { IfOk result (λ s. s.outer ≡ []) }
+        ensures inner { IfOk result (λ s. s.inner ≡ []) }
+        ensures symbols { IfOk result (λ s. s.symbols ≡ []) }
+    {
+        Ok(Scopes {
+            alloc,
+            outer: Vec::new(alloc),
+            inner: Scope::new(alloc),
+            symbols: Vec::new(alloc),
+        })
+    }
+
+    /// Opens a scope without names in the innermost one. After an error the scopes are as before.
+    pub fn enter(&mut self) -> Result<(), Memory>
+        ensures outer { OnOk result (self.new.outer ≡ self.old.outer ++ self.old.inner ∷ []) }
+        ensures inner { OnOk result (self.new.inner ≡ []) }
+        ensures symbols { OnOk result (self.new.symbols ≡ self.old.symbols) }
+        ensures err { OnErr result (self.new ≡ self.old) }
+    {
+        self.outer.reserve(1)?;
+        let scope = std::mem::replace(&mut self.inner, Scope::new(self.alloc));
+        match self.outer.push(scope) {
+            Ok(()) => Ok(()),
+            Err(failed) => {
+                self.inner = failed.value;
+                Err(Memory)
+            }
+        }
+    }
+
+    /// Closes the innermost scope, which has one around it. That one is again as it was when the scope
+    /// was opened.
+    pub fn leave(&mut self)
+        requires { self.old.outer ≢ [] }
+        ensures scopes { self.old.outer ≡ self.new.outer ++ self.new.inner ∷ [] }
+        ensures symbols { self.new.symbols ≡ self.old.symbols }
+    {
+        match self.outer.pop() {
+            Some(scope) => self.inner = scope,
+            None => unreachable!(),
+        }
+    }
+
+    /// Declares the name in the innermost scope. Redeclared comes exactly where that scope has the name,
+    /// with the symbol that it has there. After an error the scopes are as before.
+    pub fn declare(&mut self, name: &[u8], symbol: Symbol) -> Result<SymbolId, Declare>
+        ensures id { IfOk result (λ id. id ≡ length self.old.symbols) }
+        ensures new_name { OnOk result (symbol_named self.old.inner name.now ≡ None) }
+        ensures outer { OnOk result (self.new.outer ≡ self.old.outer) }
+        ensures inner { IfOk result (λ id. self.new.inner ≡ self.old.inner ++ (name.now, id) ∷ []) }
+        ensures symbols { OnOk result (self.new.symbols ≡ self.old.symbols ++ symbol ∷ []) }
+        ensures redeclared { IfErr result (λ e. e ≢ NoMemory → (old : ℕ) × (e ≡ Redeclared old) × (symbol_named self.old.inner name.now ≡ Some old)) }
+        ensures err { OnErr result (self.new ≡ self.old) }
+    {
+        if let Some(old) = self.inner.find(name) {
+            return Err(Declare::Redeclared { old });
+        }
+        let id = self.symbols.len();
+        if self.symbols.push(symbol).is_err() {
+            return Err(Declare::Memory);
+        }
+        if self.inner.add(self.alloc, name, id).is_err() {
+            self.symbols.pop();
+            return Err(Declare::Memory);
+        }
+        Ok(id)
+    }
+
+    /// The symbol of the innermost declaration of the name. None exactly where no scope has it.
+    pub fn find(&self, name: &[u8]) -> Option<SymbolId>
+        ensures { result ≡ found (self.now.outer ++ self.now.inner ∷ []) name.now }
+    {
+        match self.inner.find(name) {
+            Some(id) => Some(id),
+            None => find_around(self.outer.as_slice(), name),
+        }
+    }
+
+    /// The symbol that was declared with this place, or that `replace` put there last.
+    pub fn symbol(&self, id: SymbolId) -> &Symbol
+        requires { id < length self.now.symbols }
+        ensures { slice_get self.now.symbols id ≡ Some result.now }
+    {
+        &self.symbols[id]
+    }
+
+    /// Puts another symbol in this one's place. Nothing else changes.
+    pub fn replace(&mut self, id: SymbolId, symbol: Symbol)
+        requires { id < length self.old.symbols }
+        ensures outer { self.new.outer ≡ self.old.outer }
+        ensures inner { self.new.inner ≡ self.old.inner }
+        ensures symbols { self.new.symbols ≡ slice_set self.old.symbols id symbol }
+    {
+        self.symbols[id] = symbol;
+    }
+}
+
+/// The symbol of the name in the last of the scopes that has it.
+fn find_around(scopes: &[Scope], name: &[u8]) -> Option<SymbolId>
+    ensures { result ≡ found scopes.now name.now }
+{
+    let mut n = scopes.len();
+    while n > 0 {
+        n -= 1;
+        if let Some(id) = scopes[n].find(name) {
+            return Some(id);
+        }
+    }
+    None
+}

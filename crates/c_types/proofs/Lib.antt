@@ -1,0 +1,12 @@
+pub mod Below
+pub mod Bits
+pub mod Defined
+pub mod Fresh
+pub mod Growing
+pub mod Insides
+pub mod Keys
+pub mod Known
+pub mod Named
+pub mod Placed
+pub mod Sizes
+pub mod Stays

@@ -1,0 +1,21 @@
+use Rattle.std.proofs.Common.{◌≡◌, ◌<◌, inl, length, sym, ap, refl, subst, ◌∙◌}
+use Rattle.std.specs.Prelude.{Some, slice_get}
+use Rattle.c_types.specs.Table.{Adds, Extends, formed, tagged, type_at, types}
+use Rattle.c_types.proofs.Placed.{basic_formed, basic_untagged, extends_itself}
+use Rattle.c_types.proofs.type_table.TypeTable.add.Goals as goal
+
+pub returns-in-Some-clause-added : goal.returns-in-Some-clause-added
+returns-in-Some-clause-added c =
+    let h = c.in-Some.ensures.some in
+    rw c.basic_type.ensures.is (inl (basic_untagged c.in-Some.place c.args.form h, c.basic_type.ensures.known ∙ h, refl))
+
+pub returns-in-Some-clause-means : goal.returns-in-Some-clause-means
+returns-in-Some-clause-means c =
+    let t = c.args.self.now in
+    rw c.basic_type.ensures.is (c.basic_type.ensures.means ∙ basic_formed c.in-Some.place c.args.form (types t) (tagged t.forms) c.in-Some.ensures.some)
+
+pub returns-in-Some-clause-within : goal.returns-in-Some-clause-within
+returns-in-Some-clause-within c = rw c.basic_type.ensures.is c.basic_type.ensures.within
+
+pub returns-in-Some-clause-extends : goal.returns-in-Some-clause-extends
+returns-in-Some-clause-extends c = extends_itself c.args.self.now

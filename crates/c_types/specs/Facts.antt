@@ -1,0 +1,29 @@
+-- What the functions of the table's insides ensure.
+use Rattle.std.specs.Prelude.{◌≡◌, ◌≢◌, ◌≤◌, ◌<◌, ℕ, Bool, true, false, Option, Some, None, List, [], ◌∷◌, length, if◌then◌else◌}
+use Rattle.std.specs.Str.{bytes_eq}
+use Rattle.c_types.specs.declared.type_form.TypeForm.{TypeForm}
+use Rattle.c_types.specs.declared.type_form.TypeForm.TheVariants as form
+use Rattle.c_types.specs.declared.type_form.Member.{Member}
+use Rattle.c_types.specs.declared.type_form.MemberPlace.{MemberPlace}
+use Rattle.c_types.specs.declared.type_table.Facts.{Facts}
+use Rattle.c_types.specs.declared.extent.Extent.{Extent}
+use Rattle.c_types.specs.Bounds.{IsBounded}
+use Rattle.c_types.specs.CType.{CType, qualify, depth}
+use Rattle.c_types.specs.Layout.{Field, start, laid, spots, greatest_align, greatest_nesting, extent, known, no_object}
+use Rattle.c_types.specs.Table.{Table, formed, tagged, tags, types, type_at, form_at, is_qualified, is_open_form, placed, places_of}
+use Rattle.c_types.specs.Keeps.{IsSettled, is_formed, place_named}
+
+-- the type of a form that is added
+abbrev pub type_of : Table → TypeForm → CType
+type_of t f = formed (types t) (tagged t.forms) f
+
+-- what will be known of the type of a form
+pub record IsFactOf (t : Table) (f : TypeForm) (x : Facts) : Type 0 where
+  pub own : is_qualified f ≡ false → (x.base ≡ length t.forms) × (x.qualifiers.0 ≡ 0)
+  pub other : is_qualified f ≡ true → (x.base < length t.forms) × (is_qualified (form_at t x.base) ≡ false) × (type_of t f ≡ qualify x.qualifiers.0 (type_at t x.base))
+  pub depth : x.depth ≡ depth (type_of t f)
+  pub deep : x.depth ≤ 500
+  pub bounded : IsBounded x.extent
+  pub extent : is_formed f ≡ true → is_qualified f ≡ false → is_open_form f ≡ false → extent (tags t) (type_of t f) ≡ x.extent
+  pub open_form : is_open_form f ≡ true → x.extent ≡ no_object
+  pub settled : is_formed f ≡ true → is_qualified f ≡ false → is_open_form f ≡ false → IsSettled (known (tags t)) (type_of t f)

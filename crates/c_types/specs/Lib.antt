@@ -1,0 +1,10 @@
+pub mod CType
+pub mod Bounds
+pub mod Compatible
+pub mod Composite
+pub mod Conversions
+pub mod Layout
+pub mod Table
+pub mod Readings
+pub mod Keeps
+pub mod Facts

@@ -1,0 +1,13 @@
+use crate::extent::Extent;
+use crate::type_form::{Member, MemberPlace};
+use indexmap::IndexMap;
+use lcc_base::Items;
+
+/// What completed a structure or union.
+#[derive(Drop)]
+pub(crate) struct Definition {
+    pub(crate) members: Items<Member>,
+    /// The place of the first member of each name.
+    pub(crate) places: IndexMap<Vec<u8>, MemberPlace>,
+    pub(crate) extent: Extent,
+}

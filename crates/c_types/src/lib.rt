@@ -1,0 +1,21 @@
+//! Types of C (C89 3.1.2.5): a table that holds each once, their sizes and the places of members,
+//! which are compatible, their composites, and the conversions of arithmetic.
+#![tactic(auto)]
+
+mod definition;
+mod extent;
+mod form_key;
+mod layout;
+mod qualifiers;
+mod room;
+#[cfg(test)]
+mod tests;
+mod type_fault;
+mod type_form;
+mod type_table;
+
+pub use extent::Extent;
+pub use qualifiers::Qualifiers;
+pub use type_fault::TypeFault;
+pub use type_form::{Enumerator, Member, MemberPlace, TypeForm, TypeId};
+pub use type_table::TypeTable;
