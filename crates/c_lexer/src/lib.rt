@@ -20,6 +20,7 @@ mod sign;
 mod start;
 #[cfg(test)]
 mod tests;
+mod text_values;
 mod token;
 
 pub use laws::{longest, one_cut, one_list, one_source_unit, one_text};
@@ -27,4 +28,5 @@ pub use lex_fault::{LexFault, LexFaultKind};
 pub use lexer::Lexer;
 pub use place::Place;
 pub use scanning::scan;
+pub use text_values::text_values;
 pub use token::Token;
