@@ -1,4 +1,5 @@
 //! The reader of arguments.
+ghost use Rattle.std.specs.Prelude.{◌≡◌, ◌<◌, ◌≤◌, ◌+◌, length, IfOk, IfSome};
 use crate::expressions::piece_at;
 use crate::found::Found;
 use crate::stop::Stop;
@@ -15,7 +16,11 @@ pub(crate) fn arguments_at<'t>(
     names: &mut Names,
     tokens: &'t [Token],
     limit: u32,
-) -> Result<Found<'t, Items<Expr>>, Stop> {
+) -> Result<Found<'t, Items<Expr>>, Stop>
+    requires limit { limit ≤ 500 }
+    ensures low { IfOk result (λ f. f.height ≤ limit) }
+    ensures shorter { IfOk result (λ f. length f.rest.now < length tokens.now) }
+{
     let mut arguments = Items::new(text.alloc);
     if let Some(rest) = after(tokens, CLOSE) {
         return Ok(Found {

@@ -1,4 +1,5 @@
 //! Readers of declarators.
+ghost use Rattle.std.specs.Prelude.{◌≡◌, ◌<◌, ◌≤◌, ◌+◌, length, IfOk, IfSome};
 use crate::found::Found;
 use crate::questions::begins_core;
 use crate::stop::Stop;
@@ -21,7 +22,9 @@ pub(crate) struct Shape {
 }
 
 /// The qualifier that is next, and the tokens behind it.
-fn qualifier<'t>(tokens: &'t [Token]) -> Option<(Qualifier, &'t [Token])> {
+fn qualifier<'t>(tokens: &'t [Token]) -> Option<(Qualifier, &'t [Token])>
+    ensures shorter { IfSome result (λ r. length r.1.now < length tokens.now) }
+{
     let (token, rest) = first(tokens)?;
     let Class::Keyword(keyword) = token.class else {
         return None;
@@ -34,7 +37,9 @@ fn qualifier<'t>(tokens: &'t [Token]) -> Option<(Qualifier, &'t [Token])> {
 fn qualifiers_at<'t>(
     text: Text<'t>,
     tokens: &'t [Token],
-) -> Result<(Items<Qualifier>, &'t [Token]), Memory> {
+) -> Result<(Items<Qualifier>, &'t [Token]), Memory>
+    ensures shorter { IfOk result (λ r. length r.1.now ≤ length tokens.now) }
+{
     let mut qualifiers = Items::new(text.alloc);
     let mut rest = tokens;
     while let Some((found, behind)) = qualifier(rest) {
@@ -48,7 +53,9 @@ fn qualifiers_at<'t>(
 fn pointers_at<'t>(
     text: Text<'t>,
     tokens: &'t [Token],
-) -> Result<(Items<Items<Qualifier>>, &'t [Token]), Memory> {
+) -> Result<(Items<Items<Qualifier>>, &'t [Token]), Memory>
+    ensures shorter { IfOk result (λ r. length r.1.now ≤ length tokens.now) }
+{
     let mut pointers = Items::new(text.alloc);
     let mut rest = tokens;
     while let Some(behind) = after(rest, STAR) {
@@ -67,7 +74,11 @@ pub(crate) fn declarator_at<'t>(
     shape: Shape,
     tokens: &'t [Token],
     limit: u32,
-) -> Result<Found<'t, Declarator>, Stop> {
+) -> Result<Found<'t, Declarator>, Stop>
+    requires limit { limit ≤ 500 }
+    ensures low { IfOk result (λ f. f.height ≤ limit) }
+    ensures shorter { IfOk result (λ f. length f.rest.now ≤ length tokens.now) }
+{
     if limit == 0 {
         return Err(no_parse(tokens));
     }
@@ -95,7 +106,11 @@ fn core_at<'t>(
     shape: Shape,
     tokens: &'t [Token],
     limit: u32,
-) -> Result<Found<'t, DeclaratorCore>, Stop> {
+) -> Result<Found<'t, DeclaratorCore>, Stop>
+    requires limit { limit ≤ 500 }
+    ensures low { IfOk result (λ f. f.height ≤ limit) }
+    ensures shorter { IfOk result (λ f. length f.rest.now ≤ length tokens.now) }
+{
     if shape.free && !begins_core(text, names, tokens) {
         return Ok(Found {
             tree: DeclaratorCore::Omitted,

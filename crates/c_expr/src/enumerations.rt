@@ -1,4 +1,5 @@
 //! Readers of enumerations.
+ghost use Rattle.std.specs.Prelude.{◌≡◌, ◌<◌, ◌≤◌, ◌+◌, length, IfOk, IfSome};
 use crate::found::Found;
 use crate::records::{constant_behind, tag_at};
 use crate::stop::Stop;
@@ -17,7 +18,11 @@ pub(crate) fn enumeration_at<'t>(
     names: &mut Names,
     tokens: &'t [Token],
     limit: u32,
-) -> Result<Found<'t, SpecifierForm>, Stop> {
+) -> Result<Found<'t, SpecifierForm>, Stop>
+    requires limit { limit ≤ 500 }
+    ensures low { IfOk result (λ f. f.height ≤ limit) }
+    ensures shorter { IfOk result (λ f. length f.rest.now < length tokens.now) }
+{
     let (tag, behind) = tag_at(text, tokens)?;
     if let Some(inside) = after(behind, OPEN_BRACE) {
         return enumerators_at(text, names, tag, inside, limit);
@@ -40,7 +45,11 @@ fn enumerators_at<'t>(
     tag: Option<Bytes>,
     tokens: &'t [Token],
     limit: u32,
-) -> Result<Found<'t, SpecifierForm>, Stop> {
+) -> Result<Found<'t, SpecifierForm>, Stop>
+    requires limit { limit ≤ 500 }
+    ensures low { IfOk result (λ f. f.height ≤ limit) }
+    ensures shorter { IfOk result (λ f. length f.rest.now < length tokens.now) }
+{
     let begun = enumerator_at(text, names, tokens, limit)?;
     let mut enumerators = Items::new(text.alloc);
     enumerators.push(begun.tree)?;
@@ -76,7 +85,11 @@ fn enumerator_at<'t>(
     names: &mut Names,
     tokens: &'t [Token],
     limit: u32,
-) -> Result<Found<'t, Enumerator>, Stop> {
+) -> Result<Found<'t, Enumerator>, Stop>
+    requires limit { limit ≤ 500 }
+    ensures low { IfOk result (λ f. f.height ≤ limit) }
+    ensures shorter { IfOk result (λ f. length f.rest.now < length tokens.now) }
+{
     let (token, behind) = expect_name(tokens)?;
     let value = constant_behind(text, names, EQUALS, behind, limit)?;
     names.put(text.bytes(token), false)?;

@@ -1,4 +1,5 @@
 //! Readers of expressions. They are called as deep as an expression is high.
+ghost use Rattle.std.specs.Prelude.{◌≡◌, ◌<◌, ◌≤◌, ◌+◌, length, IfOk, IfSome};
 use crate::found::Found;
 use crate::heads::head_at;
 use crate::link::{LinkKind, kind_at};
@@ -13,7 +14,9 @@ use names_in_force::Names;
 
 /// What the next token makes of an expression of the rank before it, at the level, and the tokens
 /// behind it.
-fn link_next<'t>(level: u8, rank: u8, tokens: &'t [Token]) -> Option<(LinkKind, &'t [Token])> {
+fn link_next<'t>(level: u8, rank: u8, tokens: &'t [Token]) -> Option<(LinkKind, &'t [Token])>
+    ensures shorter { IfSome result (λ r. length r.1.now < length tokens.now) }
+{
     let (token, rest) = first(tokens)?;
     let kind = kind_at(level, rank, token.class)?;
     Some((kind, rest))
@@ -27,7 +30,11 @@ pub(crate) fn piece_at<'t>(
     level: u8,
     tokens: &'t [Token],
     limit: u32,
-) -> Result<Found<'t, Expr>, Stop> {
+) -> Result<Found<'t, Expr>, Stop>
+    requires limit { limit ≤ 500 }
+    ensures low { IfOk result (λ f. f.height ≤ limit) }
+    ensures shorter { IfOk result (λ f. length f.rest.now < length tokens.now) }
+{
     let mut left = head_at(text, names, level, tokens, limit)?;
     while let Some((kind, rest)) = link_next(level, rank(&left.tree), left.rest) {
         if left.height >= limit {
@@ -46,7 +53,12 @@ fn sequence_at<'t>(
     names: &mut Names,
     begun: Found<'t, Expr>,
     limit: u32,
-) -> Result<Found<'t, Items<Expr>>, Stop> {
+) -> Result<Found<'t, Items<Expr>>, Stop>
+    requires limit { limit ≤ 500 }
+    requires begun { begun.height ≤ limit }
+    ensures low { IfOk result (λ f. f.height ≤ limit) }
+    ensures shorter { IfOk result (λ f. length f.rest.now ≤ length begun.rest.now) }
+{
     let mut height = begun.height;
     let mut rest = begun.rest;
     let mut parts = Items::new(text.alloc);
@@ -71,7 +83,11 @@ pub(crate) fn whole_at<'t>(
     names: &mut Names,
     tokens: &'t [Token],
     limit: u32,
-) -> Result<Found<'t, Expr>, Stop> {
+) -> Result<Found<'t, Expr>, Stop>
+    requires limit { limit ≤ 500 }
+    ensures low { IfOk result (λ f. f.height ≤ limit) }
+    ensures shorter { IfOk result (λ f. length f.rest.now < length tokens.now) }
+{
     let begun = piece_at(text, names, 1, tokens, limit)?;
     if after(begun.rest, COMMA).is_none() {
         return Ok(begun);

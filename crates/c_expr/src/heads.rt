@@ -1,9 +1,10 @@
 //! Readers of the first part of an expression: what stands before its first operator.
+ghost use Rattle.std.specs.Prelude.{◌≡◌, ◌<◌, ◌≤◌, ◌+◌, length, IfOk, IfSome};
 use crate::expressions::{piece_at, whole_at};
 use crate::found::Found;
 use crate::questions::begins_type;
 use crate::stop::Stop;
-use crate::tokens::{CLOSE, OPEN, SIZEOF, Text, expect, first, no_parse};
+use crate::tokens::{CLOSE, OPEN, SIZEOF, Text, expect, first, literal, no_parse};
 use crate::type_names::type_name_at;
 use crate::words::{operand_level, prefix_of};
 use c_ast::{Class, Expr, ExprForm, PrefixOperator};
@@ -12,7 +13,10 @@ use lcc_base::{Bytes, Items, Memory};
 use names_in_force::Names;
 
 /// An expression of height 1 before the tokens.
-fn leaf<'t>(line: u32, form: ExprForm, rest: &'t [Token]) -> Found<'t, Expr> {
+fn leaf<'t>(line: u32, form: ExprForm, rest: &'t [Token]) -> Found<'t, Expr>
+    ensures rest { result.rest.now ≡ rest.now }
+    ensures height { result.height ≡ 1 }
+{
     Found {
         tree: Expr { line, form },
         height: 1,
@@ -28,7 +32,11 @@ pub(crate) fn head_at<'t>(
     level: u8,
     tokens: &'t [Token],
     limit: u32,
-) -> Result<Found<'t, Expr>, Stop> {
+) -> Result<Found<'t, Expr>, Stop>
+    requires limit { limit ≤ 500 }
+    ensures low { IfOk result (λ f. f.height ≤ limit) }
+    ensures shorter { IfOk result (λ f. length f.rest.now < length tokens.now) }
+{
     if limit == 0 {
         return Err(no_parse(tokens));
     }
@@ -42,7 +50,7 @@ pub(crate) fn head_at<'t>(
         }
         Class::Character(value) => Ok(leaf(token.line, ExprForm::Character(value), rest)),
         Class::Text => {
-            let (literals, rest) = literals_at(text, tokens)?;
+            let (literals, rest) = literals_at(text, token, rest)?;
             Ok(leaf(token.line, ExprForm::Text(literals), rest))
         }
         Class::Sign(sign) => signed_at(text, names, level, sign, tokens, limit - 1),
@@ -62,25 +70,29 @@ fn variable_at<'t>(
     names: &Names,
     token: Token,
     rest: &'t [Token],
-) -> Result<Found<'t, Expr>, Stop> {
+) -> Result<Found<'t, Expr>, Stop>
+    ensures rest { IfOk result (λ f. f.rest.now ≡ rest.now) }
+    ensures height { IfOk result (λ f. f.height ≡ 1) }
+{
     if names.is_typedef(text.bytes(token)) {
         return Err(no_parse(rest));
     }
     Ok(leaf(token.line, ExprForm::Name(text.name(token)?), rest))
 }
 
-/// The string literals that are next, up to what is none.
+/// A string literal and those that are next, up to what is none.
 fn literals_at<'t>(
     text: Text<'t>,
+    token: Token,
     tokens: &'t [Token],
-) -> Result<(Items<Bytes>, &'t [Token]), Memory> {
+) -> Result<(Items<Bytes>, &'t [Token]), Memory>
+    ensures shorter { IfOk result (λ r. length r.1.now ≤ length tokens.now) }
+{
     let mut literals = Items::new(text.alloc);
+    literals.push(text.values(token)?)?;
     let mut rest = tokens;
-    while let Some((token, behind)) = first(rest) {
-        if token.class != Class::Text {
-            break;
-        }
-        literals.push(text.values(token)?)?;
+    while let Some((other, behind)) = literal(rest) {
+        literals.push(text.values(other)?)?;
         rest = behind;
     }
     Ok((literals, rest))
@@ -95,7 +107,11 @@ fn signed_at<'t>(
     sign: u8,
     tokens: &'t [Token],
     limit: u32,
-) -> Result<Found<'t, Expr>, Stop> {
+) -> Result<Found<'t, Expr>, Stop>
+    requires limit { limit ≤ 499 }
+    ensures low { IfOk result (λ f. f.height ≤ limit + 1) }
+    ensures shorter { IfOk result (λ f. length f.rest.now < length tokens.now) }
+{
     if sign == OPEN {
         if !begins_type(text, names, tokens) {
             return enclosed_at(text, names, tokens, limit);
@@ -119,7 +135,11 @@ fn prefixed_at<'t>(
     operator: PrefixOperator,
     tokens: &'t [Token],
     limit: u32,
-) -> Result<Found<'t, Expr>, Stop> {
+) -> Result<Found<'t, Expr>, Stop>
+    requires limit { limit ≤ 499 }
+    ensures low { IfOk result (λ f. f.height ≤ limit + 1) }
+    ensures shorter { IfOk result (λ f. length f.rest.now < length tokens.now) }
+{
     let Some((token, rest)) = first(tokens) else {
         return Err(no_parse(tokens));
     };
@@ -142,7 +162,11 @@ fn enclosed_at<'t>(
     names: &mut Names,
     tokens: &'t [Token],
     limit: u32,
-) -> Result<Found<'t, Expr>, Stop> {
+) -> Result<Found<'t, Expr>, Stop>
+    requires limit { limit ≤ 499 }
+    ensures low { IfOk result (λ f. f.height ≤ limit + 1) }
+    ensures shorter { IfOk result (λ f. length f.rest.now < length tokens.now) }
+{
     let Some((token, rest)) = first(tokens) else {
         return Err(no_parse(tokens));
     };
@@ -166,7 +190,11 @@ fn cast_at<'t>(
     names: &mut Names,
     tokens: &'t [Token],
     limit: u32,
-) -> Result<Found<'t, Expr>, Stop> {
+) -> Result<Found<'t, Expr>, Stop>
+    requires limit { limit ≤ 499 }
+    ensures low { IfOk result (λ f. f.height ≤ limit + 1) }
+    ensures shorter { IfOk result (λ f. length f.rest.now < length tokens.now) }
+{
     let Some((token, rest)) = first(tokens) else {
         return Err(no_parse(tokens));
     };
@@ -192,7 +220,11 @@ fn size_at<'t>(
     names: &mut Names,
     tokens: &'t [Token],
     limit: u32,
-) -> Result<Found<'t, Expr>, Stop> {
+) -> Result<Found<'t, Expr>, Stop>
+    requires limit { limit ≤ 499 }
+    ensures low { IfOk result (λ f. f.height ≤ limit + 1) }
+    ensures shorter { IfOk result (λ f. length f.rest.now < length tokens.now) }
+{
     let Some((token, rest)) = first(tokens) else {
         return Err(no_parse(tokens));
     };

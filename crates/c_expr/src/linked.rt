@@ -1,4 +1,5 @@
 //! Readers of what stands behind an expression.
+ghost use Rattle.std.specs.Prelude.{◌≡◌, ◌<◌, ◌≤◌, ◌+◌, max, length, IfOk, IfSome};
 use crate::arguments::arguments_at;
 use crate::expressions::{piece_at, whole_at};
 use crate::found::Found;
@@ -19,7 +20,11 @@ pub(crate) fn link_at<'t>(
     kind: LinkKind,
     tokens: &'t [Token],
     limit: u32,
-) -> Result<Found<'t, Link>, Stop> {
+) -> Result<Found<'t, Link>, Stop>
+    requires limit { limit ≤ 499 }
+    ensures low { IfOk result (λ f. f.height ≤ limit) }
+    ensures shorter { IfOk result (λ f. length f.rest.now ≤ length tokens.now) }
+{
     match kind {
         LinkKind::Index => {
             let inside = whole_at(text, names, tokens, limit)?;
@@ -78,7 +83,11 @@ fn choices_at<'t>(
     names: &mut Names,
     tokens: &'t [Token],
     limit: u32,
-) -> Result<Found<'t, Link>, Stop> {
+) -> Result<Found<'t, Link>, Stop>
+    requires limit { limit ≤ 500 }
+    ensures low { IfOk result (λ f. f.height ≤ limit) }
+    ensures shorter { IfOk result (λ f. length f.rest.now < length tokens.now) }
+{
     let yes = whole_at(text, names, tokens, limit)?;
     let rest = expect(yes.rest, COLON)?;
     let no = piece_at(text, names, 2, rest, limit)?;
@@ -115,7 +124,12 @@ pub(crate) fn linked<'t>(
     text: Text<'t>,
     left: Found<'t, Expr>,
     link: Found<'t, Link>,
-) -> Result<Found<'t, Expr>, Memory> {
+) -> Result<Found<'t, Expr>, Memory>
+    requires left { left.height ≤ 499 }
+    requires link { link.height ≤ 499 }
+    ensures rest { IfOk result (λ f. f.rest.now ≡ link.rest.now) }
+    ensures height { IfOk result (λ f. f.height ≡ max left.height link.height + 1) }
+{
     let line = left.tree.line;
     Ok(Found {
         tree: Expr {

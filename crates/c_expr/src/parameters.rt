@@ -1,4 +1,5 @@
 //! Readers of parameters.
+ghost use Rattle.std.specs.Prelude.{◌≡◌, ◌<◌, ◌≤◌, ◌+◌, length, IfOk, IfSome};
 use crate::found::Found;
 use crate::specifiers::specifiers_at;
 use crate::stop::Stop;
@@ -15,7 +16,9 @@ fn parameter_name<'t>(
     text: Text<'t>,
     names: &mut Names,
     tokens: &'t [Token],
-) -> Result<(Bytes, &'t [Token]), Stop> {
+) -> Result<(Bytes, &'t [Token]), Stop>
+    ensures shorter { IfOk result (λ r. length r.1.now < length tokens.now) }
+{
     let (token, rest) = expect_name(tokens)?;
     names.put(text.bytes(token), false)?;
     Ok((text.name(token)?, rest))
@@ -26,7 +29,9 @@ pub(crate) fn names_at<'t>(
     text: Text<'t>,
     names: &mut Names,
     tokens: &'t [Token],
-) -> Result<(Items<Bytes>, &'t [Token]), Stop> {
+) -> Result<(Items<Bytes>, &'t [Token]), Stop>
+    ensures shorter { IfOk result (λ r. length r.1.now < length tokens.now) }
+{
     let mut list = Items::new(text.alloc);
     let (begun, mut rest) = parameter_name(text, names, tokens)?;
     list.push(begun)?;
@@ -45,7 +50,11 @@ pub(crate) fn parameters_at<'t>(
     names: &mut Names,
     tokens: &'t [Token],
     limit: u32,
-) -> Result<Found<'t, SuffixForm>, Stop> {
+) -> Result<Found<'t, SuffixForm>, Stop>
+    requires limit { limit ≤ 500 }
+    ensures low { IfOk result (λ f. f.height ≤ limit) }
+    ensures shorter { IfOk result (λ f. length f.rest.now < length tokens.now) }
+{
     let begun = parameter_at(text, names, tokens, limit)?;
     let mut parameters = Items::new(text.alloc);
     parameters.push(begun.tree)?;
@@ -100,7 +109,11 @@ fn parameter_at<'t>(
     names: &mut Names,
     tokens: &'t [Token],
     limit: u32,
-) -> Result<Found<'t, Parameter>, Stop> {
+) -> Result<Found<'t, Parameter>, Stop>
+    requires limit { limit ≤ 500 }
+    ensures low { IfOk result (λ f. f.height ≤ limit) }
+    ensures shorter { IfOk result (λ f. length f.rest.now < length tokens.now) }
+{
     let specifiers = specifiers_at(text, names, tokens, limit)?;
     let declarator = maybe_declarator_at(text, names, true, specifiers.rest, limit)?;
     if !is_either(&declarator.tree) {

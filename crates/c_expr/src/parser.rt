@@ -79,7 +79,7 @@ impl<'s> Parser<'s> {
 
     /// The bytes of a token of the source.
     pub fn bytes(&self, token: Token) -> &'s [u8] {
-        &self.source[token.start as usize..token.end as usize]
+        self.text().bytes(token)
     }
 
     /// Whether the token is a name whose innermost declaration in force makes it a typedef name.
@@ -134,10 +134,7 @@ impl<'s> Parser<'s> {
 
     /// The source, where trees are allocated.
     fn text(&self) -> Text<'s> {
-        Text {
-            alloc: self.alloc,
-            source: self.source,
-        }
+        Text::new(self.alloc, self.source)
     }
 
     /// Takes what a reader found before so many tokens at the end, or keeps its fault.

@@ -1,4 +1,5 @@
 //! Readers of structures and unions.
+ghost use Rattle.std.specs.Prelude.{◌≡◌, ◌<◌, ◌≤◌, ◌+◌, length, IfOk, IfSome};
 use crate::expressions::piece_at;
 use crate::found::Found;
 use crate::specifiers::specifiers_at;
@@ -17,7 +18,9 @@ use names_in_force::Names;
 pub(crate) fn tag_at<'t>(
     text: Text<'t>,
     tokens: &'t [Token],
-) -> Result<(Option<Bytes>, &'t [Token]), Memory> {
+) -> Result<(Option<Bytes>, &'t [Token]), Memory>
+    ensures shorter { IfOk result (λ r. length r.1.now ≤ length tokens.now) }
+{
     match name(tokens) {
         Some((token, rest)) => Ok((Some(text.name(token)?), rest)),
         None => Ok((None, tokens)),
@@ -32,7 +35,11 @@ pub(crate) fn record_at<'t>(
     kind: RecordKind,
     tokens: &'t [Token],
     limit: u32,
-) -> Result<Found<'t, SpecifierForm>, Stop> {
+) -> Result<Found<'t, SpecifierForm>, Stop>
+    requires limit { limit ≤ 500 }
+    ensures low { IfOk result (λ f. f.height ≤ limit) }
+    ensures shorter { IfOk result (λ f. length f.rest.now < length tokens.now) }
+{
     let (tag, behind) = tag_at(text, tokens)?;
     if let Some(inside) = after(behind, OPEN_BRACE) {
         let members = members_at(text, names, inside, limit)?;
@@ -63,7 +70,11 @@ fn members_at<'t>(
     names: &mut Names,
     tokens: &'t [Token],
     limit: u32,
-) -> Result<Found<'t, Items<Member>>, Stop> {
+) -> Result<Found<'t, Items<Member>>, Stop>
+    requires limit { limit ≤ 500 }
+    ensures low { IfOk result (λ f. f.height ≤ limit) }
+    ensures shorter { IfOk result (λ f. length f.rest.now < length tokens.now) }
+{
     let begun = member_at(text, names, tokens, limit)?;
     let mut members = Items::new(text.alloc);
     members.push(begun.tree)?;
@@ -91,7 +102,11 @@ fn member_at<'t>(
     names: &mut Names,
     tokens: &'t [Token],
     limit: u32,
-) -> Result<Found<'t, Member>, Stop> {
+) -> Result<Found<'t, Member>, Stop>
+    requires limit { limit ≤ 500 }
+    ensures low { IfOk result (λ f. f.height ≤ limit) }
+    ensures shorter { IfOk result (λ f. length f.rest.now < length tokens.now) }
+{
     if limit == 0 {
         return Err(no_parse(tokens));
     }
@@ -115,7 +130,11 @@ fn fields_at<'t>(
     names: &mut Names,
     tokens: &'t [Token],
     limit: u32,
-) -> Result<Found<'t, Items<MemberDeclarator>>, Stop> {
+) -> Result<Found<'t, Items<MemberDeclarator>>, Stop>
+    requires limit { limit ≤ 500 }
+    ensures low { IfOk result (λ f. f.height ≤ limit) }
+    ensures shorter { IfOk result (λ f. length f.rest.now < length tokens.now) }
+{
     let begun = field_at(text, names, tokens, limit)?;
     let mut fields = Items::new(text.alloc);
     fields.push(begun.tree)?;
@@ -142,7 +161,11 @@ pub(crate) fn constant_behind<'t>(
     sign: u8,
     tokens: &'t [Token],
     limit: u32,
-) -> Result<Found<'t, Option<Expr>>, Stop> {
+) -> Result<Found<'t, Option<Expr>>, Stop>
+    requires limit { limit ≤ 500 }
+    ensures low { IfOk result (λ f. f.height ≤ limit) }
+    ensures shorter { IfOk result (λ f. length f.rest.now ≤ length tokens.now) }
+{
     match after(tokens, sign) {
         Some(behind) => {
             let inside = piece_at(text, names, 2, behind, limit)?;
@@ -167,7 +190,11 @@ fn field_at<'t>(
     names: &mut Names,
     tokens: &'t [Token],
     limit: u32,
-) -> Result<Found<'t, MemberDeclarator>, Stop> {
+) -> Result<Found<'t, MemberDeclarator>, Stop>
+    requires limit { limit ≤ 500 }
+    ensures low { IfOk result (λ f. f.height ≤ limit) }
+    ensures shorter { IfOk result (λ f. length f.rest.now < length tokens.now) }
+{
     let declarator = maybe_declarator_at(text, names, false, tokens, limit)?;
     let width = constant_behind(text, names, COLON, declarator.rest, limit)?;
     if declarator.tree.is_none() && width.tree.is_none() {

@@ -1,4 +1,5 @@
 //! Readers of specifiers.
+ghost use Rattle.std.specs.Prelude.{◌≡◌, ◌<◌, ◌≤◌, ◌+◌, length, IfOk, IfSome};
 use crate::enumerations::enumeration_at;
 use crate::found::Found;
 use crate::questions::begins_specifier;
@@ -19,7 +20,11 @@ pub(crate) fn specifiers_at<'t>(
     names: &mut Names,
     tokens: &'t [Token],
     limit: u32,
-) -> Result<Found<'t, Specifiers>, Stop> {
+) -> Result<Found<'t, Specifiers>, Stop>
+    requires limit { limit ≤ 500 }
+    ensures low { IfOk result (λ f. f.height ≤ limit) }
+    ensures shorter { IfOk result (λ f. length f.rest.now < length tokens.now) }
+{
     let mut list = Items::new(text.alloc);
     let mut typed = false;
     let mut height: u32 = 0;
@@ -45,7 +50,10 @@ pub(crate) fn specifiers_at<'t>(
 }
 
 /// A specifier that is one token.
-fn one_word<'t>(line: u32, form: SpecifierForm, rest: &'t [Token]) -> Found<'t, Specifier> {
+fn one_word<'t>(line: u32, form: SpecifierForm, rest: &'t [Token]) -> Found<'t, Specifier>
+    ensures rest { result.rest.now ≡ rest.now }
+    ensures height { result.height ≡ 0 }
+{
     Found {
         tree: Specifier { line, form },
         height: 0,
@@ -74,7 +82,11 @@ fn specifier_at<'t>(
     names: &mut Names,
     tokens: &'t [Token],
     limit: u32,
-) -> Result<Found<'t, Specifier>, Stop> {
+) -> Result<Found<'t, Specifier>, Stop>
+    requires limit { limit ≤ 500 }
+    ensures low { IfOk result (λ f. f.height ≤ limit) }
+    ensures shorter { IfOk result (λ f. length f.rest.now < length tokens.now) }
+{
     let Some((token, rest)) = first(tokens) else {
         return Err(no_parse(tokens));
     };
@@ -96,7 +108,11 @@ fn worded_at<'t>(
     keyword: u8,
     tokens: &'t [Token],
     limit: u32,
-) -> Result<Found<'t, Specifier>, Stop> {
+) -> Result<Found<'t, Specifier>, Stop>
+    requires limit { limit ≤ 500 }
+    ensures low { IfOk result (λ f. f.height ≤ limit) }
+    ensures shorter { IfOk result (λ f. length f.rest.now < length tokens.now) }
+{
     let Some((token, rest)) = first(tokens) else {
         return Err(no_parse(tokens));
     };

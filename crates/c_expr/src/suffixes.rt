@@ -1,4 +1,5 @@
 //! Readers of a declarator's suffixes.
+ghost use Rattle.std.specs.Prelude.{◌≡◌, ◌<◌, ◌≤◌, ◌+◌, length, IfOk, IfSome};
 use crate::expressions::piece_at;
 use crate::found::Found;
 use crate::parameters::{names_at, parameters_at};
@@ -25,7 +26,11 @@ pub(crate) fn suffixes_at<'t>(
     own: bool,
     tokens: &'t [Token],
     limit: u32,
-) -> Result<Found<'t, Items<Suffix>>, Stop> {
+) -> Result<Found<'t, Items<Suffix>>, Stop>
+    requires limit { limit ≤ 500 }
+    ensures low { IfOk result (λ f. f.height ≤ limit) }
+    ensures shorter { IfOk result (λ f. length f.rest.now ≤ length tokens.now) }
+{
     let mut suffixes = Items::new(text.alloc);
     let mut own = own;
     let mut height: u32 = 0;
@@ -52,7 +57,11 @@ fn suffix_at<'t>(
     own: bool,
     tokens: &'t [Token],
     limit: u32,
-) -> Result<Found<'t, Suffix>, Stop> {
+) -> Result<Found<'t, Suffix>, Stop>
+    requires limit { limit ≤ 500 }
+    ensures low { IfOk result (λ f. f.height ≤ limit) }
+    ensures shorter { IfOk result (λ f. length f.rest.now < length tokens.now) }
+{
     let line = line_of(tokens);
     let found = match after(tokens, OPEN_INDEX) {
         Some(behind) => size_at(text, names, behind, limit)?,
@@ -91,7 +100,11 @@ fn size_at<'t>(
     names: &mut Names,
     tokens: &'t [Token],
     limit: u32,
-) -> Result<Found<'t, SuffixForm>, Stop> {
+) -> Result<Found<'t, SuffixForm>, Stop>
+    requires limit { limit ≤ 500 }
+    ensures low { IfOk result (λ f. f.height ≤ limit) }
+    ensures shorter { IfOk result (λ f. length f.rest.now < length tokens.now) }
+{
     if let Some(rest) = after(tokens, CLOSE_INDEX) {
         return Ok(Found {
             tree: SuffixForm::Array(None),
@@ -114,7 +127,11 @@ fn list_at<'t>(
     names: &mut Names,
     tokens: &'t [Token],
     limit: u32,
-) -> Result<Found<'t, SuffixForm>, Stop> {
+) -> Result<Found<'t, SuffixForm>, Stop>
+    requires limit { limit ≤ 500 }
+    ensures low { IfOk result (λ f. f.height ≤ limit) }
+    ensures shorter { IfOk result (λ f. length f.rest.now < length tokens.now) }
+{
     if let Some(rest) = after(tokens, CLOSE) {
         return Ok(Found {
             tree: SuffixForm::Empty,

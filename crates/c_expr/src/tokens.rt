@@ -1,4 +1,7 @@
 //! What is next among tokens.
+ghost use Rattle.std.specs.Prelude.{◌≡◌, ◌<◌, ◌≤◌, ◌+◌, length, take, drop, IfOk, IfSome};
+ghost use Rattle.c_lexer.specs.SourceUnits.{bytes_of};
+ghost use Rattle.c_lexer.specs.Texts.{text_of};
 ghost use Rattle.std.specs.Prelude.{◌≡◌, ◌<◌, ◌∷◌, IfSome, IfNone, IfOk, length, List};
 
 use crate::stop::Stop;
@@ -6,6 +9,7 @@ use c_ast::Class;
 use c_lexer::{Token, text_values};
 use lcc_base::{Bytes, Memory};
 use std::alloc::Global;
+use std::marker::Model;
 
 /// The numbers of signs.
 pub(crate) const OPEN_INDEX: u8 = 0;
@@ -27,26 +31,65 @@ pub(crate) const SIZEOF: u8 = 22;
 pub(crate) const STRUCT: u8 = 24;
 pub(crate) const UNION: u8 = 27;
 
-/// The source that tokens are of, and where trees are allocated.
+/// The source that tokens are of, which contracts see as its bytes, and where trees are allocated.
 #[derive(Clone, Copy)]
 pub(crate) struct Text<'t> {
     pub(crate) alloc: Global,
-    pub(crate) source: &'t [u8],
+    source: &'t [u8],
+}
+
+impl<'t> Model for Text<'t> {
+    ghost use Rattle.std.specs.Prelude.{◌≤◌, ℕ, List, length};
+
+    ghost Value = { List ℕ };
+
+    ghost view = { λ t. t.source.now };
+
+    ghost invariant = { λ t. length t.source.now ≤ 16777216 };
+}
+
+/// From a place on, or nothing where there are fewer bytes.
+fn from_place<'t>(bytes: &'t [u8], place: usize) -> &'t [u8]
+    ensures { result.now ≡ drop place bytes.now }
+{
+    &bytes[place.min(bytes.len())..]
+}
+
+/// So many bytes, or all where there are fewer.
+fn front<'t>(bytes: &'t [u8], many: usize) -> &'t [u8]
+    ensures { result.now ≡ take many bytes.now }
+{
+    &bytes[..many.min(bytes.len())]
 }
 
 impl<'t> Text<'t> {
+    /// The text of a source.
+    pub(crate) fn new(alloc: Global, source: &'t [u8]) -> Self
+        requires { length source.now ≤ 16777216 }
+        ensures { result ≡ source.now }
+    {
+        Text { alloc, source }
+    }
+
     /// The bytes of a token.
-    pub(crate) fn bytes(&self, token: Token) -> &'t [u8] {
-        &self.source[token.start as usize..token.end as usize]
+    pub(crate) fn bytes(&self, token: Token) -> &'t [u8]
+        ensures { result.now ≡ bytes_of self.now token }
+    {
+        let many = token.end.saturating_sub(token.start);
+        front(from_place(self.source, token.start as usize), many as usize)
     }
 
     /// A copy of the bytes of a token.
-    pub(crate) fn name(&self, token: Token) -> Result<Bytes, Memory> {
+    pub(crate) fn name(&self, token: Token) -> Result<Bytes, Memory>
+        ensures { IfOk result (λ b. b ≡ bytes_of self.now token) }
+    {
         Bytes::copied(self.alloc, self.bytes(token))
     }
 
     /// The bytes that a string literal denotes.
-    pub(crate) fn values(&self, token: Token) -> Result<Bytes, Memory> {
+    pub(crate) fn values(&self, token: Token) -> Result<Bytes, Memory>
+        ensures { IfOk result (λ b. b ≡ text_of self.now token) }
+    {
         text_values(self.alloc, self.source, token)
     }
 }
@@ -57,7 +100,9 @@ pub(crate) fn no_parse(left: &[Token]) -> Stop {
 }
 
 /// The token that is next, and those behind it.
-pub(crate) fn first<'t>(tokens: &'t [Token]) -> Option<(Token, &'t [Token])> {
+pub(crate) fn first<'t>(tokens: &'t [Token]) -> Option<(Token, &'t [Token])>
+    ensures shorter { IfSome result (λ r. length r.1.now < length tokens.now) }
+{
     match tokens.split_first() {
         Some((first, rest)) => Some((*first, rest)),
         None => None,
@@ -65,7 +110,9 @@ pub(crate) fn first<'t>(tokens: &'t [Token]) -> Option<(Token, &'t [Token])> {
 }
 
 /// The tokens behind the sign of this number, which is next.
-pub(crate) fn after<'t>(tokens: &'t [Token], sign: u8) -> Option<&'t [Token]> {
+pub(crate) fn after<'t>(tokens: &'t [Token], sign: u8) -> Option<&'t [Token]>
+    ensures shorter { IfSome result (λ r. length r.now < length tokens.now) }
+{
     match tokens.split_first() {
         Some((first, rest)) if first.class == Class::Sign(sign) => Some(rest),
         _ => None,
@@ -73,7 +120,9 @@ pub(crate) fn after<'t>(tokens: &'t [Token], sign: u8) -> Option<&'t [Token]> {
 }
 
 /// The tokens behind the sign of this number.
-pub(crate) fn expect<'t>(tokens: &'t [Token], sign: u8) -> Result<&'t [Token], Stop> {
+pub(crate) fn expect<'t>(tokens: &'t [Token], sign: u8) -> Result<&'t [Token], Stop>
+    ensures shorter { IfOk result (λ r. length r.now < length tokens.now) }
+{
     match after(tokens, sign) {
         Some(rest) => Ok(rest),
         None => Err(no_parse(tokens)),
@@ -81,15 +130,29 @@ pub(crate) fn expect<'t>(tokens: &'t [Token], sign: u8) -> Result<&'t [Token], S
 }
 
 /// The name that is next, and the tokens behind it.
-pub(crate) fn name<'t>(tokens: &'t [Token]) -> Option<(Token, &'t [Token])> {
+pub(crate) fn name<'t>(tokens: &'t [Token]) -> Option<(Token, &'t [Token])>
+    ensures shorter { IfSome result (λ r. length r.1.now < length tokens.now) }
+{
     match tokens.split_first() {
         Some((first, rest)) if first.class == Class::Name => Some((*first, rest)),
         _ => None,
     }
 }
 
+/// The string literal that is next, and the tokens behind it.
+pub(crate) fn literal<'t>(tokens: &'t [Token]) -> Option<(Token, &'t [Token])>
+    ensures shorter { IfSome result (λ r. length r.1.now < length tokens.now) }
+{
+    match tokens.split_first() {
+        Some((first, rest)) if first.class == Class::Text => Some((*first, rest)),
+        _ => None,
+    }
+}
+
 /// The name that has to be next, and the tokens behind it.
-pub(crate) fn expect_name<'t>(tokens: &'t [Token]) -> Result<(Token, &'t [Token]), Stop> {
+pub(crate) fn expect_name<'t>(tokens: &'t [Token]) -> Result<(Token, &'t [Token]), Stop>
+    ensures shorter { IfOk result (λ r. length r.1.now < length tokens.now) }
+{
     match name(tokens) {
         Some(found) => Ok(found),
         None => Err(no_parse(tokens)),

@@ -1,4 +1,5 @@
 //! Readers of type names and of declarators that may be left out.
+ghost use Rattle.std.specs.Prelude.{◌≡◌, ◌<◌, ◌≤◌, ◌+◌, length, IfOk, IfSome};
 use crate::declarators::{Shape, declarator_at};
 use crate::found::Found;
 use crate::questions::begins_declarator;
@@ -18,7 +19,11 @@ pub(crate) fn maybe_declarator_at<'t>(
     free: bool,
     tokens: &'t [Token],
     limit: u32,
-) -> Result<Found<'t, Option<Declarator>>, Stop> {
+) -> Result<Found<'t, Option<Declarator>>, Stop>
+    requires limit { limit ≤ 500 }
+    ensures low { IfOk result (λ f. f.height ≤ limit) }
+    ensures shorter { IfOk result (λ f. length f.rest.now ≤ length tokens.now) }
+{
     if !begins_declarator(tokens) {
         return Ok(Found {
             tree: None,
@@ -48,7 +53,11 @@ pub(crate) fn type_name_at<'t>(
     names: &mut Names,
     tokens: &'t [Token],
     limit: u32,
-) -> Result<Found<'t, TypeName>, Stop> {
+) -> Result<Found<'t, TypeName>, Stop>
+    requires limit { limit ≤ 500 }
+    ensures low { IfOk result (λ f. f.height ≤ limit) }
+    ensures shorter { IfOk result (λ f. length f.rest.now < length tokens.now) }
+{
     let specifiers = specifiers_at(text, names, tokens, limit)?;
     let declarator = maybe_declarator_at(text, names, true, specifiers.rest, limit)?;
     if !is_abstract_or_none(&declarator.tree) {

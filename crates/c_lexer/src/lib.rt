@@ -10,6 +10,7 @@ mod integer;
 mod laws;
 mod lex_fault;
 mod lexer;
+mod literal;
 mod number;
 mod place;
 mod quoted;
@@ -20,13 +21,12 @@ mod sign;
 mod start;
 #[cfg(test)]
 mod tests;
-mod text_values;
 mod token;
 
 pub use laws::{longest, one_cut, one_list, one_source_unit, one_text};
 pub use lex_fault::{LexFault, LexFaultKind};
 pub use lexer::Lexer;
+pub use literal::text_values;
 pub use place::Place;
 pub use scanning::scan;
-pub use text_values::text_values;
 pub use token::Token;
