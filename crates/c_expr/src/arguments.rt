@@ -12,7 +12,7 @@ use names_in_force::Names;
 /// The arguments behind `(`, and `)`.
 #[cycle(syntax)]
 pub(crate) fn arguments_at<'t>(
-    text: Text<'t>,
+    text: &Text,
     names: &mut Names,
     tokens: &'t [Token],
     limit: u32,

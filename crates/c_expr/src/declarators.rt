@@ -35,7 +35,7 @@ fn qualifier<'t>(tokens: &'t [Token]) -> Option<(Qualifier, &'t [Token])>
 
 /// The qualifiers that are next, and the tokens behind them.
 fn qualifiers_at<'t>(
-    text: Text<'t>,
+    text: &Text,
     tokens: &'t [Token],
 ) -> Result<(Items<Qualifier>, &'t [Token]), Memory>
     ensures shorter { IfOk result (λ r. length r.1.now ≤ length tokens.now) }
@@ -51,7 +51,7 @@ fn qualifiers_at<'t>(
 
 /// The qualifiers behind each `*` that is next, and the tokens behind them.
 fn pointers_at<'t>(
-    text: Text<'t>,
+    text: &Text,
     tokens: &'t [Token],
 ) -> Result<(Items<Items<Qualifier>>, &'t [Token]), Memory>
     ensures shorter { IfOk result (λ r. length r.1.now ≤ length tokens.now) }
@@ -69,7 +69,7 @@ fn pointers_at<'t>(
 /// The declarator that is next.
 #[cycle(syntax)]
 pub(crate) fn declarator_at<'t>(
-    text: Text<'t>,
+    text: &Text,
     names: &mut Names,
     shape: Shape,
     tokens: &'t [Token],
@@ -101,7 +101,7 @@ pub(crate) fn declarator_at<'t>(
 /// The declared name, or a declarator in parentheses, or nothing where the name is left out.
 #[cycle(syntax)]
 fn core_at<'t>(
-    text: Text<'t>,
+    text: &Text,
     names: &mut Names,
     shape: Shape,
     tokens: &'t [Token],

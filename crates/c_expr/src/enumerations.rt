@@ -14,7 +14,7 @@ use names_in_force::Names;
 /// What stands behind `enum`.
 #[cycle(syntax)]
 pub(crate) fn enumeration_at<'t>(
-    text: Text<'t>,
+    text: &Text,
     names: &mut Names,
     tokens: &'t [Token],
     limit: u32,
@@ -40,7 +40,7 @@ pub(crate) fn enumeration_at<'t>(
 /// Enumerators between commas, at least one, perhaps a comma, and `}`.
 #[cycle(syntax)]
 fn enumerators_at<'t>(
-    text: Text<'t>,
+    text: &Text,
     names: &mut Names,
     tag: Option<Bytes>,
     tokens: &'t [Token],
@@ -81,7 +81,7 @@ fn enumerators_at<'t>(
 /// An enumerator, whose name is in force from its own end.
 #[cycle(syntax)]
 fn enumerator_at<'t>(
-    text: Text<'t>,
+    text: &Text,
     names: &mut Names,
     tokens: &'t [Token],
     limit: u32,

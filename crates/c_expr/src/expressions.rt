@@ -25,7 +25,7 @@ fn link_next<'t>(level: u8, rank: u8, tokens: &'t [Token]) -> Option<(LinkKind, 
 /// The expression of the level, 1 or more, that is next, no higher than the limit.
 #[cycle(syntax)]
 pub(crate) fn piece_at<'t>(
-    text: Text<'t>,
+    text: &Text,
     names: &mut Names,
     level: u8,
     tokens: &'t [Token],
@@ -49,7 +49,7 @@ pub(crate) fn piece_at<'t>(
 /// The expressions behind the first of a comma's, up to what is no comma.
 #[cycle(syntax)]
 fn sequence_at<'t>(
-    text: Text<'t>,
+    text: &Text,
     names: &mut Names,
     begun: Found<'t, Expr>,
     limit: u32,
@@ -57,7 +57,7 @@ fn sequence_at<'t>(
     requires limit { limit ≤ 500 }
     requires begun { begun.height ≤ limit }
     ensures low { IfOk result (λ f. f.height ≤ limit) }
-    ensures shorter { IfOk result (λ f. length f.rest.now ≤ length begun.rest.now) }
+    ensures shorter { IfOk result (λ f. length f.rest.now ≤ length begun.entry.rest.now) }
 {
     let mut height = begun.height;
     let mut rest = begun.rest;
@@ -79,7 +79,7 @@ fn sequence_at<'t>(
 /// The expression that is next, perhaps one with commas, no higher than the limit.
 #[cycle(syntax)]
 pub(crate) fn whole_at<'t>(
-    text: Text<'t>,
+    text: &Text,
     names: &mut Names,
     tokens: &'t [Token],
     limit: u32,

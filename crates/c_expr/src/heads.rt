@@ -27,7 +27,7 @@ fn leaf<'t>(line: u32, form: ExprForm, rest: &'t [Token]) -> Found<'t, Expr>
 /// The first part of an expression of the level.
 #[cycle(syntax)]
 pub(crate) fn head_at<'t>(
-    text: Text<'t>,
+    text: &Text,
     names: &mut Names,
     level: u8,
     tokens: &'t [Token],
@@ -66,7 +66,7 @@ pub(crate) fn head_at<'t>(
 
 /// A name that is an expression.
 fn variable_at<'t>(
-    text: Text<'t>,
+    text: &Text,
     names: &Names,
     token: Token,
     rest: &'t [Token],
@@ -82,7 +82,7 @@ fn variable_at<'t>(
 
 /// A string literal and those that are next, up to what is none.
 fn literals_at<'t>(
-    text: Text<'t>,
+    text: &Text,
     token: Token,
     tokens: &'t [Token],
 ) -> Result<(Items<Bytes>, &'t [Token]), Memory>
@@ -101,7 +101,7 @@ fn literals_at<'t>(
 /// What begins with a sign, which is next.
 #[cycle(syntax)]
 fn signed_at<'t>(
-    text: Text<'t>,
+    text: &Text,
     names: &mut Names,
     level: u8,
     sign: u8,
@@ -130,7 +130,7 @@ fn signed_at<'t>(
 /// An operator, which is next, and its operand.
 #[cycle(syntax)]
 fn prefixed_at<'t>(
-    text: Text<'t>,
+    text: &Text,
     names: &mut Names,
     operator: PrefixOperator,
     tokens: &'t [Token],
@@ -158,7 +158,7 @@ fn prefixed_at<'t>(
 /// `(`, which is next, an expression and `)`.
 #[cycle(syntax)]
 fn enclosed_at<'t>(
-    text: Text<'t>,
+    text: &Text,
     names: &mut Names,
     tokens: &'t [Token],
     limit: u32,
@@ -186,7 +186,7 @@ fn enclosed_at<'t>(
 /// `(`, which is next, a type's name, `)` and an operand.
 #[cycle(syntax)]
 fn cast_at<'t>(
-    text: Text<'t>,
+    text: &Text,
     names: &mut Names,
     tokens: &'t [Token],
     limit: u32,
@@ -216,7 +216,7 @@ fn cast_at<'t>(
 /// `sizeof`, which is next, and a type's name in parentheses or an operand.
 #[cycle(syntax)]
 fn size_at<'t>(
-    text: Text<'t>,
+    text: &Text,
     names: &mut Names,
     tokens: &'t [Token],
     limit: u32,

@@ -15,7 +15,7 @@ use names_in_force::Names;
 /// What stands behind the token of the kind.
 #[cycle(syntax)]
 pub(crate) fn link_at<'t>(
-    text: Text<'t>,
+    text: &Text,
     names: &mut Names,
     kind: LinkKind,
     tokens: &'t [Token],
@@ -79,7 +79,7 @@ pub(crate) fn link_at<'t>(
 /// The two expressions behind `?`.
 #[cycle(syntax)]
 fn choices_at<'t>(
-    text: Text<'t>,
+    text: &Text,
     names: &mut Names,
     tokens: &'t [Token],
     limit: u32,
@@ -99,7 +99,7 @@ fn choices_at<'t>(
 }
 
 /// The expression that what stands before and behind a token make.
-fn form_of(text: Text, left: Expr, link: Link) -> Result<ExprForm, Memory> {
+fn form_of(text: &Text, left: Expr, link: Link) -> Result<ExprForm, Memory> {
     let left = Box::new(text.alloc, left)?;
     Ok(match link {
         Link::Index(inside) => ExprForm::Index(left, Box::new(text.alloc, inside)?),
@@ -121,14 +121,14 @@ fn form_of(text: Text, left: Expr, link: Link) -> Result<ExprForm, Memory> {
 
 /// The expression that what stands before and behind a token make, with its height.
 pub(crate) fn linked<'t>(
-    text: Text<'t>,
+    text: &Text,
     left: Found<'t, Expr>,
     link: Found<'t, Link>,
 ) -> Result<Found<'t, Expr>, Memory>
     requires left { left.height ≤ 499 }
     requires link { link.height ≤ 499 }
-    ensures rest { IfOk result (λ f. f.rest.now ≡ link.rest.now) }
-    ensures height { IfOk result (λ f. f.height ≡ max left.height link.height + 1) }
+    ensures rest { IfOk result (λ f. f.rest.now ≡ link.entry.rest.now) }
+    ensures height { IfOk result (λ f. f.height ≡ max left.entry.height link.entry.height + 1) }
 {
     let line = left.tree.line;
     Ok(Found {

@@ -13,7 +13,7 @@ use names_in_force::Names;
 
 /// The name that is next, which declares a parameter, and the tokens behind it.
 fn parameter_name<'t>(
-    text: Text<'t>,
+    text: &Text,
     names: &mut Names,
     tokens: &'t [Token],
 ) -> Result<(Bytes, &'t [Token]), Stop>
@@ -26,7 +26,7 @@ fn parameter_name<'t>(
 
 /// Names between commas, at least one, and `)`.
 pub(crate) fn names_at<'t>(
-    text: Text<'t>,
+    text: &Text,
     names: &mut Names,
     tokens: &'t [Token],
 ) -> Result<(Items<Bytes>, &'t [Token]), Stop>
@@ -46,7 +46,7 @@ pub(crate) fn names_at<'t>(
 /// Parameters between commas, at least one, perhaps `, ...`, and `)`.
 #[cycle(syntax)]
 pub(crate) fn parameters_at<'t>(
-    text: Text<'t>,
+    text: &Text,
     names: &mut Names,
     tokens: &'t [Token],
     limit: u32,
@@ -105,7 +105,7 @@ fn put_declared(
 /// A parameter, whose name is in force from its declarator's end.
 #[cycle(syntax)]
 fn parameter_at<'t>(
-    text: Text<'t>,
+    text: &Text,
     names: &mut Names,
     tokens: &'t [Token],
     limit: u32,

@@ -160,7 +160,7 @@ impl<'s> Parser<'s> {
         }
         let text = self.text();
         let tokens = &self.tokens[self.place..];
-        let read = counted(piece_at(text, &mut self.names, level, tokens, MOST_HIGH));
+        let read = counted(piece_at(&text, &mut self.names, level, tokens, MOST_HIGH));
         self.take(read)
     }
 
@@ -171,7 +171,7 @@ impl<'s> Parser<'s> {
         }
         let text = self.text();
         let tokens = &self.tokens[self.place..];
-        let read = counted(whole_at(text, &mut self.names, tokens, MOST_HIGH));
+        let read = counted(whole_at(&text, &mut self.names, tokens, MOST_HIGH));
         self.take(read)
     }
 
@@ -192,7 +192,7 @@ impl<'s> Parser<'s> {
         }
         let text = self.text();
         let tokens = &self.tokens[self.place..];
-        let read = counted(type_name_at(text, &mut self.names, tokens, MOST_HIGH));
+        let read = counted(type_name_at(&text, &mut self.names, tokens, MOST_HIGH));
         self.take(read)
     }
 
@@ -203,7 +203,7 @@ impl<'s> Parser<'s> {
         }
         let text = self.text();
         let tokens = &self.tokens[self.place..];
-        let read = counted(specifiers_at(text, &mut self.names, tokens, MOST_HIGH));
+        let read = counted(specifiers_at(&text, &mut self.names, tokens, MOST_HIGH));
         self.take(read)
     }
 
@@ -220,7 +220,7 @@ impl<'s> Parser<'s> {
             free: false,
             outer: true,
         };
-        let read = counted(declarator_at(text, &mut self.names, shape, tokens, MOST_HIGH));
+        let read = counted(declarator_at(&text, &mut self.names, shape, tokens, MOST_HIGH));
         self.take(read)
     }
 }

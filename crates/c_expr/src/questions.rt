@@ -15,7 +15,7 @@ fn is_specifier_word(keyword: u8) -> bool {
 }
 
 /// Whether one more specifier is next, behind others of which one said a type, or none.
-pub(crate) fn begins_specifier(text: Text, names: &Names, typed: bool, tokens: &[Token]) -> bool {
+pub(crate) fn begins_specifier(text: &Text, names: &Names, typed: bool, tokens: &[Token]) -> bool {
     match tokens.first() {
         Some(token) => match token.class {
             Class::Name => !typed && names.is_typedef(text.bytes(*token)),
@@ -27,7 +27,7 @@ pub(crate) fn begins_specifier(text: Text, names: &Names, typed: bool, tokens: &
 }
 
 /// Whether a type's name in parentheses is next.
-pub(crate) fn begins_type(text: Text, names: &Names, tokens: &[Token]) -> bool {
+pub(crate) fn begins_type(text: &Text, names: &Names, tokens: &[Token]) -> bool {
     match after(tokens, OPEN) {
         Some(rest) => begins_specifier(text, names, false, rest),
         None => false,
@@ -47,7 +47,7 @@ pub(crate) fn begins_declarator(tokens: &[Token]) -> bool {
 }
 
 /// Whether a declared name is next, or a declarator in parentheses.
-pub(crate) fn begins_core(text: Text, names: &Names, tokens: &[Token]) -> bool {
+pub(crate) fn begins_core(text: &Text, names: &Names, tokens: &[Token]) -> bool {
     if name(tokens).is_some() {
         return true;
     }

@@ -16,7 +16,7 @@ use names_in_force::Names;
 
 /// A tag, if a name is next, and the tokens behind it.
 pub(crate) fn tag_at<'t>(
-    text: Text<'t>,
+    text: &Text,
     tokens: &'t [Token],
 ) -> Result<(Option<Bytes>, &'t [Token]), Memory>
     ensures shorter { IfOk result (λ r. length r.1.now ≤ length tokens.now) }
@@ -30,7 +30,7 @@ pub(crate) fn tag_at<'t>(
 /// What stands behind `struct` or `union`.
 #[cycle(syntax)]
 pub(crate) fn record_at<'t>(
-    text: Text<'t>,
+    text: &Text,
     names: &mut Names,
     kind: RecordKind,
     tokens: &'t [Token],
@@ -66,7 +66,7 @@ pub(crate) fn record_at<'t>(
 /// Lines of members, at least one, and `}`.
 #[cycle(syntax)]
 fn members_at<'t>(
-    text: Text<'t>,
+    text: &Text,
     names: &mut Names,
     tokens: &'t [Token],
     limit: u32,
@@ -98,7 +98,7 @@ fn members_at<'t>(
 /// A line of members.
 #[cycle(syntax)]
 fn member_at<'t>(
-    text: Text<'t>,
+    text: &Text,
     names: &mut Names,
     tokens: &'t [Token],
     limit: u32,
@@ -126,7 +126,7 @@ fn member_at<'t>(
 /// Members between commas, at least one, and `;`.
 #[cycle(syntax)]
 fn fields_at<'t>(
-    text: Text<'t>,
+    text: &Text,
     names: &mut Names,
     tokens: &'t [Token],
     limit: u32,
@@ -156,7 +156,7 @@ fn fields_at<'t>(
 /// The constant expression behind the sign, if that is next.
 #[cycle(syntax)]
 pub(crate) fn constant_behind<'t>(
-    text: Text<'t>,
+    text: &Text,
     names: &mut Names,
     sign: u8,
     tokens: &'t [Token],
@@ -186,7 +186,7 @@ pub(crate) fn constant_behind<'t>(
 /// A member: its declarator, its width, or both.
 #[cycle(syntax)]
 fn field_at<'t>(
-    text: Text<'t>,
+    text: &Text,
     names: &mut Names,
     tokens: &'t [Token],
     limit: u32,

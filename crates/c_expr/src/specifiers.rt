@@ -16,7 +16,7 @@ use names_in_force::Names;
 /// The specifiers that are next, at least one.
 #[cycle(syntax)]
 pub(crate) fn specifiers_at<'t>(
-    text: Text<'t>,
+    text: &Text,
     names: &mut Names,
     tokens: &'t [Token],
     limit: u32,
@@ -78,7 +78,7 @@ fn word_form(keyword: u8) -> Option<SpecifierForm> {
 /// The specifier that is next.
 #[cycle(syntax)]
 fn specifier_at<'t>(
-    text: Text<'t>,
+    text: &Text,
     names: &mut Names,
     tokens: &'t [Token],
     limit: u32,
@@ -103,7 +103,7 @@ fn specifier_at<'t>(
 /// A specifier that begins with the keyword, which is next.
 #[cycle(syntax)]
 fn worded_at<'t>(
-    text: Text<'t>,
+    text: &Text,
     names: &mut Names,
     keyword: u8,
     tokens: &'t [Token],

@@ -21,7 +21,7 @@ fn begins_suffix(tokens: &[Token]) -> bool {
 /// no part of another; the names of its parameters are kept.
 #[cycle(syntax)]
 pub(crate) fn suffixes_at<'t>(
-    text: Text<'t>,
+    text: &Text,
     names: &mut Names,
     own: bool,
     tokens: &'t [Token],
@@ -52,7 +52,7 @@ pub(crate) fn suffixes_at<'t>(
 /// The suffix that is next.
 #[cycle(syntax)]
 fn suffix_at<'t>(
-    text: Text<'t>,
+    text: &Text,
     names: &mut Names,
     own: bool,
     tokens: &'t [Token],
@@ -96,7 +96,7 @@ fn end_list(names: &mut Names, own: bool) -> Result<(), Memory> {
 /// An array's size behind `[`, if there is one, and `]`.
 #[cycle(syntax)]
 fn size_at<'t>(
-    text: Text<'t>,
+    text: &Text,
     names: &mut Names,
     tokens: &'t [Token],
     limit: u32,
@@ -123,7 +123,7 @@ fn size_at<'t>(
 /// Behind `(`: nothing, names or parameters, and `)`.
 #[cycle(syntax)]
 fn list_at<'t>(
-    text: Text<'t>,
+    text: &Text,
     names: &mut Names,
     tokens: &'t [Token],
     limit: u32,

@@ -32,7 +32,7 @@ pub(crate) const STRUCT: u8 = 24;
 pub(crate) const UNION: u8 = 27;
 
 /// The source that tokens are of, which contracts see as its bytes, and where trees are allocated.
-#[derive(Clone, Copy)]
+#[derive(Drop)]
 pub(crate) struct Text<'t> {
     pub(crate) alloc: Global,
     source: &'t [u8],

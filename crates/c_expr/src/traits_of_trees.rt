@@ -82,7 +82,14 @@ pub fn declared_name(declarator: &Declarator) -> Option<&Bytes> {
 
 /// Whether the declarator is a name, perhaps in parentheses.
 fn just_name(declarator: &Declarator) -> bool {
-    declarator.pointers.is_empty() && declarator.suffixes.is_empty() && is_own(&declarator.core)
+    if !declarator.pointers.is_empty() || !declarator.suffixes.is_empty() {
+        return false;
+    }
+    match &declarator.core {
+        DeclaratorCore::Declared(_) => true,
+        DeclaratorCore::Parentheses(inner) => just_name(inner),
+        DeclaratorCore::Omitted => false,
+    }
 }
 
 /// Whether a suffix behind it is that of the declared name itself.

@@ -14,7 +14,7 @@ use names_in_force::Names;
 /// A declarator, if one is next. Free: its name may be left out.
 #[cycle(syntax)]
 pub(crate) fn maybe_declarator_at<'t>(
-    text: Text<'t>,
+    text: &Text,
     names: &mut Names,
     free: bool,
     tokens: &'t [Token],
@@ -49,7 +49,7 @@ fn is_abstract_or_none(declarator: &Option<Declarator>) -> bool {
 /// The type's name that is next.
 #[cycle(syntax)]
 pub(crate) fn type_name_at<'t>(
-    text: Text<'t>,
+    text: &Text,
     names: &mut Names,
     tokens: &'t [Token],
     limit: u32,

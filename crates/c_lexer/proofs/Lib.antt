@@ -9,4 +9,6 @@ mod Starts
 mod Lists
 mod Lengths
 mod Values
+pub mod Literals
 pub mod OneUnit
+pub mod PlacedTokens

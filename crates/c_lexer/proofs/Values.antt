@@ -7,12 +7,12 @@ use Rattle.c_lexer.specs.Chains.{Chain}
 use Rattle.c_lexer.specs.Quoted.{quoted, behind_quoted, next_character}
 use Rattle.c_lexer.specs.Characters.{Characters, Values}
 
-is_character : (k : Quoted) (n mid : ℕ) → behind_quoted k n ≡ Some mid → (v len : ℕ) × (k ≡ Character v len) × (mid ≡ n + len)
+pub is_character : (k : Quoted) (n mid : ℕ) → behind_quoted k n ≡ Some mid → (v len : ℕ) × (k ≡ Character v len) × (mid ≡ n + len)
 is_character (Character v len) n mid e = (v, len, refl, (let f : n + len ≡ mid = cc in sym f))
 is_character Close n mid e = absurd cc
 is_character (Fault kind) n mid e = absurd cc
 
-dropped : (bytes : List ℕ) (n len mid : ℕ) → mid ≡ n + len → drop mid bytes ≡ drop len (drop n bytes)
+pub dropped : (bytes : List ℕ) (n len mid : ℕ) → mid ≡ n + len → drop mid bytes ≡ drop len (drop n bytes)
 dropped bytes n len mid e = grind (arith, common_steps)
 
 values_from : (quote : ℕ) (bytes : List ℕ) (count n m : ℕ) → Chain (next_character quote bytes) count n m → quoted quote (drop m bytes) ≡ Close → (vs : List ℕ) × Values quote (drop n bytes) vs × (length vs ≡ count)

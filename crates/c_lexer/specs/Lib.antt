@@ -16,3 +16,4 @@ pub mod Tokens
 pub mod LexerState
 pub mod Texts
 pub mod SourceUnits
+pub mod PlacedTokens

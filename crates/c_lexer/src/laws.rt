@@ -9,7 +9,8 @@ ghost use Rattle.c_lexer.specs.LongestSigns.{longest_sign};
 ghost use Rattle.c_lexer.specs.Characters.{Characters, Values};
 ghost use Rattle.c_lexer.specs.Tokens.{Answer, Cuts, AreTokens};
 ghost use Rattle.c_ast.specs.Trees.{UnitTree};
-ghost use Rattle.c_lexer.specs.SourceUnits.{DenotesUnit};
+ghost use Rattle.c_lexer.specs.SourceUnits.{AreLexemes, DenotesUnit};
+ghost use Rattle.c_lexer.specs.PlacedTokens.{placed};
 
 use c_ast::one_unit;
 
@@ -42,3 +43,8 @@ pub fn one_source_unit()
 {
     one_unit();
 }
+
+/// The tokens of a source, one for one, are the lexemes that the grammar sees.
+pub fn placed_tokens()
+    ensures { (source : List ℕ) (p : Places) (ts : List Tokens) (e : Option Fault) → AreTokens source p ts e → AreLexemes source ts (placed source ts) }
+{}

@@ -23,10 +23,10 @@ mod start;
 mod tests;
 mod token;
 
-pub use laws::{longest, one_cut, one_list, one_source_unit, one_text};
+pub use laws::{longest, one_cut, one_list, one_source_unit, one_text, placed_tokens};
 pub use lex_fault::{LexFault, LexFaultKind};
 pub use lexer::Lexer;
 pub use literal::text_values;
 pub use place::Place;
 pub use scanning::scan;
-pub use token::Token;
+pub use token::{Token, bytes_of};

@@ -2,7 +2,7 @@ ghost use Rattle.std.specs.Prelude.{◌≡◌, ◌≤◌, length, IfOk};
 ghost use Rattle.c_lexer.specs.Texts.{text_of};
 
 use crate::quoted::{Quoted, read_quoted};
-use crate::token::Token;
+use crate::token::{Token, behind};
 use lcc_base::{Bytes, Memory};
 use std::alloc::Global;
 
@@ -13,10 +13,10 @@ pub fn text_values(alloc: Global, source: &[u8], token: Token) -> Result<Bytes, 
     ensures { IfOk result (λ b. b ≡ text_of source.now token) }
 {
     let mut values = Bytes::new(alloc);
-    let mut rest = &source[(token.start as usize + 1).min(source.len())..];
+    let mut rest = behind(source, token.start as usize + 1);
     while let Quoted::Character { value, len } = read_quoted(b'"', rest) {
         values.push(value)?;
-        rest = &rest[len..];
+        rest = behind(rest, len);
     }
     Ok(values)
 }

@@ -238,3 +238,24 @@ fn keywords_and_signs(rt: HostRuntime) -> Result<(), Fail> {
     }
     Ok(())
 }
+
+/// What names and string literals are made of, with an allocation for each.
+#[test]
+fn bytes_and_values(rt: HostRuntime) -> Result<(), Fail> {
+    let source = b"x1 \"a\\n\\x41\\0b\" \"\"";
+    let mut lexer = Lexer::new(source.as_slice());
+    let table: [(&[u8], Option<&[u8]>); 3] = [
+        (b"x1", None),
+        (b"\"a\\n\\x41\\0b\"", Some(b"a\nA\0b")),
+        (b"\"\"", Some(b"")),
+    ];
+    for (bytes, values) in table {
+        let token = lexer.next().ok().flatten().expect(&rt, "a token");
+        assert_eq!(rt; bytes_of(source.as_slice(), token), bytes);
+        if let Some(values) = values {
+            let found = text_values(rt.alloc(), source.as_slice(), token)?;
+            assert_eq!(rt; found.as_slice(), values);
+        }
+    }
+    Ok(())
+}

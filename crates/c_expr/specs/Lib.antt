@@ -1,0 +1,4 @@
+pub mod Productions
+pub mod Links
+pub mod Reads
+pub mod State
