@@ -1,4 +1,1 @@
-pub mod Productions
-pub mod Links
-pub mod Reads
 pub mod State
