@@ -1,0 +1,10 @@
+//! The names in force while C is read, by scope, and which of them are typedef names.
+#![tactic(auto)]
+
+mod bindings;
+mod bound;
+mod names;
+#[cfg(test)]
+mod tests;
+
+pub use names::Names;
