@@ -78,7 +78,8 @@ impl Names {
         ensures ok { OnOk result (self.new ≡ opened self.old) }
         ensures err { OnErr result (self.new ≡ self.old) }
     {
-        self.starts.push(self.bindings.len())?;
+        let start = self.bindings.len();
+        self.starts.push(start)?;
         Ok(())
     }
 
@@ -97,10 +98,7 @@ impl Names {
         ensures ok { OnOk result (self.new ≡ closed_kept self.old) }
         ensures err { OnErr result (self.new ≡ self.old) }
     {
-        let start = match self.starts.last() {
-            Some(start) => *start,
-            None => 0,
-        };
+        let start = self.starts.last().copied().unwrap_or(0);
         self.bindings.keep_from(start)?;
         self.close();
         Ok(())
