@@ -1,8 +1,8 @@
-/// A name in force, by its number.
+/// A binding of a name, by the name's number.
 #[derive(Clone, Copy, Debug)]
 pub(crate) struct Bound {
     pub(crate) number: usize,
     pub(crate) typedef: bool,
-    /// One more than the place of the same name's binding before it, 0 where there is none.
-    pub(crate) hidden: usize,
+    /// Whether the name was a typedef name before this binding.
+    pub(crate) before: bool,
 }

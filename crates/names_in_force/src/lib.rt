@@ -1,6 +1,7 @@
 //! The names in force while C is read, by scope, and which of them are typedef names.
 #![tactic(auto)]
 
+mod bindings;
 mod bound;
 mod names;
 #[cfg(test)]

@@ -1,8 +1,7 @@
 ghost use Rattle.std.specs.Prelude.{◌≡◌, IfOk, OnOk, OnErr};
-ghost use Rattle.c_ast.specs.InForce.{InForce, nothing_in_force, is_typedef, put, opened, closed, closed_kept, reopened, forgotten};
+ghost use Rattle.c_ast.specs.InForce.{nothing_in_force, is_typedef, put, opened, closed, closed_kept, reopened, forgotten};
 
-use crate::bound::Bound;
-use indexmap::IndexSet;
+use crate::bindings::Bindings;
 use lcc_base::Memory;
 use std::alloc::Global;
 use std::marker::Model;
@@ -11,28 +10,22 @@ use std::marker::Model;
 /// the same time at any depth. Source: C89 3.1.2.1.
 #[derive(Drop)]
 pub struct Names {
-    alloc: Global,
-    /// Each name that was put, once: its place is its number.
-    known: IndexSet<Vec<u8>>,
-    /// For each number, one more than the place of its innermost binding, 0 where it isn't in force.
-    latest: Vec<usize>,
-    /// The bindings in force, the newest last.
-    bound: Vec<Bound>,
+    bindings: Bindings,
     /// Where the bindings of each open scope start, the outermost first.
     starts: Vec<usize>,
-    /// The bindings that were kept, the newest last.
-    kept: Vec<Bound>,
 }
 
 impl Model for Names {
     ghost use Rattle.c_ast.specs.InForce.{InForce};
-    ghost use Rattle.names_in_force.specs.Holding.{names_of, IsNames};
 
     ghost Value = { InForce };
 
-    ghost view = { λ n. names_of n.known.entries n.bound.items n.starts.items n.kept.items };
+    ghost use Rattle.names_in_force.specs.Cut.{names_of, AreStarts};
+    ghost use Rattle.std.specs.Prelude.{reverse, length};
 
-    ghost invariant = { λ n. IsNames n.known.entries n.latest.items n.bound.items n.starts.items n.kept.items };
+    ghost view = { λ n. names_of n.bindings n.starts.items };
+
+    ghost invariant = { λ n. AreStarts (reverse n.starts.items) (length n.bindings.bound) };
 }
 
 impl Names {
@@ -43,12 +36,8 @@ impl Names {
         let mut starts = Vec::new(alloc);
         starts.push(0)?;
         Ok(Names {
-            alloc,
-            known: IndexSet::new(alloc),
-            latest: Vec::new(alloc),
-            bound: Vec::new(alloc),
+            bindings: Bindings::new(alloc),
             starts,
-            kept: Vec::new(alloc),
         })
     }
 
@@ -56,52 +45,32 @@ impl Names {
     pub fn is_typedef(&self, name: &[u8]) -> bool
         ensures { result ≡ is_typedef self.now name.now }
     {
-        match self.known.get_index_of(name) {
-            Some(number) => match self.latest[number] {
-                0 => false,
-                place => self.bound[place - 1].typedef,
-            },
-            None => false,
-        }
+        self.bindings.is_typedef(name)
     }
 
-    /// The number of a name, which it gets where it has none. After an error no name is another's
-    /// number, and none is in force that wasn't.
-    fn number(&mut self, name: &[u8]) -> Result<usize, Memory> {
-        if let Some(number) = self.known.get_index_of(name) {
-            return Ok(number);
-        }
-        self.latest.reserve(1)?;
-        let mut copy = Vec::new(self.alloc);
-        copy.extend_from_slice(name)?;
-        let (number, _) = self.known.insert_full(copy)?;
-        self.latest.push(0)?;
-        Ok(number)
-    }
-
-    /// Binds the name of a number in the innermost scope.
-    fn bind(&mut self, number: usize, typedef: bool) -> Result<(), Memory> {
-        let hidden = self.latest[number];
-        self.bound.push(Bound {
-            number,
-            typedef,
-            hidden,
-        })?;
-        self.latest[number] = self.bound.len();
-        Ok(())
-    }
-
-    /// The name comes into force in the innermost scope, as a typedef name or another. After an
-    /// error the names are as before.
+    /// The name comes into force in the innermost scope, as a typedef name or another; with no scope
+    /// open, in a new one. After an error the names are as before.
     pub fn put(&mut self, name: &[u8], typedef: bool) -> Result<(), Memory>
         ensures ok { OnOk result (self.new ≡ put self.old name.now typedef) }
         ensures err { OnErr result (self.new ≡ self.old) }
     {
-        let number = self.number(name)?;
         if self.starts.is_empty() {
-            self.starts.push(self.bound.len())?;
+            return self.put_alone(name, typedef);
         }
-        self.bind(number, typedef)
+        self.bindings.put(name, typedef)
+    }
+
+    /// The name comes into force in a new scope. After an error the names are as before.
+    fn put_alone(&mut self, name: &[u8], typedef: bool) -> Result<(), Memory>
+        ensures ok { OnOk result (self.new ≡ put (opened self.old) name.now typedef) }
+        ensures err { OnErr result (self.new ≡ self.old) }
+    {
+        self.open()?;
+        let result = self.bindings.put(name, typedef);
+        if result.is_err() {
+            self.close();
+        }
+        result
     }
 
     /// A scope without names begins in the innermost one. After an error the names are as before.
@@ -109,22 +78,9 @@ impl Names {
         ensures ok { OnOk result (self.new ≡ opened self.old) }
         ensures err { OnErr result (self.new ≡ self.old) }
     {
-        self.starts.push(self.bound.len())?;
+        let start = self.bindings.len();
+        self.starts.push(start)?;
         Ok(())
-    }
-
-    /// Takes the newest binding out of force.
-    fn unbind(&mut self) -> Option<Bound> {
-        let last = self.bound.pop()?;
-        self.latest[last.number] = last.hidden;
-        Some(last)
-    }
-
-    /// Takes the bindings from a place on out of force, the newest first.
-    fn unbind_to(&mut self, start: usize) {
-        while self.bound.len() > start {
-            self.unbind();
-        }
     }
 
     /// The innermost scope ends, if there is one.
@@ -132,7 +88,7 @@ impl Names {
         ensures { self.new ≡ closed self.old }
     {
         if let Some(start) = self.starts.pop() {
-            self.unbind_to(start);
+            self.bindings.unbind_to(start);
         }
     }
 
@@ -142,13 +98,8 @@ impl Names {
         ensures ok { OnOk result (self.new ≡ closed_kept self.old) }
         ensures err { OnErr result (self.new ≡ self.old) }
     {
-        let start = match self.starts.last() {
-            Some(start) => *start,
-            None => self.bound.len(),
-        };
-        let mut kept = Vec::new(self.alloc);
-        kept.extend_from_slice(&self.bound[start..])?;
-        self.kept = kept;
+        let start = self.starts.last().copied().unwrap_or(0);
+        self.bindings.keep_from(start)?;
         self.close();
         Ok(())
     }
@@ -159,20 +110,18 @@ impl Names {
         ensures ok { OnOk result (self.new ≡ reopened self.old) }
         ensures err { OnErr result (self.new ≡ self.old) }
     {
-        self.bound.reserve(self.kept.len())?;
-        self.starts.push(self.bound.len())?;
-        for k in 0..self.kept.len() {
-            let bound = self.kept[k];
-            self.bind(bound.number, bound.typedef)?;
+        self.starts.push(self.bindings.len())?;
+        let result = self.bindings.rebind_kept();
+        if result.is_err() {
+            self.starts.pop();
         }
-        self.kept.clear();
-        Ok(())
+        result
     }
 
     /// No names are kept.
     pub fn forget(&mut self)
         ensures { self.new ≡ forgotten self.old }
     {
-        self.kept.clear();
+        self.bindings.forget();
     }
 }
