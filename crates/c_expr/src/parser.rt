@@ -1,4 +1,4 @@
-ghost use Rattle.std.specs.Prelude.{◌≡◌, ◌≤◌, ◌<◌, ◌+◌, ◌↔◌, ◌×◌, IsTrue, None, Some, true, length, slice_get, IfOk, IfErr, OnOk, OnErr};
+ghost use Rattle.std.specs.Prelude.{◌≡◌, ◌≤◌, ◌<◌, ◌+◌, ◌↔◌, IsTrue, None, Some, true, length, slice_get, IfOk, IfErr, OnOk, OnErr};
 ghost use Rattle.c_ast.specs.InForce.{nothing_in_force, is_typedef, put, opened, closed, reopened};
 ghost use Rattle.c_ast.specs.declared.class.Class.TheVariants.{Name};
 ghost use Rattle.c_lexer.specs.SourceUnits.{bytes_of};
@@ -27,7 +27,7 @@ pub struct Parser<'s> {
 }
 
 impl<'s> Model for Parser<'s> {
-    ghost use Rattle.std.specs.Prelude.{◌≤◌, ◌×◌, length};
+    ghost use Rattle.std.specs.Prelude.{◌≤◌, length};
     ghost use Rattle.c_expr.specs.State.{MParser};
 
     ghost Value = { MParser };
