@@ -4,6 +4,7 @@ use Rattle.std.specs.Int.{int_wrap}
 use Rattle.lcc_base.specs.declared.order.Order.TheVariants.{Big, Little}
 use Rattle.lcc_base.specs.declared.cause.Cause.TheVariants as cause
 use Rattle.objects.specs.declared.byte.Byte.TheVariants.{Bits, Part}
+use Rattle.objects.specs.declared.purpose.Purpose.TheVariants.{Assignment, Initialisation}
 use Rattle.objects.specs.declared.value.ObjectName.{ObjectName}
 use Rattle.objects.specs.declared.value.Value.TheVariants.{Number, Pointer, Function}
 use Rattle.objects.specs.declared.width.Width.TheVariants.{Two, Four}
@@ -70,8 +71,11 @@ reads_part = refl
 reads_number : read Big int objects (Number 0) ≡ Err cause.Outside
 reads_number = refl
 
-writes_constant : written Big Four (Number 3) objects (Pointer eight 0) ≡ Err cause.ReadOnly
+writes_constant : written Assignment Big Four (Number 3) objects (Pointer eight 0) ≡ Err cause.ReadOnly
 writes_constant = refl
+
+initialises_constant : written Initialisation Little Two (Number 515) (record { made = 6; constant = true; bytes = Bits 0 0 ∷ Bits 0 0 ∷ [] } ∷ []) (Pointer (record { place = 0; made = 6; size = 2 }) 0) ≡ Ok (record { made = 6; constant = true; bytes = Bits 255 3 ∷ Bits 255 2 ∷ [] } ∷ [])
+initialises_constant = refl
 
 -- the four highest bits of the last byte are known, the highest bits of a unit filled from the least
 reads_field : field_read Little (record { first = 28; width = 4; signed = true }) objects (Pointer four 0) ≡ Ok (Number 3)
@@ -110,8 +114,8 @@ backward = refl
 no_multiple : subtracted objects 4 (Pointer eight 0) (Pointer eight 6) ≡ Err cause.PointerOrder
 no_multiple = refl
 
-overlap : copied (record { made = 5; constant = false; bytes = Bits 255 1 ∷ Bits 255 2 ∷ Bits 0 0 ∷ [] } ∷ []) (Pointer (record { place = 0; made = 5; size = 3 }) 0) (Pointer (record { place = 0; made = 5; size = 3 }) 1) 2 1 ≡ Err cause.Overlap
+overlap : copied Assignment (record { made = 5; constant = false; bytes = Bits 255 1 ∷ Bits 255 2 ∷ Bits 0 0 ∷ [] } ∷ []) (Pointer (record { place = 0; made = 5; size = 3 }) 0) (Pointer (record { place = 0; made = 5; size = 3 }) 1) 2 1 ≡ Err cause.Overlap
 overlap = refl
 
-copies : copied (record { made = 5; constant = false; bytes = Bits 255 1 ∷ Bits 255 2 ∷ Bits 0 0 ∷ [] } ∷ []) (Pointer (record { place = 0; made = 5; size = 3 }) 2) (Pointer (record { place = 0; made = 5; size = 3 }) 0) 1 1 ≡ Ok (record { made = 5; constant = false; bytes = Bits 0 0 ∷ Bits 255 2 ∷ Bits 0 0 ∷ [] } ∷ [])
+copies : copied Assignment (record { made = 5; constant = false; bytes = Bits 255 1 ∷ Bits 255 2 ∷ Bits 0 0 ∷ [] } ∷ []) (Pointer (record { place = 0; made = 5; size = 3 }) 2) (Pointer (record { place = 0; made = 5; size = 3 }) 0) 1 1 ≡ Ok (record { made = 5; constant = false; bytes = Bits 0 0 ∷ Bits 255 2 ∷ Bits 0 0 ∷ [] } ∷ [])
 copies = refl

@@ -7,6 +7,7 @@ use Rattle.lcc_base.specs.declared.order.Order.TheVariants.{Big, Little}
 use Rattle.lcc_base.specs.declared.cause.Cause.{Cause}
 use Rattle.lcc_base.specs.declared.cause.Cause.TheVariants.{Outside, Misaligned, Dead, ReadOnly, PointerNumber}
 use Rattle.objects.specs.declared.byte.Byte.{Byte}
+use Rattle.objects.specs.declared.purpose.Purpose.{Purpose}
 use Rattle.objects.specs.declared.value.ObjectName.{ObjectName}
 use Rattle.objects.specs.declared.value.Value.{Value}
 use Rattle.objects.specs.declared.value.Value.TheVariants.{Number, Pointer, Function}
@@ -15,7 +16,7 @@ use Rattle.objects.specs.declared.width.Width.TheVariants.{One, Two, Four}
 use Rattle.objects.specs.declared.width.Scalar.{Scalar}
 use Rattle.objects.specs.Values.{bytes_in}
 use Rattle.objects.specs.Objects.{Object, is_named, if_named, object_of, contents, bytes_at, overwritten, with_bytes, stored}
-use Rattle.objects.specs.Causes.{first_cause, unless, is_outside, is_misaligned, is_dead, is_read_only, is_narrowed}
+use Rattle.objects.specs.Causes.{first_cause, unless, is_outside, is_misaligned, is_dead, is_refused, is_narrowed}
 use Rattle.objects.specs.Conversions.{converted}
 use Rattle.objects.specs.Scalars.{scalar_bytes, scalar_of}
 use Rattle.objects.specs.Accesses.{read_cause, write_cause, if_none, read, written}
@@ -36,11 +37,11 @@ stored_elsewhere (y ∷ ys) zero place new (suc u) h = refl
 stored_elsewhere (y ∷ ys) (suc o) place new zero h = refl
 stored_elsewhere (y ∷ ys) (suc o) place new (suc u) h = stored_elsewhere ys o place new u (λ e. h (ap suc e))
 
-unless_none : {A : Type 0} → (c : Option Cause) (a b : A) → unless c a ≡ Ok b → c ≡ None
+pub unless_none : {A : Type 0} → (c : Option Cause) (a b : A) → unless c a ≡ Ok b → c ≡ None
 unless_none None a b e = refl
 unless_none (Some c) a b e = absurd (let never : ⊥ = cc in never)
 
-unless_same : {A : Type 0} → (c : Option Cause) (a b : A) → unless c a ≡ Ok b → a ≡ b
+pub unless_same : {A : Type 0} → (c : Option Cause) (a b : A) → unless c a ≡ Ok b → a ≡ b
 unless_same None a b e = cc
 unless_same (Some c) a b e = absurd (let never : ⊥ = cc in never)
 
@@ -52,11 +53,11 @@ if_none_same : {A : Type 0} → (c : Option Cause) (r : Result A Cause) (b : A) 
 if_none_same None r b e = e
 if_none_same (Some c) r b e = absurd (let never : ⊥ = cc in never)
 
-first_not : (b : Bool) (c : Cause) (cs : List (Bool × Cause)) → first_cause ((b, c) ∷ cs) ≡ None → b ≡ false
+pub first_not : (b : Bool) (c : Cause) (cs : List (Bool × Cause)) → first_cause ((b, c) ∷ cs) ≡ None → b ≡ false
 first_not true c cs e = absurd (let never : ⊥ = cc in never)
 first_not false c cs e = refl
 
-first_rest : (b : Bool) (c : Cause) (cs : List (Bool × Cause)) → first_cause ((b, c) ∷ cs) ≡ None → first_cause cs ≡ None
+pub first_rest : (b : Bool) (c : Cause) (cs : List (Bool × Cause)) → first_cause ((b, c) ∷ cs) ≡ None → first_cause cs ≡ None
 first_rest true c cs e = absurd (let never : ⊥ = cc in never)
 first_rest false c cs e = e
 
@@ -85,11 +86,11 @@ and_right : (a b : Bool) → (a && b) ≡ true → b ≡ true
 and_right true b e = e
 and_right false b e = absurd (let never : ⊥ = cc in never)
 
-size_of : (name : ObjectName) (x : Object) → is_named name x ≡ true → length x.bytes ≡ name.size
+pub size_of : (name : ObjectName) (x : Object) → is_named name x ≡ true → length x.bytes ≡ name.size
 size_of name x e = eqb-true (length x.bytes) name.size (and_right (x.made == name.made) (length x.bytes == name.size) e)
 
 -- as many bytes as the type has
-bytes_count : (order : Order) (w : Width) (v : Value) → is_narrowed w v ≡ false → length (scalar_bytes order w v) ≡ bytes_in w
+pub bytes_count : (order : Order) (w : Width) (v : Value) → is_narrowed w v ≡ false → length (scalar_bytes order w v) ≡ bytes_in w
 bytes_count Big One (Number n) e = refl
 bytes_count Big Two (Number n) e = refl
 bytes_count Big Four (Number n) e = refl
@@ -105,41 +106,41 @@ bytes_count order Two (Function f) e = absurd (let never : ⊥ = cc in never)
 bytes_count Big Four (Function f) e = refl
 bytes_count Little Four (Function f) e = refl
 
-not_less : (a b : ℕ) → nat_lt a b ≡ false → b ≤ a
+pub not_less : (a b : ℕ) → nat_lt a b ≡ false → b ≤ a
 not_less a b e = grind (arith, e)
 
 -- what stands at a place of an object once it was written there
-stands : (objects : List Object) (name : ObjectName) (place size : ℕ) (new : List (Byte Value)) (x : Object) → slice_get objects name.place ≡ Some x → is_named name x ≡ true → length new ≡ size → place + size ≤ length x.bytes → bytes_at (stored objects name.place place new) name place size ≡ new
+pub stands : (objects : List Object) (name : ObjectName) (place size : ℕ) (new : List (Byte Value)) (x : Object) → slice_get objects name.place ≡ Some x → is_named name x ≡ true → length new ≡ size → place + size ≤ length x.bytes → bytes_at (stored objects name.place place new) name place size ≡ new
 stands objects name place size new x e h l inside =
     ap (λ o. take size (drop place (contents o))) (object_after objects name place new x e h)
     ∙ ap (λ (n : ℕ). take n (drop place (overwritten place new x.bytes))) (sym l)
     ∙ reads_written place new x.bytes (omega (arith, l, inside))
 
-no_read_cause : (objects : List Object) (name : ObjectName) (offset size : ℕ) → nat_lt name.size (offset + size) ≡ false → not (offset % size == 0) ≡ false → is_none (object_of objects name) ≡ false → read_cause objects (Pointer name offset) size size ≡ None
+pub no_read_cause : (objects : List Object) (name : ObjectName) (offset size : ℕ) → nat_lt name.size (offset + size) ≡ false → not (offset % size == 0) ≡ false → is_none (object_of objects name) ≡ false → read_cause objects (Pointer name offset) size size ≡ None
 no_read_cause objects name offset size outside misaligned dead =
     ap (λ (b : Bool). first_cause ((b, Outside) ∷ (not (offset % size == 0), Misaligned) ∷ (is_none (object_of objects name), Dead) ∷ [])) outside
     ∙ ap (λ (b : Bool). first_cause ((b, Misaligned) ∷ (is_none (object_of objects name), Dead) ∷ [])) misaligned
     ∙ ap (λ (b : Bool). first_cause ((b, Dead) ∷ [])) dead
 
 -- a number or function is no place
-nowhere : (order : Order) (w : Width) (v : Value) (objects new : List Object) (p : Value) → is_outside (bytes_in w) p ≡ true → written order w v objects p ≡ Ok new → ⊥
-nowhere order w v objects new p out e =
+nowhere : (purpose : Purpose) (order : Order) (w : Width) (v : Value) (objects new : List Object) (p : Value) → is_outside (bytes_in w) p ≡ true → written purpose order w v objects p ≡ Ok new → ⊥
+nowhere purpose order w v objects new p out e =
     let r = if_none_same (first_cause ((is_narrowed w v, PointerNumber) ∷ [])) _ new e in
-    let c = unless_none (write_cause objects p (bytes_in w) (bytes_in w)) _ new r in
-    let f = first_not (is_outside (bytes_in w) p) Outside ((is_misaligned (bytes_in w) p, Misaligned) ∷ (is_dead objects p, Dead) ∷ (is_read_only objects p, ReadOnly) ∷ []) c in
+    let c = unless_none (write_cause purpose objects p (bytes_in w) (bytes_in w)) _ new r in
+    let f = first_not (is_outside (bytes_in w) p) Outside ((is_misaligned (bytes_in w) p, Misaligned) ∷ (is_dead objects p, Dead) ∷ (is_refused purpose objects p, ReadOnly) ∷ []) c in
     not_true (is_outside (bytes_in w) p) f out
 
-pub written_is_read : (order : Order) (s : Scalar) (v w : Value) (objects new : List Object) (p : Value) → written order s.width v objects p ≡ Ok new → converted s v ≡ Ok w → read order s new p ≡ Ok w
-written_is_read order s v w objects new (Number n) e f = absurd (nowhere order s.width v objects new (Number n) refl e)
-written_is_read order s v w objects new (Function g) e f = absurd (nowhere order s.width v objects new (Function g) refl e)
-written_is_read order s v w objects new (Pointer name offset) e f =
+pub written_is_read : (purpose : Purpose) (order : Order) (s : Scalar) (v w : Value) (objects new : List Object) (p : Value) → written purpose order s.width v objects p ≡ Ok new → converted s v ≡ Ok w → read order s new p ≡ Ok w
+written_is_read purpose order s v w objects new (Number n) e f = absurd (nowhere purpose order s.width v objects new (Number n) refl e)
+written_is_read purpose order s v w objects new (Function g) e f = absurd (nowhere purpose order s.width v objects new (Function g) refl e)
+written_is_read purpose order s v w objects new (Pointer name offset) e f =
     let size = bytes_in s.width in
     let bytes = scalar_bytes order s.width v in
-    let narrow = first_not (is_narrowed s.width v) PointerNumber [] (if_none_none (first_cause ((is_narrowed s.width v, PointerNumber) ∷ [])) (unless (write_cause objects (Pointer name offset) size size) (stored objects name.place offset bytes)) new e) in
-    let rest = if_none_same (first_cause ((is_narrowed s.width v, PointerNumber) ∷ [])) (unless (write_cause objects (Pointer name offset) size size) (stored objects name.place offset bytes)) new e in
-    let none = unless_none (write_cause objects (Pointer name offset) size size) (stored objects name.place offset bytes) new rest in
-    let is_new = unless_same (write_cause objects (Pointer name offset) size size) (stored objects name.place offset bytes) new rest in
-    let last = (is_read_only objects (Pointer name offset), ReadOnly) ∷ [] in
+    let narrow = first_not (is_narrowed s.width v) PointerNumber [] (if_none_none (first_cause ((is_narrowed s.width v, PointerNumber) ∷ [])) (unless (write_cause purpose objects (Pointer name offset) size size) (stored objects name.place offset bytes)) new e) in
+    let rest = if_none_same (first_cause ((is_narrowed s.width v, PointerNumber) ∷ [])) (unless (write_cause purpose objects (Pointer name offset) size size) (stored objects name.place offset bytes)) new e in
+    let none = unless_none (write_cause purpose objects (Pointer name offset) size size) (stored objects name.place offset bytes) new rest in
+    let is_new = unless_same (write_cause purpose objects (Pointer name offset) size size) (stored objects name.place offset bytes) new rest in
+    let last = (is_refused purpose objects (Pointer name offset), ReadOnly) ∷ [] in
     let third = (is_dead objects (Pointer name offset), Dead) ∷ last in
     let second = (is_misaligned size (Pointer name offset), Misaligned) ∷ third in
     let outside = first_not (is_outside size (Pointer name offset)) Outside second none in

@@ -6,6 +6,8 @@ use Rattle.lcc_base.specs.declared.order.Order.{Order}
 use Rattle.lcc_base.specs.declared.cause.Cause.{Cause}
 use Rattle.lcc_base.specs.NumberIn.{number_in}
 use Rattle.objects.specs.declared.byte.Byte.{Byte}
+use Rattle.objects.specs.declared.purpose.Purpose.{Purpose}
+use Rattle.objects.specs.declared.purpose.Purpose.TheVariants.{Assignment, Initialisation}
 use Rattle.objects.specs.declared.value.ObjectName.{ObjectName}
 use Rattle.objects.specs.declared.value.Value.{Value}
 use Rattle.objects.specs.declared.value.Value.TheVariants.{Number, Pointer, Function}
@@ -50,6 +52,11 @@ abbrev pub is_read_only : List Object → Value → Bool
 is_read_only objects (Pointer object offset) = is_constant (object_of objects object)
 is_read_only objects (Number n) = false
 is_read_only objects (Function f) = false
+
+-- an initialiser's own stores go into const objects too
+abbrev pub is_refused : Purpose → List Object → Value → Bool
+is_refused Assignment objects p = is_read_only objects p
+is_refused Initialisation objects p = false
 
 -- ---- what is read
 

@@ -3,6 +3,7 @@
 use Rattle.std.specs.Prelude.{ℕ, List, [], ◌∷◌, Option, Some, None, Result}
 use Rattle.lcc_base.specs.declared.cause.Cause.{Cause}
 use Rattle.lcc_base.specs.declared.cause.Cause.TheVariants.{Overlap}
+use Rattle.objects.specs.declared.purpose.Purpose.{Purpose}
 use Rattle.objects.specs.declared.value.Value.{Value}
 use Rattle.objects.specs.Objects.{Object}
 use Rattle.objects.specs.Causes.{first_cause, unless, overlaps_in_part}
@@ -14,12 +15,12 @@ or_cause None other = other
 or_cause (Some c) other = Some c
 
 -- why it isn't assigned: its source can't be read, its target can't be written, or they overlap in part
-abbrev pub copy_cause : List Object → Value → Value → ℕ → ℕ → Option Cause
-copy_cause objects from to size alignment =
+abbrev pub copy_cause : Purpose → List Object → Value → Value → ℕ → ℕ → Option Cause
+copy_cause purpose objects from to size alignment =
     or_cause (read_cause objects from size alignment)
-    (or_cause (write_cause objects to size alignment) (first_cause ((overlaps_in_part size from to, Overlap) ∷ [])))
+    (or_cause (write_cause purpose objects to size alignment) (first_cause ((overlaps_in_part size from to, Overlap) ∷ [])))
 
 -- the objects once so many bytes are copied
-abbrev pub copied : List Object → Value → Value → ℕ → ℕ → Result (List Object) Cause
-copied objects from to size alignment =
-    unless (copy_cause objects from to size alignment) (stored_through objects to (bytes_through objects from size))
+abbrev pub copied : Purpose → List Object → Value → Value → ℕ → ℕ → Result (List Object) Cause
+copied purpose objects from to size alignment =
+    unless (copy_cause purpose objects from to size alignment) (stored_through objects to (bytes_through objects from size))

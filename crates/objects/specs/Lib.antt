@@ -7,12 +7,16 @@ pub mod Bytes
 pub mod Causes
 pub mod Conversions
 pub mod Copies
+pub mod CopyLaws
 pub mod FieldLaws
 pub mod Fields
 pub mod Held
 pub mod NumberLaws
 pub mod Objects
+pub mod PlaceLaws
+pub mod Places
 pub mod Pointers
 pub mod ScalarLaws
 pub mod Scalars
+pub mod StorageLaws
 pub mod Values

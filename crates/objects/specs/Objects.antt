@@ -1,6 +1,6 @@
 -- Objects in their lifetimes, and what is changed in them.
 -- Source: ISO/IEC 9899:1990, 3.14 (object), 6.1.2.4 (storage durations).
-use Rattle.std.specs.Prelude.{ℕ, zero, suc, ◌==◌, ◌&&◌, Bool, false, List, [], ◌∷◌, length, take, drop, Option, Some, None, slice_get, if◌then◌else◌}
+use Rattle.std.specs.Prelude.{ℕ, zero, suc, ◌+◌, ◌==◌, ◌&&◌, Bool, false, List, [], ◌∷◌, ◌++◌, length, take, drop, Option, Some, None, slice_get, if◌then◌else◌}
 use Rattle.objects.specs.declared.byte.Byte.{Byte}
 use Rattle.objects.specs.declared.value.ObjectName.{ObjectName}
 use Rattle.objects.specs.declared.value.Value.{Value}
@@ -15,6 +15,18 @@ pub record Object : Type 0 where
 pub record Storage : Type 0 where
   pub objects : List Object
   pub made : ℕ
+
+-- the name of the object of so many bytes that is made next
+abbrev pub next_name : Storage → ℕ → ObjectName
+next_name s size = record { place = length s.objects; made = s.made; size = size }
+
+-- an object of these bytes made
+abbrev pub with_object : Storage → Bool → List (Byte Value) → Storage
+with_object s constant bytes = record { objects = s.objects ++ record { made = s.made; constant = constant; bytes = bytes } ∷ []; made = s.made + 1 }
+
+-- all objects but the first so many are past their lifetimes
+abbrev pub ended : Storage → ℕ → Storage
+ended s count = record { objects = take count s.objects; made = s.made }
 
 -- it is the object of this name
 abbrev pub is_named : ObjectName → Object → Bool

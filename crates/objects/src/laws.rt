@@ -1,17 +1,20 @@
 //! Laws of what is read and written. Each function's contract is one, and nothing runs.
-ghost use Rattle.std.specs.Prelude.{◌≡◌, ◌≤◌, ◌<◌, ◌⊎◌, ℕ, ◌+◌, ◌*◌, ◌%◌, ◌^◌, Bool, List, ◌++◌, length, map, take, drop, slice_get, Ok};
+ghost use Rattle.std.specs.Prelude.{◌≡◌, ◌≤◌, ◌<◌, ◌⊎◌, ℕ, ◌+◌, ◌*◌, ◌%◌, ◌^◌, Bool, List, ◌++◌, length, map, take, drop, is_none, slice_get, Some, None, Ok};
 ghost use Rattle.lcc_base.specs.declared.order.Order.{Order};
 ghost use Rattle.lcc_base.specs.NumberIn.{number_in};
-ghost use Rattle.objects.specs.Accesses.{read, written};
+ghost use Rattle.objects.specs.Accesses.{read, written, bytes_through};
+ghost use Rattle.objects.specs.Copies.{copied};
 ghost use Rattle.objects.specs.Bytes.{known_of, value_of};
 ghost use Rattle.objects.specs.Causes.{bits_from};
 ghost use Rattle.objects.specs.Conversions.{converted, extended};
 ghost use Rattle.objects.specs.Fields.{with_bits, with_field, field_in};
 ghost use Rattle.objects.specs.NumberLaws.{by_order};
-ghost use Rattle.objects.specs.Objects.{Object, overwritten};
+ghost use Rattle.objects.specs.Objects.{Object, Storage, overwritten, object_of, stored, next_name, with_object, ended};
 ghost use Rattle.objects.specs.Scalars.{scalar_of, scalar_bytes};
 ghost use Rattle.objects.specs.declared.byte.Byte.{Byte};
 ghost use Rattle.objects.specs.declared.field.Field.{Field};
+ghost use Rattle.objects.specs.declared.purpose.Purpose.{Purpose};
+ghost use Rattle.objects.specs.declared.value.ObjectName.{ObjectName};
 ghost use Rattle.objects.specs.declared.value.Value.{Value};
 ghost use Rattle.objects.specs.declared.value.Value.TheVariants.{Number};
 ghost use Rattle.objects.specs.declared.width.Scalar.{Scalar};
@@ -42,10 +45,28 @@ pub fn bits_are_written()
 
 /// A scalar that was written through a pointer is read back through it, as the value converted to its type.
 pub fn written_scalars_are_read()
-    ensures { (order : Order) (s : Scalar) (v w : Value) (objects new : List Object) (p : Value) → written order s.width v objects p ≡ Ok new → converted s v ≡ Ok w → read order s new p ≡ Ok w }
+    ensures { (purpose : Purpose) (order : Order) (s : Scalar) (v w : Value) (objects new : List Object) (p : Value) → written purpose order s.width v objects p ≡ Ok new → converted s v ≡ Ok w → read order s new p ≡ Ok w }
 {}
 
 /// A bit-field that was written is read back as the number of its width, whatever its unit held.
 pub fn fields_are_read_back()
     ensures { (order : Order) (f : Field) (n : ℕ) (unit : List (Byte Value)) → f.first + f.width ≤ 32 → number_in order (map known_of unit) < 2 ^ 32 → number_in order (map value_of unit) < 2 ^ 32 → field_in order f (with_field order f n unit) ≡ Ok (Number (extended f.signed f.width n)) }
+{}
+
+/// What a store leaves of other objects, and of which names are alive; what the making of an object and
+/// the end of others leave of each: a name that was given means the same object as long as it lives, and
+/// nothing from then on.
+pub fn objects_live_and_end()
+    ensures others { (objects : List Object) (o place : ℕ) (new : List (Byte Value)) (name : ObjectName) → (name.place ≡ o → ⊥) → object_of (stored objects o place new) name ≡ object_of objects name }
+    ensures lives { (objects : List Object) (o place : ℕ) (new : List (Byte Value)) (name : ObjectName) → is_none (object_of (stored objects o place new) name) ≡ is_none (object_of objects name) }
+    ensures made { (s : Storage) (constant : Bool) (bytes : List (Byte Value)) → object_of (with_object s constant bytes).objects (next_name s (length bytes)) ≡ Some (record { made = s.made; constant = constant; bytes = bytes }) }
+    ensures before { (s : Storage) (constant : Bool) (bytes : List (Byte Value)) (name : ObjectName) → name.made < s.made → object_of (with_object s constant bytes).objects name ≡ object_of s.objects name }
+    ensures kept { (s : Storage) (count : ℕ) (name : ObjectName) → name.place < count → object_of (ended s count).objects name ≡ object_of s.objects name }
+    ensures ended { (s : Storage) (count : ℕ) (name : ObjectName) → count ≤ name.place → object_of (ended s count).objects name ≡ None }
+{}
+
+/// A structure that was assigned has the bytes that its source had: unknown ones, and those of pointers
+/// and functions too.
+pub fn structures_are_copied()
+    ensures { (purpose : Purpose) (objects new : List Object) (from to : Value) (size alignment : ℕ) → copied purpose objects from to size alignment ≡ Ok new → bytes_through new to size ≡ bytes_through objects from size }
 {}

@@ -1,16 +1,19 @@
 //! An object: its bytes as values, with masks of known bits only where a bit is unknown, and bytes of
 //! pointers and functions only where there are any.
-ghost use Rattle.std.specs.Prelude.{◌≡◌, ◌<◌, ◌≤◌, ◌+◌, ◌^◌, ℕ, [], ◌∷◌, Some, length, take, drop, map, replicate, slice_get, IfOk, OnOk, OnErr};
+ghost use Rattle.std.specs.Prelude.{◌≡◌, ◌<◌, ◌≤◌, ◌+◌, ◌^◌, ℕ, false, [], ◌∷◌, Some, length, take, drop, map, replicate, slice_get, IfOk, OnOk, OnErr};
 ghost use Rattle.objects.specs.Bytes.{known_bytes, number_bytes};
+ghost use Rattle.objects.specs.Causes.{is_narrowed};
+ghost use Rattle.objects.specs.Fields.{with_field};
 ghost use Rattle.objects.specs.Objects.{with_bytes};
-ghost use Rattle.objects.specs.Scalars.{scalar_of};
+ghost use Rattle.objects.specs.Scalars.{scalar_of, scalar_bytes};
 ghost use Rattle.objects.specs.Values.{bytes_in};
 ghost use Rattle.objects.specs.declared.byte.Byte.TheVariants.{Bits};
 
 use crate::conversions::to_scalar;
-use crate::scalars::{half_bytes, scalar as scalar_in, word_bytes};
+use crate::fields::write_field;
+use crate::scalars::{half_bytes, parts, scalar as scalar_in, word_bytes};
 use crate::slices::{complete, number_at, paste, shown};
-use crate::{Byte, Scalar, Value, Width};
+use crate::{Byte, Field, Scalar, Value, Width};
 use lcc_base::{Cause, Memory, Order};
 use std::alloc::Global;
 use std::collections::BTreeMap;
@@ -96,12 +99,19 @@ impl Object {
         requires { place < length self.now.bytes }
         ensures { slice_get self.now.bytes place ≡ Some result }
     {
-        let at = place as usize;
+        self.byte_at(place as usize)
+    }
+
+    /// The byte at a place.
+    fn byte_at(&self, at: usize) -> Byte<Value>
+        requires { at < length self.now.bytes }
+        ensures { slice_get self.now.bytes at ≡ Some result }
+    {
         let value = self.values[at];
         if self.masks.is_empty() {
             Byte::Bits { known: 255, value }
         } else {
-            shown(&self.parts, place, self.masks[at], value)
+            shown(&self.parts, at as u32, self.masks[at], value)
         }
     }
 
@@ -111,22 +121,30 @@ impl Object {
         ensures ok { OnOk result (self.new ≡ with_bytes self.old place (byte ∷ [])) }
         ensures err { OnErr result (self.new ≡ self.old) }
     {
+        self.set_at(place as usize, byte)
+    }
+
+    /// Sets the byte at a place.
+    fn set_at(&mut self, at: usize, byte: Byte<Value>) -> Result<(), Memory>
+        requires { at < length self.old.bytes }
+        ensures ok { OnOk result (self.new ≡ with_bytes self.old at (byte ∷ [])) }
+        ensures err { OnErr result (self.new ≡ self.old) }
+    {
         match byte {
             Byte::Bits { known: 255, value } => {
-                self.set_known(place, value);
+                self.set_known(at, value);
                 Ok(())
             }
-            Byte::Bits { known, value } => self.set_bits(place, known, value),
-            Byte::Part { .. } => self.set_part(place, byte),
+            Byte::Bits { known, value } => self.set_bits(at, known, value),
+            Byte::Part { .. } => self.set_part(at, byte),
         }
     }
 
     /// Sets the byte at a place, all of whose bits are known.
-    fn set_known(&mut self, place: u32, value: u8)
-        requires { place < length self.old.bytes }
-        ensures { self.new ≡ with_bytes self.old place (Bits 255 value ∷ []) }
+    fn set_known(&mut self, at: usize, value: u8)
+        requires { at < length self.old.bytes }
+        ensures { self.new ≡ with_bytes self.old at (Bits 255 value ∷ []) }
     {
-        let at = place as usize;
         self.values[at] = value;
         if !self.masks.is_empty() {
             self.masks[at] = 255;
@@ -134,31 +152,51 @@ impl Object {
     }
 
     /// Sets the byte at a place, some of whose bits are known.
-    fn set_bits(&mut self, place: u32, known: u8, value: u8) -> Result<(), Memory>
-        requires { place < length self.old.bytes }
-        ensures ok { OnOk result (self.new ≡ with_bytes self.old place (Bits known value ∷ [])) }
+    fn set_bits(&mut self, at: usize, known: u8, value: u8) -> Result<(), Memory>
+        requires { at < length self.old.bytes }
+        ensures ok { OnOk result (self.new ≡ with_bytes self.old at (Bits known value ∷ [])) }
         ensures err { OnErr result (self.new ≡ self.old) }
     {
-        let at = place as usize;
         complete(&mut self.masks, self.values.len())?;
-        self.parts.remove(&place);
+        self.parts.remove(&(at as u32));
         self.values[at] = value;
         self.masks[at] = known;
         Ok(())
     }
 
     /// Sets the byte at a place to one of a pointer or function.
-    fn set_part(&mut self, place: u32, part: Byte<Value>) -> Result<(), Memory>
-        requires { place < length self.old.bytes }
-        ensures ok { OnOk result (self.new ≡ with_bytes self.old place (part ∷ [])) }
+    fn set_part(&mut self, at: usize, part: Byte<Value>) -> Result<(), Memory>
+        requires { at < length self.old.bytes }
+        ensures ok { OnOk result (self.new ≡ with_bytes self.old at (part ∷ [])) }
         ensures err { OnErr result (self.new ≡ self.old) }
     {
-        let at = place as usize;
         complete(&mut self.masks, self.values.len())?;
-        self.parts.insert(place, part)?;
+        self.parts.insert(at as u32, part)?;
         self.values[at] = 0;
         self.masks[at] = 0;
         Ok(())
+    }
+
+    /// Sets the bytes from a place on. After `Memory` some of the first are set.
+    pub fn put(&mut self, place: u32, bytes: &[Byte<Value>]) -> Result<(), Memory>
+        requires { place + length bytes.now ≤ length self.old.bytes }
+        ensures ok { OnOk result (self.new ≡ with_bytes self.old place bytes.now) }
+        ensures err { OnErr result ((count : ℕ) × (self.new ≡ with_bytes self.old place (take count bytes.now))) }
+    {
+        let at = place as usize;
+        for (k, byte) in bytes.iter().enumerate() {
+            self.set_at(at + k, *byte)?;
+        }
+        Ok(())
+    }
+
+    /// Sets each byte to zero.
+    pub fn clear(&mut self)
+        ensures { self.new ≡ with_bytes self.old 0 (replicate (length self.old.bytes) (Bits 255 0)) }
+    {
+        self.values.fill(0);
+        self.masks.clear();
+        self.parts.clear();
     }
 
     /// Sets the bytes from a place on, all of whose bits are known.
@@ -188,6 +226,47 @@ impl Object {
         }
     }
 
+    /// Stores a value as a scalar of so many bytes. After `Memory` some of its first bytes are stored.
+    /// Condition: a pointer or function has four.
+    pub fn store(
+        &mut self,
+        order: Order,
+        width: Width,
+        place: u32,
+        value: Value,
+    ) -> Result<(), Memory>
+        requires whole { is_narrowed width value ≡ false }
+        requires inside { place + bytes_in width ≤ length self.old.bytes }
+        ensures ok { OnOk result (self.new ≡ with_bytes self.old place (scalar_bytes order width value)) }
+        ensures err { OnErr result ((count : ℕ) × (self.new ≡ with_bytes self.old place (take count (scalar_bytes order width value)))) }
+    {
+        match value {
+            Value::Number(n) => {
+                self.store_number(order, width, place, n);
+                Ok(())
+            }
+            _ => self.put(place, &parts(order, value)),
+        }
+    }
+
+    /// Stores a number's low bits in the field of the unit at a place. After `Memory` some of the unit's
+    /// first bytes are stored.
+    pub fn store_field(
+        &mut self,
+        order: Order,
+        field: Field,
+        place: u32,
+        n: u32,
+    ) -> Result<(), Memory>
+        requires field { field.first + field.width ≤ 32 }
+        requires inside { place + 4 ≤ length self.old.bytes }
+        ensures ok { OnOk result (self.new ≡ with_bytes self.old place (with_field order field n (take 4 (drop place self.old.bytes)))) }
+        ensures err { OnErr result ((count : ℕ) × (self.new ≡ with_bytes self.old place (take count (with_field order field n (take 4 (drop place self.old.bytes)))))) }
+    {
+        let unit = write_field(order, field, n, &self.unit(place));
+        self.put(place, &unit)
+    }
+
     /// The scalar of a type at a place. `Unknown` where a bit is unknown, else `PointerBytes` where some
     /// bytes are those of pointers or functions, and not all of one in order.
     pub fn load(&self, order: Order, scalar: Scalar, place: u32) -> Result<Value, Cause>
@@ -210,8 +289,8 @@ impl Object {
         requires { place + 2 ≤ length self.now.bytes }
         ensures { result ≡ take 2 (drop place self.now.bytes) }
     {
-        let _ = &self.made;
-        [self.byte(place), self.byte(place + 1)]
+        let at = place as usize;
+        [self.byte_at(at), self.byte_at(at + 1)]
     }
 
     /// Four bytes from a place on.
@@ -219,12 +298,12 @@ impl Object {
         requires { place + 4 ≤ length self.now.bytes }
         ensures { result ≡ take 4 (drop place self.now.bytes) }
     {
-        let _ = &self.made;
+        let at = place as usize;
         [
-            self.byte(place),
-            self.byte(place + 1),
-            self.byte(place + 2),
-            self.byte(place + 3),
+            self.byte_at(at),
+            self.byte_at(at + 1),
+            self.byte_at(at + 2),
+            self.byte_at(at + 3),
         ]
     }
 }

@@ -22,4 +22,9 @@ returns-clause-ok c =
     let more = c.in_ok-complete.ensures.ok in
     let all = completed_length c.self.inside.masks.items c.complete.new.masks.items c.self.inside.values.items c.len.result (c.len.ensures ∙ c.self.inside.values.ok.0) more c.self.invariant.complete in
     let whole = completed_view c.self.inside.made c.self.inside.constant (get nat_cmp c.self.inside.parts) c.self.inside.masks.items c.complete.new.masks.items c.self.inside.values.items c.len.result c.args.self.now c.self.view_is (c.len.ensures ∙ c.self.inside.values.ok.0) more in
-    masked_changed c.self.inside.made c.self.inside.constant (get nat_cmp c.self.inside.parts) (get nat_cmp c.remove.new.self) c.self.inside.values.items c.complete.new.masks.items c.args.self.now c.args.place c.args.known c.args.value _ whole all (omega (arith, len)) (λ j ne. c.remove.ensures.updates.2 j (other_key c.args.place j ne)) (shown_none (get_by (nat_cmp c.args.place) c.remove.new.self) c.args.known c.args.value c.remove.ensures.updates.1)
+    masked_changed c.self.inside.made c.self.inside.constant (get nat_cmp c.self.inside.parts) (get nat_cmp c.remove.new.self) c.self.inside.values.items c.complete.new.masks.items c.args.self.now c.args.at c.args.known c.args.value _ whole all (omega (arith, len)) (λ j ne. c.remove.ensures.updates.2 j (other_key c.args.at j ne)) (shown_none (get_by (nat_cmp c.args.at) c.remove.new.self) c.args.known c.args.value c.remove.ensures.updates.1)
+
+pub overflow_cast-at : goal.overflow_cast-at
+overflow_cast-at c =
+    let len = bytes_length c.self.inside.made c.self.inside.constant (get nat_cmp c.self.inside.parts) c.self.inside.values.items c.self.inside.masks.items c.args.self.now c.self.view_is in
+    omega (arith, len, c.self.invariant.small)

@@ -1,0 +1,5 @@
+use Rattle.objects.specs.CopyLaws.{copied_is_there}
+use Rattle.objects.proofs.laws.structures_are_copied.Goals as goal
+
+pub returns : goal.returns
+returns c = copied_is_there
