@@ -183,6 +183,18 @@ zeroed_view m k p vs ks n e f = ap (λ xs. seen m k p xs ks) e ∙ ap (λ xs. se
 pub unknown_view : (m : ℕ) (k : Bool) (p : ℕ → Option (Byte Value)) (vs ks : List ℕ) (n : ℕ) → vs ≡ replicate n 0 → ks ≡ replicate n 0 → ((j : ℕ) → p j ≡ None) → seen m k p vs ks ≡ seen_as m k (replicate n (Bits 0 0))
 unknown_view m k p vs ks n e f h = ap (λ xs. seen m k p xs ks) e ∙ ap (λ xs. seen m k p (replicate n 0) xs) f ∙ ap (λ bs. seen_as m k bs) (unknowns p 0 n h)
 
+-- all bytes made zero
+all_over : {A : Type 0} → (b : A) (old : List A) → overwritten zero (replicate (length old) b) old ≡ replicate (length old) b
+all_over b [] = refl
+all_over b (x ∷ xs) = ap (λ ys. b ∷ ys) (all_over b xs)
+
+pub cleared : (m : ℕ) (k : Bool) (p q : ℕ → Option (Byte Value)) (vs ks zs ms : List ℕ) (now : Object) → seen m k p vs ks ≡ now → zs ≡ replicate (length vs) 0 → ms ≡ [] → seen m k q zs ms ≡ with_bytes now 0 (replicate (length now.bytes) (Bits 255 0))
+cleared m k p q vs ks zs ms now e f g =
+    zeroed_view m k q zs ms (length vs) f g
+    ∙ ap (λ n. seen_as m k (replicate n (Bits 255 0))) (sym (bytes_length m k p vs ks now e))
+    ∙ ap (λ bs. seen_as m k bs) (sym (all_over (Bits 255 0) now.bytes))
+    ∙ ap (λ (o : Object). seen_as o.made o.constant (overwritten zero (replicate (length now.bytes) (Bits 255 0)) now.bytes)) e
+
 -- keys that differ don't compare alike
 unlike : (o : Ordering) → (o ≡ Equal → ⊥) → is_eq o ≡ false
 unlike Less h = refl

@@ -1,5 +1,5 @@
 mod Examples
 pub mod Holding
 pub mod KnownLoads
-pub mod Storing
+pub mod Puts
 pub mod Wholes
