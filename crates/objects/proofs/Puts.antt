@@ -1,13 +1,11 @@
 -- Bytes stored one by one, and objects changed in their list.
-use Rattle.std.proofs.Common.{◌≡◌, ◌≢◌, ◌≤◌, ◌<◌, ◌⊎◌, inl, inr, ℕ, zero, suc, ◌+◌, ◌==◌, Bool, true, false, List, [], ◌∷◌, ◌++◌, length, take, drop, replicate, get_or, set, slice_get, Option, Some, None, refl, sym, ap, subst, ◌∙◌, arith, if◌then◌else◌}
+use Rattle.std.proofs.Common.{◌≡◌, ◌≤◌, ◌<◌, ◌⊎◌, inl, inr, ℕ, zero, suc, ◌+◌, List, [], ◌∷◌, ◌++◌, length, take, drop, get_or, set, slice_get, Some, refl, sym, ap, ◌∙◌, arith}
 use Rattle.std.proofs.lemmas.List.{length-take-le, length-drop, take_all}
 use Rattle.std.proofs.lemmas.Option.{slice_get-get_or, get_or_from_slice_get}
 use Rattle.std.proofs.Math.Seq.{take-suc}
 use Rattle.objects.specs.declared.byte.Byte.{Byte}
-use Rattle.objects.specs.declared.byte.Byte.TheVariants.{Bits}
 use Rattle.objects.specs.declared.value.Value.{Value}
 use Rattle.objects.specs.ByteLaws.{written_twice, others_stay, length-overwritten}
-use Rattle.objects.specs.AccessLaws.{stored_at, stored_elsewhere}
 use Rattle.objects.specs.Objects.{Object, contents, overwritten, with_bytes, stored}
 use Rattle.objects.proofs.Holding.{seen_as}
 

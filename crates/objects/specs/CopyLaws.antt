@@ -1,21 +1,20 @@
 -- A structure that was assigned has the bytes that its source had, unknown ones and those of pointers too.
-use Rattle.std.specs.Prelude.{◌≡◌, ◌≤◌, ℕ, ◌+◌, ◌%◌, ◌==◌, not, nat_lt, Bool, true, false, List, [], ◌∷◌, length, take, drop, Option, Some, None, is_none, slice_get, Ok}
+use Rattle.std.specs.Prelude.{◌≡◌, ℕ, ◌+◌, Bool, true, false, List, [], ◌∷◌, length, drop, Option, Some, None, slice_get, Ok}
 use Rattle.std.proofs.Common.{refl, sym, ap, subst, ◌∙◌, arith}
 use Rattle.std.proofs.lemmas.List.{length-take-le, length-drop}
 use Rattle.lcc_base.specs.declared.cause.Cause.{Cause}
 use Rattle.lcc_base.specs.declared.cause.Cause.TheVariants.{Outside, Misaligned, Dead, ReadOnly, Overlap}
 use Rattle.objects.specs.declared.byte.Byte.{Byte}
 use Rattle.objects.specs.declared.purpose.Purpose.{Purpose}
-use Rattle.objects.specs.declared.value.ObjectName.{ObjectName}
 use Rattle.objects.specs.declared.value.Value.{Value}
 use Rattle.objects.specs.declared.value.Value.TheVariants.{Number, Pointer, Function}
 use Rattle.objects.specs.AccessLaws.{first_not, first_rest, unless_none, unless_same, its_object, size_of, not_less, stands}
 use Rattle.objects.specs.Accesses.{read_cause, write_cause, bytes_through, stored_through}
 use Rattle.objects.specs.Causes.{first_cause, is_outside, is_misaligned, is_dead, is_refused, overlaps_in_part}
 use Rattle.objects.specs.Copies.{or_cause, copy_cause, copied}
-use Rattle.objects.specs.Objects.{Object, object_of, contents, bytes_at, stored}
+use Rattle.objects.specs.Objects.{Object, contents}
 use Rattle.objects.specs.Places.{GoesTo}
-use Rattle.objects.specs.PlaceLaws.{inside, reads, stores}
+use Rattle.objects.specs.PlaceLaws.{inside, reads}
 
 or_first : (c d : Option Cause) → or_cause c d ≡ None → c ≡ None
 or_first None d e = refl

@@ -1,5 +1,5 @@
 -- Laws of an access that goes to an object: what it reads and stores there.
-use Rattle.std.proofs.Common.{◌≡◌, ◌≤◌, ◌<◌, ◌⊎◌, inl, inr, ℕ, ◌+◌, ◌==◌, ◌&&◌, not, nat_lt, Bool, true, false, List, length, take, drop, Option, Some, None, slice_get, refl, sym, ap, subst, ◌∙◌, arith, if◌then◌else◌}
+use Rattle.std.proofs.Common.{◌≡◌, ◌≤◌, ◌<◌, ◌⊎◌, inl, inr, ℕ, ◌+◌, ◌==◌, ◌&&◌, not, nat_lt, Bool, true, false, List, length, take, drop, Some, None, slice_get, refl, sym, ap, subst, ◌∙◌, arith, if◌then◌else◌}
 use Rattle.std.proofs.lemmas.Bool.{eqb-true, eq-eqb}
 use Rattle.std.proofs.lemmas.Option.{slice_get_within}
 use Rattle.objects.specs.declared.byte.Byte.{Byte}
@@ -69,9 +69,9 @@ one_of false true true e = absurd (let never : ⊥ = cc in never)
 
 disjoint : (x y size : ℕ) → (not (x == y) && (nat_lt x (y + size) && nat_lt y (x + size))) ≡ false → (x ≡ y) ⊎ ((x + size ≤ y) ⊎ (y + size ≤ x))
 disjoint x y size e = elim (one_of (x == y) (nat_lt x (y + size)) (nat_lt y (x + size)) e) [
-    inl same ↦ inl (eqb-true x y same)
+  | inl same ↦ inl (eqb-true x y same)
   | inr other ↦ inr (elim other [ inl behind ↦ inr (not_less x (y + size) behind) | inr before ↦ inl (not_less y (x + size) before) ])
-  ]
+]
 
 -- bytes of one object that don't overlap in part are the same or apart
 pub apart : (objects : List Object) (p q : Value) (size a x b y : ℕ) → GoesTo objects p size a x → GoesTo objects q size b y → overlaps_in_part size p q ≡ false → a ≡ b → (x ≡ y) ⊎ ((x + size ≤ y) ⊎ (y + size ≤ x))
@@ -79,5 +79,5 @@ apart objects p q size a x b y g h e same =
     let it : g.it ≡ h.it = let s = g.lives in let t = h.lives in let u : slice_get objects a ≡ slice_get objects b = ap (λ (k : ℕ). slice_get objects k) same in cc in
     let names = one_object g.name h.name h.it (g.stands ∙ same ∙ sym h.stands) (subst (λ (z : Object). is_named g.name z ≡ true) it g.named) h.named in
     let whole : overlaps_in_part size (Pointer g.name x) (Pointer h.name y) ≡ false =
-        sym (ap (λ v. overlaps_in_part size v q) g.points ∙ ap (λ v. overlaps_in_part size (Pointer g.name x) v) h.points) ∙ e in
+    sym (ap (λ v. overlaps_in_part size v q) g.points ∙ ap (λ v. overlaps_in_part size (Pointer g.name x) v) h.points) ∙ e in
     disjoint x y size (sym (ap (λ (s : Bool). s && (not (x == y) && (nat_lt x (y + size) && nat_lt y (x + size)))) names) ∙ whole)

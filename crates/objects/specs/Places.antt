@@ -1,5 +1,5 @@
 -- Where accesses through values go, and what a store leaves that comes to no end.
-use Rattle.std.specs.Prelude.{◌≡◌, ◌≤◌, ℕ, ◌+◌, true, List, take, Option, Some, slice_get, Result, Err}
+use Rattle.std.specs.Prelude.{◌≡◌, ◌≤◌, ℕ, ◌+◌, true, List, take, Some, slice_get, Result, Err}
 use Rattle.lcc_base.specs.declared.cause.Cause.{Cause}
 use Rattle.objects.specs.declared.byte.Byte.{Byte}
 use Rattle.objects.specs.declared.store_fault.StoreFault.{StoreFault}

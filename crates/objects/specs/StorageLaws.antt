@@ -1,6 +1,6 @@
 -- Laws of the objects that live: what a store, the making of an object and the end of others leave of each object.
-use Rattle.std.specs.Prelude.{◌≡◌, ◌≤◌, ◌<◌, ℕ, zero, suc, ◌==◌, ◌&&◌, not, nat_lt, Bool, true, false, List, [], ◌∷◌, ◌++◌, length, take, Option, Some, None, is_none, slice_get, if◌then◌else◌}
-use Rattle.std.proofs.Common.{refl, sym, ap, ◌∙◌, arith, inl, inr, ◌⊎◌}
+use Rattle.std.specs.Prelude.{◌≡◌, ◌≤◌, ◌<◌, ℕ, zero, suc, ◌==◌, ◌&&◌, not, Bool, true, false, List, [], ◌∷◌, ◌++◌, length, take, Some, None, is_none, slice_get, if◌then◌else◌}
+use Rattle.std.proofs.Common.{refl, sym, ap, ◌∙◌, arith}
 use Rattle.std.proofs.lemmas.Bool.{eqb-true, eqb-false, eq-eqb}
 use Rattle.std.proofs.lemmas.Option.{slice_get_past}
 use Rattle.objects.specs.declared.byte.Byte.{Byte}
@@ -65,14 +65,14 @@ pub names_stay : (s : Storage) (constant : Bool) (bytes : List (Byte Value)) (na
 names_stay s constant bytes name h =
     let x : Object = record { made = s.made; constant = constant; bytes = bytes } in
     elim (name.place == length s.objects) as (λ b. (name.place == length s.objects) ≡ b → object_of (with_object s constant bytes).objects name ≡ object_of s.objects name) [
-        true ↦ (λ e.
-            let at = eqb-true name.place (length s.objects) e in
-            ap (λ (k : ℕ). if_named name (slice_get (s.objects ++ x ∷ []) k)) at
-            ∙ ap (λ o. if_named name o) (last_at s.objects x)
-            ∙ ap (λ (b : Bool). if b then Some x else None) (left_false (s.made == name.made) (length bytes == name.size) (other_made name.made s.made h))
-            ∙ sym (ap (λ o. if_named name o) (slice_get_past s.objects name.place (omega (arith, at)))))
+      | true ↦ (λ e.
+          let at = eqb-true name.place (length s.objects) e in
+          ap (λ (k : ℕ). if_named name (slice_get (s.objects ++ x ∷ []) k)) at
+          ∙ ap (λ o. if_named name o) (last_at s.objects x)
+          ∙ ap (λ (b : Bool). if b then Some x else None) (left_false (s.made == name.made) (length bytes == name.size) (other_made name.made s.made h))
+          ∙ sym (ap (λ o. if_named name o) (slice_get_past s.objects name.place (omega (arith, at)))))
       | false ↦ (λ e. ap (λ o. if_named name o) (elsewhere s.objects x name.place (eqb-false name.place (length s.objects) e)))
-      ] refl
+    ] refl
 
 -- ---- objects ended
 

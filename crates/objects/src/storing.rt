@@ -171,12 +171,7 @@ fn store_field(
 }
 
 /// Copies bytes of an object, from the first on, to others or themselves.
-fn copy_bytes(
-    objects: &mut Vec<Object>,
-    from: Place,
-    to: Place,
-    size: u32,
-) -> Result<(), Memory>
+fn copy_bytes(objects: &mut Vec<Object>, from: Place, to: Place, size: u32) -> Result<(), Memory>
     requires source { from.object < length objects.old.items }
     requires target { to.object < length objects.old.items }
     requires read { from.offset + size ≤ length (contents (slice_get objects.old.items from.object)) }

@@ -331,24 +331,54 @@ fn objects_made_and_ended(rt: HostRuntime) -> Result<(), Fail> {
     let second = storage.make_unknown(false, 8)?;
     assert_eq!(rt; (first.place, first.made, first.size), (0, 0, 4));
     assert_eq!(rt; (second.place, second.made, second.size), (1, 1, 8));
-    assert_eq!(rt; storage.read(Order::Big, WORD, at(first, 0)), Ok(Value::Number(0)));
-    assert_eq!(rt; storage.read(Order::Big, WORD, at(second, 4)), Err(Cause::Unknown));
-    assert_eq!(rt; assign(&mut storage, WORD, at(second, 8), at(first, 0)), Ok(()));
-    assert_eq!(rt; storage.read(Order::Big, WORD, at(first, 0)), Ok(at(second, 8)));
+    assert_eq!(rt;
+        storage.read(Order::Big, WORD, at(first, 0)),
+        Ok(Value::Number(0))
+    );
+    assert_eq!(rt;
+        storage.read(Order::Big, WORD, at(second, 4)),
+        Err(Cause::Unknown)
+    );
+    assert_eq!(rt;
+        assign(&mut storage, WORD, at(second, 8), at(first, 0)),
+        Ok(())
+    );
+    assert_eq!(rt;
+        storage.read(Order::Big, WORD, at(first, 0)),
+        Ok(at(second, 8))
+    );
     storage.end(1);
     assert_eq!(rt; storage.count(), 1);
-    assert_eq!(rt; storage.read(Order::Big, WORD, at(second, 0)), Err(Cause::Dead));
-    assert_eq!(rt; assign(&mut storage, WORD, Value::Number(1), at(second, 0)), undefined(Cause::Dead));
+    assert_eq!(rt;
+        storage.read(Order::Big, WORD, at(second, 0)),
+        Err(Cause::Dead)
+    );
+    assert_eq!(rt;
+        assign(&mut storage, WORD, Value::Number(1), at(second, 0)),
+        undefined(Cause::Dead)
+    );
     assert_eq!(rt; storage.move_by(at(second, 0), 1), Err(Cause::Dead));
-    assert_eq!(rt; storage.read(Order::Big, WORD, at(first, 0)), Ok(at(second, 8)));
+    assert_eq!(rt;
+        storage.read(Order::Big, WORD, at(first, 0)),
+        Ok(at(second, 8))
+    );
     let third = storage.make_zeroed(false, 8)?;
     assert_eq!(rt; (third.place, third.made), (1, 2));
     assert_eq!(rt; storage.lives(second), false);
     assert_eq!(rt; storage.is_dead(at(third, 0)), false);
-    assert_eq!(rt; storage.compare(at(second, 0), at(third, 0)), Err(Cause::Dead));
+    assert_eq!(rt;
+        storage.compare(at(second, 0), at(third, 0)),
+        Err(Cause::Dead)
+    );
     assert_eq!(rt; storage.compare(at(first, 0), at(third, 0)), Ok(false));
-    assert_eq!(rt; storage.order(at(third, 0), at(third, 4)), Ok(Ordering::Less));
-    assert_eq!(rt; storage.subtract(4, at(third, 8), at(third, 0)), Ok(Value::Number(2)));
+    assert_eq!(rt;
+        storage.order(at(third, 0), at(third, 4)),
+        Ok(Ordering::Less)
+    );
+    assert_eq!(rt;
+        storage.subtract(4, at(third, 8), at(third, 0)),
+        Ok(Value::Number(2))
+    );
     assert_eq!(rt; storage.test(at(third, 8)), Ok(true));
     Ok(())
 }
@@ -359,12 +389,30 @@ fn stores_refused(rt: HostRuntime) -> Result<(), Fail> {
     let object = storage.make_zeroed(false, 8)?;
     let constant = storage.make_zeroed(true, 4)?;
     let one = Value::Number(1);
-    assert_eq!(rt; assign(&mut storage, WORD, one, at(object, 8)), undefined(Cause::Outside));
-    assert_eq!(rt; assign(&mut storage, WORD, one, at(object, 6)), undefined(Cause::Outside));
-    assert_eq!(rt; assign(&mut storage, WORD, one, at(object, 2)), undefined(Cause::Misaligned));
-    assert_eq!(rt; assign(&mut storage, WORD, one, Value::Number(0)), undefined(Cause::Outside));
-    assert_eq!(rt; assign(&mut storage, WORD, one, at(constant, 0)), undefined(Cause::ReadOnly));
-    assert_eq!(rt; assign(&mut storage, CHAR, at(object, 0), at(object, 9)), undefined(Cause::PointerNumber));
+    assert_eq!(rt;
+        assign(&mut storage, WORD, one, at(object, 8)),
+        undefined(Cause::Outside)
+    );
+    assert_eq!(rt;
+        assign(&mut storage, WORD, one, at(object, 6)),
+        undefined(Cause::Outside)
+    );
+    assert_eq!(rt;
+        assign(&mut storage, WORD, one, at(object, 2)),
+        undefined(Cause::Misaligned)
+    );
+    assert_eq!(rt;
+        assign(&mut storage, WORD, one, Value::Number(0)),
+        undefined(Cause::Outside)
+    );
+    assert_eq!(rt;
+        assign(&mut storage, WORD, one, at(constant, 0)),
+        undefined(Cause::ReadOnly)
+    );
+    assert_eq!(rt;
+        assign(&mut storage, CHAR, at(object, 0), at(object, 9)),
+        undefined(Cause::PointerNumber)
+    );
     let initialised = storage.write(
         Purpose::Initialisation,
         Order::Big,
@@ -375,7 +423,10 @@ fn stores_refused(rt: HostRuntime) -> Result<(), Fail> {
     assert_eq!(rt; initialised, Ok(()));
     assert_eq!(rt; storage.read(Order::Big, WORD, at(constant, 0)), Ok(one));
     assert_eq!(rt; storage.clear(constant), Ok(()));
-    assert_eq!(rt; storage.read(Order::Big, WORD, at(constant, 0)), Ok(Value::Number(0)));
+    assert_eq!(rt;
+        storage.read(Order::Big, WORD, at(constant, 0)),
+        Ok(Value::Number(0))
+    );
     storage.end(1);
     assert_eq!(rt; storage.clear(constant), Err(Cause::Dead));
     Ok(())
@@ -386,22 +437,64 @@ fn structures_assigned(rt: HostRuntime) -> Result<(), Fail> {
     let mut storage = Storage::new(rt.alloc());
     let source = storage.make_unknown(false, 12)?;
     let target = storage.make_zeroed(false, 16)?;
-    assert_eq!(rt; assign(&mut storage, WORD, at(target, 16), at(source, 4)), Ok(()));
-    assert_eq!(rt; assign(&mut storage, CHAR, Value::Number(0x1ff), at(source, 9)), Ok(()));
-    assert_eq!(rt; assign_structure(&mut storage, at(source, 0), at(target, 4), 12), Ok(()));
-    assert_eq!(rt; storage.read(Order::Big, WORD, at(target, 0)), Ok(Value::Number(0)));
-    assert_eq!(rt; storage.read(Order::Big, WORD, at(target, 4)), Err(Cause::Unknown));
-    assert_eq!(rt; storage.read(Order::Big, WORD, at(target, 8)), Ok(at(target, 16)));
-    assert_eq!(rt; storage.read(Order::Big, CHAR, at(target, 13)), Ok(Value::Number(0xffff_ffff)));
-    assert_eq!(rt; assign_structure(&mut storage, at(target, 8), at(target, 8), 8), Ok(()));
-    assert_eq!(rt; assign_structure(&mut storage, at(target, 8), at(target, 0), 8), Ok(()));
-    assert_eq!(rt; storage.read(Order::Big, WORD, at(target, 0)), Ok(at(target, 16)));
-    assert_eq!(rt; assign_structure(&mut storage, at(target, 0), at(target, 4), 8), undefined(Cause::Overlap));
-    assert_eq!(rt; assign_structure(&mut storage, at(target, 12), at(source, 4), 8), undefined(Cause::Outside));
-    assert_eq!(rt; assign_structure(&mut storage, at(target, 8), at(source, 6), 4), undefined(Cause::Misaligned));
+    assert_eq!(rt;
+        assign(&mut storage, WORD, at(target, 16), at(source, 4)),
+        Ok(())
+    );
+    assert_eq!(rt;
+        assign(&mut storage, CHAR, Value::Number(0x1ff), at(source, 9)),
+        Ok(())
+    );
+    assert_eq!(rt;
+        assign_structure(&mut storage, at(source, 0), at(target, 4), 12),
+        Ok(())
+    );
+    assert_eq!(rt;
+        storage.read(Order::Big, WORD, at(target, 0)),
+        Ok(Value::Number(0))
+    );
+    assert_eq!(rt;
+        storage.read(Order::Big, WORD, at(target, 4)),
+        Err(Cause::Unknown)
+    );
+    assert_eq!(rt;
+        storage.read(Order::Big, WORD, at(target, 8)),
+        Ok(at(target, 16))
+    );
+    assert_eq!(rt;
+        storage.read(Order::Big, CHAR, at(target, 13)),
+        Ok(Value::Number(0xffff_ffff))
+    );
+    assert_eq!(rt;
+        assign_structure(&mut storage, at(target, 8), at(target, 8), 8),
+        Ok(())
+    );
+    assert_eq!(rt;
+        assign_structure(&mut storage, at(target, 8), at(target, 0), 8),
+        Ok(())
+    );
+    assert_eq!(rt;
+        storage.read(Order::Big, WORD, at(target, 0)),
+        Ok(at(target, 16))
+    );
+    assert_eq!(rt;
+        assign_structure(&mut storage, at(target, 0), at(target, 4), 8),
+        undefined(Cause::Overlap)
+    );
+    assert_eq!(rt;
+        assign_structure(&mut storage, at(target, 12), at(source, 4), 8),
+        undefined(Cause::Outside)
+    );
+    assert_eq!(rt;
+        assign_structure(&mut storage, at(target, 8), at(source, 6), 4),
+        undefined(Cause::Misaligned)
+    );
     let null = Value::Number(0);
     assert_eq!(rt; assign(&mut storage, CHAR, null, at(target, 0)), Ok(()));
-    assert_eq!(rt; storage.read(Order::Big, WORD, at(target, 0)), Err(Cause::PointerBytes));
+    assert_eq!(rt;
+        storage.read(Order::Big, WORD, at(target, 0)),
+        Err(Cause::PointerBytes)
+    );
     assert_eq!(rt; assign(&mut storage, WORD, null, at(target, 0)), Ok(()));
     assert_eq!(rt; storage.read(Order::Big, WORD, at(target, 0)), Ok(null));
     Ok(())
@@ -424,10 +517,19 @@ fn fields_of_an_object(rt: HostRuntime) -> Result<(), Fail> {
     let p = at(object, 0);
     let little = Order::Little;
     let purpose = Purpose::Assignment;
-    assert_eq!(rt; storage.write_field(purpose, little, low, Value::Number(0x1f), p), Ok(()));
-    assert_eq!(rt; storage.read_field(little, low, p), Ok(Value::Number(0xffff_ffff)));
+    assert_eq!(rt;
+        storage.write_field(purpose, little, low, Value::Number(0x1f), p),
+        Ok(())
+    );
+    assert_eq!(rt;
+        storage.read_field(little, low, p),
+        Ok(Value::Number(0xffff_ffff))
+    );
     assert_eq!(rt; storage.read_field(little, high, p), Err(Cause::Unknown));
-    assert_eq!(rt; storage.write_field(purpose, little, high, Value::Number(1), p), Ok(()));
+    assert_eq!(rt;
+        storage.write_field(purpose, little, high, Value::Number(1), p),
+        Ok(())
+    );
     assert_eq!(rt; storage.read(little, WORD, p), Ok(Value::Number(0x3f)));
     let refused = storage.write_field(purpose, little, low, p, at(object, 1));
     assert_eq!(rt; refused, undefined(Cause::PointerNumber));

@@ -1,4 +1,4 @@
-use Rattle.std.proofs.Common.{◌≡◌, length, replicate, ap, sym, ◌∙◌, arith}
+use Rattle.std.proofs.Common.{length, replicate, ap, sym, ◌∙◌}
 use Rattle.objects.specs.declared.byte.Byte.TheVariants.{Bits}
 use Rattle.objects.specs.Objects.{stored}
 use Rattle.objects.proofs.Puts.{object_stored, contents_there}

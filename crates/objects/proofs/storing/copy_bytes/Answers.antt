@@ -1,4 +1,4 @@
-use Rattle.std.proofs.Common.{◌<◌, ◌+◌, length, take, drop, slice_get, refl, ap, sym, ◌∙◌, arith}
+use Rattle.std.proofs.Common.{◌+◌, take, drop, slice_get, refl, sym, arith}
 use Rattle.objects.specs.Objects.{contents}
 use Rattle.objects.proofs.Puts.{stored_nothing, stored_step, object_stored, next_byte, as_long, as_large, taken_length}
 use Rattle.objects.proofs.storing.copy_bytes.Goals as goal
