@@ -5,7 +5,7 @@ use Rattle.objects.specs.declared.byte.Byte.{Byte}
 use Rattle.objects.specs.declared.value.ObjectName.{ObjectName}
 use Rattle.objects.specs.declared.value.Value.{Value}
 
--- how many were made before it, whether it may not be written, and its bytes, whose number is its size
+-- how many were made before it, whether nothing but its initialiser may write it, and its bytes, whose number is its size
 pub record Object : Type 0 where
   pub made : ℕ
   pub constant : Bool

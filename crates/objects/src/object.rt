@@ -19,8 +19,8 @@ use std::alloc::Global;
 use std::collections::BTreeMap;
 use std::marker::Model;
 
-/// An object in its lifetime, which contracts see as how many were made before it, whether it may not be
-/// written, and its bytes.
+/// An object in its lifetime, which contracts see as how many were made before it, whether nothing but its
+/// initialiser may write it, and its bytes.
 #[derive(Drop)]
 pub struct Object {
     made: u64,
@@ -80,7 +80,7 @@ impl Object {
         self.made
     }
 
-    /// Whether it may not be written.
+    /// Whether nothing but its initialiser may write it.
     pub fn is_constant(&self) -> bool
         ensures { result ≡ self.now.constant }
     {
