@@ -6,7 +6,9 @@ pub mod Growing
 pub mod Insides
 pub mod Keys
 pub mod Known
+pub mod Laid
 pub mod Named
+pub mod Noting
 pub mod Placed
 pub mod Sizes
 pub mod Stays

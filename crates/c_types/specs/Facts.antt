@@ -6,6 +6,7 @@ use Rattle.c_types.specs.declared.type_form.TypeForm.TheVariants as form
 use Rattle.c_types.specs.declared.type_form.Member.{Member}
 use Rattle.c_types.specs.declared.type_form.MemberPlace.{MemberPlace}
 use Rattle.c_types.specs.declared.type_table.Facts.{Facts}
+use Rattle.c_types.specs.declared.layout.Laying.{Laying}
 use Rattle.c_types.specs.declared.extent.Extent.{Extent}
 use Rattle.c_types.specs.Bounds.{IsBounded}
 use Rattle.c_types.specs.CType.{CType, qualify, depth}
@@ -27,3 +28,28 @@ pub record IsFactOf (t : Table) (f : TypeForm) (x : Facts) : Type 0 where
   pub extent : is_formed f ≡ true → is_qualified f ≡ false → is_open_form f ≡ false → extent (tags t) (type_of t f) ≡ x.extent
   pub open_form : is_open_form f ≡ true → x.extent ≡ no_object
   pub settled : is_formed f ≡ true → is_qualified f ≡ false → is_open_form f ≡ false → IsSettled (known (tags t)) (type_of t f)
+
+-- the first place that is known, or the other
+abbrev pub or_place : Option MemberPlace → Option MemberPlace → Option MemberPlace
+or_place (Some p) q = Some p
+or_place None q = q
+
+-- with a member's place under its name, where none has the name
+abbrev pub noted : List ℕ → MemberPlace → List ℕ → Option MemberPlace → Option MemberPlace
+noted name p asked known = or_place known (if bytes_eq asked name then Some p else None)
+
+-- the members of a structure or union laid in order
+pub record IsLaid (l : Laying) (kind : Bool) (fs : List Field) (ms : List Member) : Type 0 where
+  pub union : l.is_union ≡ kind
+  pub room : l.room ≡ laid kind start fs
+  pub bytes : l.room.bytes ≤ 16777216
+  pub align : l.align ≡ greatest_align fs
+  pub within : (0 < l.align) × (l.align ≤ 4)
+  pub nesting : l.nesting ≡ greatest_nesting fs
+  pub shallow : l.nesting ≤ 500
+  pub places : (name : List ℕ) → name ≢ [] → place_named l.places name ≡ places_of kind fs ms name
+
+-- the extents of members' types are those of types in a table
+abbrev pub AreBounded : List Field → Type 0
+AreBounded [] = Unit {0}
+AreBounded (f ∷ fs) = IsBounded f.extent × AreBounded fs

@@ -1,23 +1,23 @@
-ghost use Rattle.std.specs.Prelude.{◌≡◌, ◌≢◌, ◌<◌, ◌≤◌, ◌*◌, ℕ, Bool, [], Some, None, length, true, false, slice_get, IfOk, IfErr, IfSome, IfNone, OnOk, OnErr};
+ghost use Rattle.std.specs.Prelude.{◌≡◌, ◌≢◌, ◌<◌, ◌≤◌, ◌*◌, ◌++◌, ◌∷◌, ℕ, Bool, [], Some, None, length, true, false, slice_get, IfOk, IfErr, IfSome, IfNone, OnOk, OnErr};
 ghost use Rattle.c_types.specs.declared.type_fault.TypeFault.TheVariants as fault;
 ghost use Rattle.c_types.specs.declared.type_form.TypeForm.TheVariants as form;
 ghost use Rattle.c_types.specs.declared.extent.Extent.{Extent as ExtentValue};
 ghost use Rattle.c_types.specs.Bounds.{IsBounded};
 ghost use Rattle.c_types.specs.CType.{qualify, depth, greatest_depth, parameters_depth};
-ghost use Rattle.c_types.specs.Layout.{extent_by, known, no_object, object_align};
-ghost use Rattle.c_types.specs.Table.{Adds, AreBelow, AreSomeBelow, Extends, IsOver, IsRefusal, basic_forms, extent_at, form_at, form_refusal, formed, is_qualified, list_or_none, members_at, number_at, parameters_in, place_of_member, tagged, tags, type_at, type_in, types, types_in, types_of};
+ghost use Rattle.c_types.specs.Layout.{extent_by, known, no_object, object_align, structure_extent};
+ghost use Rattle.c_types.specs.Table.{Adds, AreBelow, AreMembersBelow, AreSomeBelow, Extends, IsOpen, IsOver, IsRefusal, are_objects, basic_forms, extent_at, fields_at, form_at, form_refusal, formed, is_above, is_qualified, list_or_none, members_at, members_refusal, number_at, parameters_in, place_of_member, tag_of, tagged, tags, type_at, type_in, types, types_in, types_of};
 ghost use Rattle.c_types.specs.Keeps.{IsFact, IsKeyOf, is_formed};
-ghost use Rattle.c_types.specs.Facts.{IsFactOf};
+ghost use Rattle.c_types.specs.Facts.{AreBounded, IsFactOf, IsLaid};
 
 use crate::definition::Definition;
 use crate::extent::Extent;
 use crate::form_key::FormKey;
-use crate::layout::{LARGEST, excess};
+use crate::layout::{LARGEST, Laying, excess};
 use crate::qualifiers::Qualifiers;
 use crate::type_fault::TypeFault;
 use crate::type_form::{Member, MemberPlace, TypeForm, TypeId};
 use indexmap::IndexMap;
-use lcc_base::Items;
+use lcc_base::{Items, Memory};
 use std::alloc::Global;
 use std::marker::Model;
 
@@ -413,6 +413,66 @@ impl TypeTable {
                 Ok(next)
             }
         }
+    }
+
+    /// Whether each member's type is complete and no function.
+    fn are_objects(&self, members: &[Member]) -> bool
+        requires { AreMembersBelow (length self.now.forms) members.now }
+        ensures is { result ≡ are_objects (fields_at self.now members.now) }
+        ensures bounded { result ≡ true → AreBounded (fields_at self.now members.now) }
+    {
+        for member in members {
+            if self.extent(member.of).size.is_none() {
+                return false;
+            }
+        }
+        true
+    }
+
+    /// The members laid in order.
+    fn lay(&self, is_union: bool, members: &[Member]) -> Result<Laying, TypeFault>
+        requires members { AreMembersBelow (length self.now.forms) members.now }
+        requires bounded { AreBounded (fields_at self.now members.now) }
+        ensures ok { IfOk result (λ l. IsLaid l is_union (fields_at self.now members.now) members.now) }
+        ensures err { IfErr result (λ e. e ≢ fault.Memory → (e ≡ fault.TooLarge) × (is_above (structure_extent is_union (fields_at self.now members.now)).size ≡ true)) }
+    {
+        let mut laying = Laying::new(self.alloc, is_union);
+        for member in members {
+            laying.lay(self.alloc, member, self.extent(member.of))?;
+        }
+        Ok(laying)
+    }
+
+    /// Gives a structure or union its members. Incomplete comes exactly where a member's type is
+    /// incomplete or a function; TooLarge exactly where the size is above 16,777,216; TooDeep exactly
+    /// where neither is so and the nesting is above 500. After an error the table is as before.
+    pub fn complete(&mut self, id: TypeId, members: Items<Member>) -> Result<(), TypeFault>
+        requires id { IsOpen self.old id }
+        requires members { AreMembersBelow (length self.old.forms) members }
+        ensures accepted { OnOk result (members_refusal self.old id members ≡ None) }
+        ensures refused { IfErr result (IsRefusal (members_refusal self.old id members)) }
+        ensures completed { OnOk result (self.new ≡ record { forms = self.old.forms; completed = self.old.completed ++ record { place = id; members = members } ∷ [] }) }
+        ensures tags { OnOk result (tags self.new ≡ tag_of self.old (record { place = id; members = members }) ∷ tags self.old) }
+        ensures extends { Extends self.old self.new }
+        ensures err { OnErr result (self.new ≡ self.old) }
+    {
+        if !self.are_objects(members.as_slice()) {
+            return Err(TypeFault::Incomplete);
+        }
+        let is_union = matches!(self.form(id), TypeForm::Union);
+        let laying = self.lay(is_union, members.as_slice())?;
+        let extent = laying.extent();
+        excess(1, extent)?;
+        let places = laying.into_places();
+        self.definitions.insert(
+            id,
+            Definition {
+                members,
+                places,
+                extent,
+            },
+        )?;
+        Ok(())
     }
 }
 
