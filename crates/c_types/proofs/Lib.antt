@@ -1,5 +1,6 @@
 pub mod Below
 pub mod Bits
+pub mod Completing
 pub mod Defined
 pub mod Fresh
 pub mod Growing

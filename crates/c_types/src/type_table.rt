@@ -5,7 +5,7 @@ ghost use Rattle.c_types.specs.declared.extent.Extent.{Extent as ExtentValue};
 ghost use Rattle.c_types.specs.Bounds.{IsBounded};
 ghost use Rattle.c_types.specs.CType.{qualify, depth, greatest_depth, parameters_depth};
 ghost use Rattle.c_types.specs.Layout.{extent_by, known, no_object, object_align, structure_extent};
-ghost use Rattle.c_types.specs.Table.{Adds, AreBelow, AreMembersBelow, AreSomeBelow, Extends, IsOpen, IsOver, IsRefusal, are_objects, basic_forms, extent_at, fields_at, form_at, form_refusal, formed, is_above, is_qualified, list_or_none, members_at, members_refusal, number_at, parameters_in, place_of_member, tag_of, tagged, tags, type_at, type_in, types, types_in, types_of};
+ghost use Rattle.c_types.specs.Table.{Adds, AreBelow, AreMembersBelow, AreSomeBelow, Extends, IsOpen, IsOver, IsRefusal, are_objects, basic_forms, extent_at, fields_at, form_at, form_refusal, formed, is_above, is_qualified, is_union, list_or_none, members_at, members_refusal, number_at, parameters_in, place_of_member, tag_of, tagged, tags, type_at, type_in, types, types_in, types_of};
 ghost use Rattle.c_types.specs.Keeps.{IsFact, IsKeyOf, is_formed};
 ghost use Rattle.c_types.specs.Facts.{AreBounded, IsFactOf, IsLaid};
 
@@ -443,6 +443,30 @@ impl TypeTable {
         Ok(laying)
     }
 
+    /// Whether the type at a place is a union, without qualifiers.
+    fn is_union(&self, id: TypeId) -> bool
+        requires { id < length self.now.forms }
+        ensures { result ≡ is_union (form_at self.now id) }
+    {
+        matches!(self.form(id), TypeForm::Union)
+    }
+
+    /// The members of the structure or union at a place, laid in order, unless they are refused.
+    fn laying_of(&self, id: TypeId, members: &[Member]) -> Result<Laying, TypeFault>
+        requires id { id < length self.now.forms }
+        requires members { AreMembersBelow (length self.now.forms) members.now }
+        ensures ok { IfOk result (λ l. IsLaid l (is_union (form_at self.now id)) (fields_at self.now members.now) members.now) }
+        ensures accepted { OnOk result (members_refusal self.now id members.now ≡ None) }
+        ensures refused { IfErr result (IsRefusal (members_refusal self.now id members.now)) }
+    {
+        if !self.are_objects(members) {
+            return Err(TypeFault::Incomplete);
+        }
+        let laying = self.lay(self.is_union(id), members)?;
+        excess(1, laying.extent())?;
+        Ok(laying)
+    }
+
     /// Gives a structure or union its members. Incomplete comes exactly where a member's type is
     /// incomplete or a function; TooLarge exactly where the size is above 16,777,216; TooDeep exactly
     /// where neither is so and the nesting is above 500. After an error the table is as before.
@@ -453,16 +477,11 @@ impl TypeTable {
         ensures refused { IfErr result (IsRefusal (members_refusal self.old id members)) }
         ensures completed { OnOk result (self.new ≡ record { forms = self.old.forms; completed = self.old.completed ++ record { place = id; members = members } ∷ [] }) }
         ensures tags { OnOk result (tags self.new ≡ tag_of self.old (record { place = id; members = members }) ∷ tags self.old) }
-        ensures extends { Extends self.old self.new }
+        ensures extends { OnOk result (Extends self.old self.new) }
         ensures err { OnErr result (self.new ≡ self.old) }
     {
-        if !self.are_objects(members.as_slice()) {
-            return Err(TypeFault::Incomplete);
-        }
-        let is_union = matches!(self.form(id), TypeForm::Union);
-        let laying = self.lay(is_union, members.as_slice())?;
+        let laying = self.laying_of(id, members.as_slice())?;
         let extent = laying.extent();
-        excess(1, extent)?;
         let places = laying.into_places();
         self.definitions.insert(
             id,
