@@ -1,3 +1,4 @@
+pub mod Bare
 pub mod Below
 pub mod Bits
 pub mod Completing

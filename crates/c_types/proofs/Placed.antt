@@ -172,7 +172,7 @@ is_new basics es ds f k p keep h u n t id g = by (nat_lt id 10) refl
         let r = entry_of es (id - 10) f s in
         lookup_none (eq k) es (id - 10) r.0 r.1 n (same_keys p (10 + (id - 10)) f k r.0.0 h (subst (λ z. IsKeyOf (10 + (id - 10)) z r.0.0) r.2 (keep.keys (id - 10) r.0 r.1)) t u)
 
-some_entry : {A : Type 0} (xs : List A) (i : ℕ) → i < length xs → (x : A) × (slice_get xs i ≡ Some x)
+pub some_entry : {A : Type 0} (xs : List A) (i : ℕ) → i < length xs → (x : A) × (slice_get xs i ≡ Some x)
 some_entry [] i l = absurd (omega arith)
 some_entry (x ∷ xs) zero l = (x, refl)
 some_entry (x ∷ xs) (suc i) l = some_entry xs i (omega arith)

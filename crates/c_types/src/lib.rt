@@ -2,6 +2,7 @@
 //! which are compatible, their composites, and the conversions of arithmetic.
 #![tactic(auto)]
 
+mod compatible;
 mod conversions;
 mod definition;
 mod extent;

@@ -1,0 +1,11 @@
+use Rattle.std.proofs.Common.{◌≡◌, sym, ap, ◌∙◌}
+use Rattle.c_types.specs.CType.{qualify}
+use Rattle.c_types.specs.Table.{type_at}
+use Rattle.c_types.proofs.Bits.{qualify_twice}
+use Rattle.c_types.proofs.type_table.TypeTable.under.Goals as goal
+
+pub returns-clause-means : goal.returns-clause-means
+returns-clause-means c =
+    let b = c.unqualified-base.result in
+    let u = type_at c.args.self.now b.0 in
+    ap (qualify c.args.qualifiers.0) c.unqualified-base.ensures.means ∙ qualify_twice c.args.qualifiers.0 b.1.0 u ∙ ap (λ z. qualify z u) (sym c.with.ensures)
