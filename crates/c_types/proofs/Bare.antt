@@ -57,7 +57,7 @@ pub bare_at : (basics : List TypeForm) (es : List (FormKey × Formed)) (ds : Lis
 bare_at basics es ds t k v id l q = subst IsBare (sym (means_at basics es ds t k v id l)) (bare_formed (types t) (number_at t id) (form_at t id) q)
 
 -- behind the basic types no form is one's
-formed_beyond : (basics : List TypeForm) (es : List (FormKey × Formed)) (ds : List (ℕ × Definition)) (t : Table) → Keeps basics es ds (table_of basics es ds) → table_of basics es ds ≡ t → (id : ℕ) → id < length t.forms → 10 ≤ id → is_formed (form_at t id) ≡ true
+pub formed_beyond : (basics : List TypeForm) (es : List (FormKey × Formed)) (ds : List (ℕ × Definition)) (t : Table) → Keeps basics es ds (table_of basics es ds) → table_of basics es ds ≡ t → (id : ℕ) → id < length t.forms → 10 ≤ id → is_formed (form_at t id) ≡ true
 formed_beyond basics es ds t k v id l b =
     let T = table_of basics es ds in
     let u : id < length T.forms = subst (λ (s : Table). id < length s.forms) (sym v) l in
@@ -288,4 +288,3 @@ parameter_bare q (Array of m) h n = absurd (true≢false n)
 pub parameter_array : (q : ℕ) (s : CType) → is_array s ≡ true → qualify q s ≡ unqualified (qualify q s)
 parameter_array q (Array of m) n = refl
 parameter_array q (Plain p k) n = absurd (true≢false (sym n))
-

@@ -106,13 +106,13 @@ one_laid l new kind e rest all m to_come members h u r b a n p =
       nesting = (let z : max (max l.nesting e.nesting) (greatest_nesting rest) ≡ max l.nesting (max e.nesting (greatest_nesting rest)) = omega arith in ap (λ x. max x (greatest_nesting rest)) n ∙ z ∙ h.nesting);
       shallow = (let x = h.shallow in let y = h.bounded.0.nesting in omega (arith, n));
       places = λ name g.
-        (let k = place_named l.places name in
-        let q = placed to_come (spots kind (next_room kind l.room e m.width) rest) name in
-        ap (λ o. or_place o (placed to_come (spots kind new.room rest) name)) (p name g)
-        ∙ ap (λ (x : Room). or_place (noted m.name (place_at m (spot_in l.is_union l.room e m.width)) name k) (placed to_come (spots kind x rest) name)) s
-        ∙ ap (λ t. or_place (noted m.name (place_at m (spot_in t l.room e m.width)) name k) q) h.union
-        ∙ first_place k (bytes_eq name m.name) (place_at m (spot_in kind l.room e m.width)) q
-        ∙ h.places name g);
+          (let k = place_named l.places name in
+          let q = placed to_come (spots kind (next_room kind l.room e m.width) rest) name in
+          ap (λ o. or_place o (placed to_come (spots kind new.room rest) name)) (p name g)
+          ∙ ap (λ (x : Room). or_place (noted m.name (place_at m (spot_in l.is_union l.room e m.width)) name k) (placed to_come (spots kind x rest) name)) s
+          ∙ ap (λ t. or_place (noted m.name (place_at m (spot_in t l.room e m.width)) name k) q) h.union
+          ∙ first_place k (bytes_eq name m.name) (place_at m (spot_in kind l.room e m.width)) q
+          ∙ h.places name g);
       bounded = h.bounded.1;
     }
 

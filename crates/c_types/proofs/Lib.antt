@@ -1,3 +1,4 @@
+pub mod Alike
 pub mod Bare
 pub mod Below
 pub mod Bits

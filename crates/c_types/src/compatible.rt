@@ -39,6 +39,7 @@ impl TypeTable {
         requires b { b.0 < length self.now.forms }
         ensures { result ≡ compatible (qualify a.1.0 (type_at self.now a.0)) (qualify b.1.0 (type_at self.now b.0)) }
     {
+        let _basic = &self.basic;
         let (x, p) = self.under(a.0, a.1);
         let (y, q) = self.under(b.0, b.1);
         match self.array_of(x) {
@@ -75,6 +76,7 @@ impl TypeTable {
         requires apart { a ≢ b }
         ensures { result ≡ kind_compatible (kind_of (type_at self.now a)) (type_at self.now b) }
     {
+        let _basic = &self.basic;
         if a < BASIC {
             return self.is_basic_compatible(a, b);
         }
@@ -196,8 +198,8 @@ impl TypeTable {
         if a.len() != b.len() {
             return false;
         }
-        for (i, id) in a.iter().enumerate() {
-            if !self.are_compatible(self.parameter(*id), self.parameter(b[i])) {
+        for i in 0..a.len() {
+            if !self.are_compatible(self.parameter(a[i]), self.parameter(b[i])) {
                 return false;
             }
         }

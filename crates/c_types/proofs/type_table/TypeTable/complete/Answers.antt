@@ -35,8 +35,8 @@ defined c =
     let m : AreMembersBelow (length T.forms) ms = subst (λ (t : Table). AreMembersBelow (length t.forms) ms) (sym c.self.view_is) c.requires.members in
     let r : members_refusal T id ms ≡ None = subst (λ (t : Table). members_refusal t id ms ≡ None) (sym c.self.view_is) (subst (λ (xs : List Member). members_refusal c.args.self.now id xs ≡ None) c.as_slice.ensures c.in_ok-laying.ensures.accepted) in
     let h : IsLaid l (is_union (form_at T id)) (fields_at T ms) ms =
-        subst (λ (t : Table). IsLaid l (is_union (form_at t id)) (fields_at t ms) ms) (sym c.self.view_is)
-        (subst (λ (xs : List Member). IsLaid l (is_union (form_at c.args.self.now id)) (fields_at c.args.self.now xs) xs) c.as_slice.ensures c.in_ok-laying.ensures.ok) in
+    subst (λ (t : Table). IsLaid l (is_union (form_at t id)) (fields_at t ms) ms) (sym c.self.view_is)
+    (subst (λ (xs : List Member). IsLaid l (is_union (form_at c.args.self.now id)) (fields_at c.args.self.now xs) xs) c.as_slice.ensures c.in_ok-laying.ensures.ok) in
     let x = extent_laid l (is_union (form_at T id)) (fields_at T ms) ms c.extent-extent.result h c.extent-extent.ensures.size c.extent-extent.ensures.align c.extent-extent.ensures.nesting in
     defined_now i.basic i.formed.entries i.definitions.entries id (definition c) c.self.invariant (open_before c) m r l h x c.into_places-places.ensures
 

@@ -38,7 +38,7 @@ returns-in_err-lay-clause-err c =
     let m = c.member-item.result in
     let h = next t l c.args.is_union ms i m c.extent.result c.loop-member-test.true c.member-item.is c.extent.ensures.is c.loop-member.invariant in
     handed_on c.from_residual.result c.in_err-lay.field-0.0 (λ e. e ≢ fault.Memory → (e ≡ fault.TooLarge) × (is_above (structure_extent c.args.is_union (fields_at t ms)).size ≡ true)) c.from_residual.ensures.1 (λ n.
-      (let x = c.in_err-lay.ensures.err n in (x.0, too_large l c.args.is_union c.extent.result (fields_at t (drop (i + 1) ms)) (fields_at t ms) m (drop (i + 1) ms) ms h x.1)))
+    (let x = c.in_err-lay.ensures.err n in (x.0, too_large l c.args.is_union c.extent.result (fields_at t (drop (i + 1) ms)) (fields_at t ms) m (drop (i + 1) ms) ms h x.1)))
 
 pub loop-member-preserved : goal.loop-member-preserved
 loop-member-preserved c =

@@ -11,5 +11,5 @@ returns-clause-accepted c =
     let x = c.extent.result in
     let o : are_objects (fields_at t ms) ≡ true = sym c.are_objects.ensures.is ∙ c.if-not-are_objects.false in
     let e : x ≡ structure_extent (is_union (form_at t c.args.id)) (fields_at t ms) =
-        extent_laid c.in_ok-laying.laying c.is_union.result (fields_at t ms) ms x c.in_ok-laying.ensures.ok c.extent.ensures.size c.extent.ensures.align c.extent.ensures.nesting ∙ ap (λ k. structure_extent k (fields_at t ms)) c.is_union.ensures in
+    extent_laid c.in_ok-laying.laying c.is_union.result (fields_at t ms) ms x c.in_ok-laying.ensures.ok c.extent.ensures.size c.extent.ensures.align c.extent.ensures.nesting ∙ ap (λ k. structure_extent k (fields_at t ms)) c.is_union.ensures in
     not_refused t c.args.id ms x o e c.in_ok-excess.ensures.ok
