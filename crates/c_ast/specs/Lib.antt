@@ -14,5 +14,7 @@ pub mod Spell
 pub mod Reach
 pub mod Views
 pub mod UnitViews
+pub mod ValueHeights
+pub mod UnitValueHeights
 pub mod Examples
 pub mod Pieces

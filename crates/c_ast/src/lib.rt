@@ -13,7 +13,9 @@ mod spelling;
 mod statement;
 #[cfg(test)]
 mod tests;
+mod tree_height;
 mod unit;
+mod unit_height;
 mod worked;
 
 pub use class::{Class, IntKind};
@@ -33,4 +35,5 @@ pub use statement::{
     Block, Declaration, InitDeclarator, Initialiser, InitialiserForm, Statement, StatementForm,
 };
 pub use unit::{External, ExternalForm, Unit};
+pub use unit_height::height;
 pub use worked::{nearest_if, scopes_and_types, typedef_names};
