@@ -1,3 +1,4 @@
+pub mod Decoding
 pub mod Divisions
 pub mod Fetches
 pub mod Loads

@@ -2,6 +2,7 @@ pub mod State
 pub mod Operations
 pub mod Memory
 pub mod StepTable
+pub mod InstructionOf
 pub mod Run
 pub mod Did
 pub mod Stepped

@@ -3,6 +3,8 @@
 
 mod acting;
 mod built_ins;
+mod decoded;
+mod free_register;
 mod load_fault;
 mod loading;
 mod machine;

@@ -3,6 +3,7 @@ ghost use Rattle.asm_text.specs.IsProgram.{IsProgram};
 ghost use Rattle.asm_text.specs.Linked.{linked_code, linked_data, HasMain};
 ghost use Rattle.mips_machine.specs.Run.{first_cpu};
 
+use crate::decoded::decode_all;
 use crate::processor::Processor;
 use crate::{LoadFault, Machine};
 use asm_text::{CODE_START, Linked, Program};
@@ -26,6 +27,7 @@ pub fn load(alloc: Global, program: Program, order: Order, stack: u32) -> Result
         return Err(LoadFault::NoMain);
     };
     let stack = vec![in alloc; 0; stack as usize]?;
+    let decoded = decode_all(alloc, &code)?;
     let processor = Processor::new(data, stack, CODE_START + 4 * main);
-    Ok(Machine::new(code, order, processor))
+    Ok(Machine::new(decoded, order, processor))
 }

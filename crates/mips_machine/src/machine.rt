@@ -1,20 +1,20 @@
-ghost use Rattle.std.specs.Prelude.{◌≡◌, ◌≢◌, ℕ, ◌%◌, ◌<◌, ◌≤◌, List, [], ◌∷◌, Some, None, Option, drop, length, IfSome, slice_get};
-ghost use Rattle.std.specs.Option.{option_copied};
+ghost use Rattle.std.specs.Prelude.{◌≡◌, ◌≢◌, ℕ, ◌%◌, ◌<◌, ◌≤◌, List, [], ◌∷◌, Some, None, Option, drop, length, map, IfSome, slice_get};
+ghost use Rattle.std.specs.Option.{option_copied, option_map};
 ghost use Rattle.asm_lines.specs.declared.instruction.Instruction.{Instruction};
 ghost use Rattle.asm_text.specs.Addresses.{data_start, putchar_at};
 ghost use Rattle.asm_text.specs.Runs.{Goes};
 ghost use Rattle.asm_text.specs.declared.running.Input.{Input};
+ghost use Rattle.mips_machine.specs.InstructionOf.{instruction_of};
 ghost use Rattle.mips_machine.specs.StepTable.{register, fetched, prints, takes};
 ghost use Rattle.mips_machine.specs.Stepped.{IsStepped, scene, step_of, printed_by};
 ghost use Rattle.mips_machine.specs.Turned.{IsTurned};
 ghost use Rattle.mips_machine.specs.declared.turn.Turn.{Turn as Turned};
 
 use crate::built_ins::next_byte;
+use crate::decoded::Decoded;
 use crate::processor::Processor;
 use crate::turn::Turn;
-use asm_text::{
-    CODE_START, END_AT, EXIT_AT, GETCHAR_AT, Input, Instruction, PUTCHAR_AT, Step, StuckCause,
-};
+use asm_text::{CODE_START, END_AT, EXIT_AT, GETCHAR_AT, Input, PUTCHAR_AT, Step, StuckCause};
 use lcc_base::{Order, Sink};
 use std::marker::Model;
 
@@ -22,27 +22,28 @@ use std::marker::Model;
 /// the registers, the data, the stack and the address of the next instruction.
 #[derive(Drop)]
 pub struct Machine {
-    code: Vec<Instruction<u32>>,
+    code: Vec<Decoded>,
     order: Order,
     processor: Processor,
 }
 
 impl Model for Machine {
-    ghost use Rattle.std.specs.Prelude.{◌≤◌, length};
+    ghost use Rattle.std.specs.Prelude.{◌≤◌, length, map};
+    ghost use Rattle.mips_machine.specs.InstructionOf.{instruction_of};
     ghost use Rattle.mips_machine.specs.State.{MMachine};
 
     ghost Value = { MMachine };
 
-    ghost view = { λ m. record { code = m.code.items; order = m.order; cpu = m.processor } };
+    ghost view = { λ m. record { code = map instruction_of m.code.items; order = m.order; cpu = m.processor } };
 
     ghost invariant = { λ m. length m.code.items ≤ 4194304 };
 }
 
 impl Machine {
     /// The machine with this code, in this state.
-    pub(crate) fn new(code: Vec<Instruction<u32>>, order: Order, processor: Processor) -> Self
+    pub(crate) fn new(code: Vec<Decoded>, order: Order, processor: Processor) -> Self
         requires { length code.items ≤ 4194304 }
-        ensures { result ≡ record { code = code.items; order = order; cpu = processor } }
+        ensures { result ≡ record { code = map instruction_of code.items; order = order; cpu = processor } }
     {
         Machine {
             code,
@@ -63,19 +64,20 @@ impl Machine {
     {
         let pc = self.processor.pc();
         match fetch(&self.code, pc) {
-            Some(instruction) => self.processor.act(self.order, instruction),
+            Some(decoded) => self.processor.act(self.order, decoded),
             None if pc == PUTCHAR_AT => self.print(out),
             None => self.call_quiet(input),
         }
     }
 
     /// One step, as `step` does it, but that it writes nothing: it gives the byte that it prints.
+    #[inline(always)]
     pub fn turn(&mut self, input: &mut Input) -> Turn
         ensures { IsTurned self.old input.old self.new input.new result }
     {
         let pc = self.processor.pc();
         match fetch(&self.code, pc) {
-            Some(instruction) => Turn::Quiet(self.processor.act(self.order, instruction)),
+            Some(decoded) => Turn::Quiet(self.processor.act(self.order, decoded)),
             None if pc == PUTCHAR_AT => Turn::Prints(self.give()),
             None => Turn::Quiet(self.call_quiet(input)),
         }
@@ -149,9 +151,9 @@ fn place_of(pc: u32) -> usize
 }
 
 /// The instruction at an address, if one is there.
-fn fetch(code: &[Instruction<u32>], pc: u32) -> Option<&Instruction<u32>>
+fn fetch(code: &[Decoded], pc: u32) -> Option<&Decoded>
     requires { length code.now ≤ 4194304 }
-    ensures is { option_copied result ≡ fetched code.now pc }
+    ensures is { option_map instruction_of (option_copied result) ≡ fetched (map instruction_of code.now) pc }
     ensures low { IfSome result (λ _. pc < data_start) }
 {
     code.get(place_of(pc))

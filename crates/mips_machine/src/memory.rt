@@ -4,11 +4,13 @@ ghost use Rattle.asm_text.specs.Linked.{half_bytes, word_bytes};
 ghost use Rattle.asm_text.specs.Runs.{MStep, IsStuck};
 ghost use Rattle.lcc_base.specs.declared.order.Order.{Order};
 ghost use Rattle.lcc_base.specs.NumberIn.{number_in};
+ghost use Rattle.asm_lines.specs.declared.operator.StoreOp.TheVariants as store;
 ghost use Rattle.mips_machine.specs.Did.{Did};
 ghost use Rattle.mips_machine.specs.Memory.{is_in_stack, is_in_data, bytes_at, with_bytes_at, sign_extended, load_size, loaded, store_size, stored};
 ghost use Rattle.mips_machine.specs.State.{Cpu};
 ghost use Rattle.mips_machine.specs.StepTable.{register, accesses, writes, goes, next};
 
+use crate::free_register::FreeRegister;
 use crate::processor::Processor;
 use asm_text::{DATA_START, LoadOp, Register, Step, StoreOp, StuckCause};
 use lcc_base::{Order, join, split};
@@ -68,6 +70,7 @@ fn split_word(order: Order, n: u32) -> [u8; 4]
 
 impl Processor {
     /// The place in the stack of so many bytes from the address on, if all are there.
+    #[inline(always)]
     fn stack_place(&self, size: usize, address: u32) -> Option<usize>
         requires { size ≤ 4 }
         ensures { MatchOption result (is_in_stack self.now size address ≡ false) (λ i. (is_in_stack self.now size address ≡ true) × (i ≡ address - floor_of (length self.now.stack)) × (i + size ≤ length self.now.stack)) }
@@ -81,6 +84,7 @@ impl Processor {
     }
 
     /// The same in the data.
+    #[inline(always)]
     fn data_place(&self, size: usize, address: u32) -> Option<usize>
         requires { size ≤ 4 }
         ensures { MatchOption result (is_in_data self.now size address ≡ false) (λ i. (is_in_data self.now size address ≡ true) × (i ≡ address - data_start) × (i + size ≤ length self.now.statics)) }
@@ -94,6 +98,7 @@ impl Processor {
     }
 
     /// So many bytes from the address on, or why they can't be accessed.
+    #[inline(always)]
     fn bytes(&self, size: usize, address: u32) -> Result<&[u8], StuckCause>
         requires { (size ≡ 1) ⊎ (size ≡ 2) ⊎ (size ≡ 4) }
         ensures found { IfOk result (λ bytes. bytes.now ≡ bytes_at self.now size address) }
@@ -136,6 +141,7 @@ impl Processor {
     }
 
     /// The number of the four bytes from the address on, or why they can't be accessed.
+    #[inline(always)]
     fn word(&self, order: Order, address: u32) -> Result<u32, StuckCause>
         ensures is { IfOk result (λ n. n ≡ number_in order (bytes_at self.now 4 address)) }
         ensures can { OnOk result ((done : MStep Cpu) → accesses self.now 4 address done ≡ done) }
@@ -145,6 +151,7 @@ impl Processor {
     }
 
     /// The word that a load gives, or why it can't read.
+    #[inline(always)]
     fn loaded(&self, order: Order, op: LoadOp, address: u32) -> Result<u32, StuckCause>
         ensures is { IfOk result (λ n. n ≡ loaded order self.now op address) }
         ensures can { OnOk result ((done : MStep Cpu) → accesses self.now (load_size op) address done ≡ done) }
@@ -170,7 +177,20 @@ impl Processor {
         }
     }
 
+    /// The same for a register that takes any word.
+    #[inline(always)]
+    pub fn load_free(&mut self, order: Order, op: LoadOp, d: FreeRegister, address: u32) -> Step
+        requires { self.old.pc < data_start }
+        ensures { Did (accesses self.old (load_size op) address (writes self.old d (loaded order self.old op address))) self.old self.new result }
+    {
+        match self.loaded(order, op, address) {
+            Ok(n) => self.set(d, n),
+            Err(cause) => Step::Stuck(cause, self.pc),
+        }
+    }
+
     /// Writes the bytes from the address on, or gives why they can't be accessed.
+    #[inline(always)]
     fn put_bytes(&mut self, address: u32, bytes: &[u8]) -> Result<(), StuckCause>
         requires { (length bytes.now ≡ 1) ⊎ (length bytes.now ≡ 2) ⊎ (length bytes.now ≡ 4) }
         ensures put { OnOk result (self.new ≡ with_bytes_at self.old address bytes.now) }
@@ -197,7 +217,23 @@ impl Processor {
         }
     }
 
+    /// Writes the bytes of a word, or gives why they can't be accessed. Each order has code of its own, so that a compiler
+    /// sees one store.
+    #[inline(always)]
+    fn put_word(&mut self, order: Order, n: u32, address: u32) -> Result<(), StuckCause>
+        ensures put { OnOk result (self.new ≡ stored order self.old store.Word address n) }
+        ensures can { OnOk result ((done : MStep Cpu) → accesses self.old 4 address done ≡ done) }
+        ensures cause { IfErr result (λ cause. (done : MStep Cpu) → accesses self.old 4 address done ≡ IsStuck cause self.old.pc) }
+        ensures kept { OnErr result (self.new ≡ self.old) }
+    {
+        match order {
+            Order::Big => self.put_bytes(address, &split_word(Order::Big, n)),
+            Order::Little => self.put_bytes(address, &split_word(Order::Little, n)),
+        }
+    }
+
     /// Writes the bytes of a store, the low ones of a word, or gives why they can't be accessed.
+    #[inline(always)]
     fn put(&mut self, order: Order, op: StoreOp, n: u32, address: u32) -> Result<(), StuckCause>
         ensures put { OnOk result (self.new ≡ stored order self.old op address n) }
         ensures can { OnOk result ((done : MStep Cpu) → accesses self.old (store_size op) address done ≡ done) }
@@ -207,11 +243,12 @@ impl Processor {
         match op {
             StoreOp::Byte => self.put_bytes(address, &[(n & 0xff) as u8]),
             StoreOp::Half => self.put_bytes(address, &split_half(order, n)),
-            StoreOp::Word => self.put_bytes(address, &split_word(order, n)),
+            StoreOp::Word => self.put_word(order, n, address),
         }
     }
 
     /// The low bytes of the register are stored at the address, and the next instruction comes.
+    #[inline(always)]
     pub fn store(&mut self, order: Order, op: StoreOp, s: Register, address: u32) -> Step
         requires { self.old.pc < data_start }
         ensures { Did (accesses self.old (store_size op) address (goes (stored order (next self.old) op address (register self.old s)))) self.old self.new result }

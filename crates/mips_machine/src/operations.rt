@@ -17,6 +17,7 @@ pub fn change(op: UnaryOp, x: u32) -> u32
 }
 
 /// What the operation makes of two words, or why it has no result.
+#[inline(always)]
 pub fn combine(op: BinaryOp, x: u32, y: u32) -> Result<u32, StuckCause>
     ensures made { IfOk result (λ n. (cause_of op x y ≡ None) × (n ≡ combined op x y)) }
     ensures cause { IfErr result (λ cause. cause_of op x y ≡ Some cause) }
@@ -105,6 +106,7 @@ fn remainder_unsigned(x: u32, y: u32) -> Result<u32, StuckCause>
 }
 
 /// Whether the comparison of two words holds.
+#[inline(always)]
 pub fn compare(condition: Condition, x: u32, y: u32) -> bool
     ensures { result ≡ holds condition x y }
 {

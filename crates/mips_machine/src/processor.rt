@@ -4,6 +4,7 @@ ghost use Rattle.mips_machine.specs.Did.{Did};
 ghost use Rattle.mips_machine.specs.Run.{first_registers};
 ghost use Rattle.mips_machine.specs.StepTable.{register, goes, next, writes, value_of, address_in, target_of, jumps, calls};
 
+use crate::free_register::FreeRegister;
 use asm_text::{Address, END_AT, Register, STACK_TOP, Step, Target, Value};
 use std::marker::Model;
 
@@ -56,6 +57,7 @@ impl Processor {
     }
 
     /// What the register of this number holds.
+    #[inline(always)]
     pub fn register(&self, number: u8) -> u32
         requires { number < 32 }
         ensures { result ≡ register self.now number }
@@ -64,6 +66,7 @@ impl Processor {
     }
 
     /// What the register holds.
+    #[inline(always)]
     pub fn get(&self, r: Register) -> u32
         ensures { result ≡ register self.now r }
     {
@@ -81,6 +84,7 @@ impl Processor {
     }
 
     /// The word that an address stands for.
+    #[inline(always)]
     pub fn address(&self, a: Address<u32>) -> u32
         ensures { result ≡ address_in self.now a }
     {
@@ -103,6 +107,7 @@ impl Processor {
     }
 
     /// The lowest address of the stack.
+    #[inline(always)]
     pub fn floor(&self) -> u32
         ensures is { result ≡ floor_of (length self.now.stack) }
         ensures low { result ≤ STACK_TOP }
@@ -112,6 +117,7 @@ impl Processor {
     }
 
     /// The next instruction comes.
+    #[inline(always)]
     pub fn go_on(&mut self) -> Step
         requires { self.old.pc < data_start }
         ensures { Did (goes (next self.old)) self.old self.new result }
@@ -135,7 +141,18 @@ impl Processor {
         self.go_on()
     }
 
+    /// The same for a register that takes any word.
+    #[inline(always)]
+    pub fn set(&mut self, d: FreeRegister, n: u32) -> Step
+        requires { self.old.pc < data_start }
+        ensures { Did (writes self.old d n) self.old self.new result }
+    {
+        self.registers[d.number() as usize] = n;
+        self.go_on()
+    }
+
     /// Goes on at the address.
+    #[inline(always)]
     pub fn jump(&mut self, address: u32) -> Step
         ensures { Did (jumps self.old address) self.old self.new result }
     {
