@@ -1,5 +1,6 @@
-use Rattle.std.proofs.Common.{◌≡◌, ◌∙◌, Some, sym, ap, drop}
+use Rattle.std.proofs.Common.{◌≡◌, ◌∙◌, Some, map, sym, ap, drop}
 use Rattle.mips_machine.specs.State.{MMachine}
+use Rattle.mips_machine.specs.InstructionOf.{instruction_of}
 use Rattle.mips_machine.specs.StepTable.{fetched}
 use Rattle.mips_machine.proofs.Steps.{step-prints, stepped-acts}
 use Rattle.mips_machine.proofs.machine.Machine.step.Goals as goal
@@ -7,8 +8,8 @@ use Rattle.mips_machine.proofs.machine.Machine.step.Goals as goal
 pub returns-in-Some-clause-stepped : goal.returns-in-Some-clause-stepped
 returns-in-Some-clause-stepped g c =
     let m = c.self.inside in
-    let at : fetched m.code.items m.processor.pc ≡ Some c.in-Some.instruction.now = sym (rw (c.deref.ensures.value, c.pc-pc.ensures) at c.in-Some.ensures.is) in
-    rw (← c.self.view_is) (stepped-acts (record { code = m.code.items; order = m.order; cpu = m.processor }) c.args.input.now (g.K.Sink.taken c.args.out.now) (g.K.Sink.faults c.args.out.now) c.act.new.self c.in-Some.instruction.now c.act.result at c.act.ensures)
+    let at : fetched (map instruction_of m.code.items) m.processor.pc ≡ Some (instruction_of c.in-Some.decoded.now) = sym (rw (c.deref.ensures.value, c.pc-pc.ensures) at c.in-Some.ensures.is) in
+    rw (← c.self.view_is) (stepped-acts (record { code = map instruction_of m.code.items; order = m.order; cpu = m.processor }) c.args.input.now (g.K.Sink.taken c.args.out.now) (g.K.Sink.faults c.args.out.now) c.act.new.self (instruction_of c.in-Some.decoded.now) c.act.result at c.act.ensures)
 
 pub returns-in-None-clause-stepped : goal.returns-in-None-clause-stepped
 returns-in-None-clause-stepped g c =
