@@ -5,7 +5,7 @@ ghost use Rattle.mips_machine.specs.InstructionOf.{instruction_of};
 ghost use Rattle.mips_machine.specs.Operations.{holds};
 ghost use Rattle.mips_machine.specs.StepTable.{act, operates, jumps};
 
-use crate::decoded::{Decoded, address_from};
+use crate::decoded::{Decoded, address_at, address_from};
 use crate::free_register::FreeRegister;
 use crate::operations::{change, combine, compare};
 use crate::processor::Processor;
@@ -58,6 +58,9 @@ impl Processor {
     {
         match decoded {
             Decoded::LoadNumber(d, n) => self.set(*d, *n),
+            Decoded::LoadAddress(d, name, offset) => {
+                self.set(*d, self.address(address_at(*name, *offset)))
+            }
             Decoded::Move(d, s) => self.set(*d, self.get(*s)),
             Decoded::Add(d, s, t) => {
                 self.operate_free(BinaryOp::Add, *d, self.get(*s), self.get(*t))
@@ -71,12 +74,42 @@ impl Processor {
             Decoded::SubtractNumber(d, s, n) => {
                 self.operate_free(BinaryOp::Subtract, *d, self.get(*s), *n)
             }
+            Decoded::Multiply(d, s, t) => {
+                self.operate_free(BinaryOp::Multiply, *d, self.get(*s), self.get(*t))
+            }
+            Decoded::And(d, s, t) => {
+                self.operate_free(BinaryOp::And, *d, self.get(*s), self.get(*t))
+            }
+            Decoded::AndNumber(d, s, n) => {
+                self.operate_free(BinaryOp::And, *d, self.get(*s), *n)
+            }
+            Decoded::Or(d, s, t) => {
+                self.operate_free(BinaryOp::Or, *d, self.get(*s), self.get(*t))
+            }
+            Decoded::Xor(d, s, t) => {
+                self.operate_free(BinaryOp::Xor, *d, self.get(*s), self.get(*t))
+            }
             Decoded::ShiftLeftNumber(d, s, n) => {
                 self.operate_free(BinaryOp::ShiftLeft, *d, self.get(*s), *n)
+            }
+            Decoded::ShiftRightArithmeticNumber(d, s, n) => {
+                self.operate_free(BinaryOp::ShiftRightArithmetic, *d, self.get(*s), *n)
+            }
+            Decoded::LoadByte(d, base, offset) => {
+                let address = self.address(address_from(*base, *offset));
+                self.load_free(order, LoadOp::Byte, *d, address)
+            }
+            Decoded::LoadByteUnsigned(d, base, offset) => {
+                let address = self.address(address_from(*base, *offset));
+                self.load_free(order, LoadOp::ByteUnsigned, *d, address)
             }
             Decoded::LoadWord(d, base, offset) => {
                 let address = self.address(address_from(*base, *offset));
                 self.load_free(order, LoadOp::Word, *d, address)
+            }
+            Decoded::StoreByte(s, base, offset) => {
+                let address = self.address(address_from(*base, *offset));
+                self.store(order, StoreOp::Byte, *s, address)
             }
             Decoded::StoreWord(s, base, offset) => {
                 let address = self.address(address_from(*base, *offset));
@@ -106,12 +139,14 @@ impl Processor {
                     *address,
                 )
             }
+            Decoded::Jump(address) => self.jump(*address),
+            Decoded::JumpRegister(s) => self.jump(self.get(*s)),
+            Decoded::Call(address) => self.call(*address),
             Decoded::Other(instruction) => self.act_written(order, instruction),
         }
     }
 
     /// Does what the instruction at this address says, as it is written.
-    #[inline(never)]
     fn act_written(&mut self, order: Order, instruction: &Instruction<u32>) -> Step
         requires { self.old.pc < data_start }
         ensures { Did (act order self.old instruction.now) self.old self.new result }

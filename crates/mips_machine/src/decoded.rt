@@ -2,10 +2,12 @@
 //! alone, and writes most registers without a look at which they are.
 ghost use Rattle.std.specs.Prelude.{◌≡◌, map, length, IfOk, IfSome};
 ghost use Rattle.asm_lines.specs.declared.instruction.Instruction.TheVariants as written;
-ghost use Rattle.mips_machine.specs.InstructionOf.{instruction_of, offset_from};
+ghost use Rattle.mips_machine.specs.InstructionOf.{instruction_of, offset_at, offset_from};
 
 use crate::free_register::FreeRegister;
-use asm_text::{Address, BinaryOp, Condition, Instruction, LoadOp, Register, StoreOp, Value};
+use asm_text::{
+    Address, BinaryOp, Condition, Instruction, LoadOp, Register, StoreOp, Target, Value,
+};
 use std::alloc::{AllocError, Global};
 
 /// A decoded instruction.
@@ -13,6 +15,8 @@ use std::alloc::{AllocError, Global};
 pub enum Decoded {
     /// `li d,K`
     LoadNumber(FreeRegister, u32),
+    /// `la d,L+K`
+    LoadAddress(FreeRegister, u32, u32),
     /// `move d,s`
     Move(FreeRegister, Register),
     /// `addu d,s,t`
@@ -23,10 +27,28 @@ pub enum Decoded {
     Subtract(FreeRegister, Register, Register),
     /// `subu d,s,K`
     SubtractNumber(FreeRegister, Register, u32),
+    /// `mul d,s,t`
+    Multiply(FreeRegister, Register, Register),
+    /// `and d,s,t`
+    And(FreeRegister, Register, Register),
+    /// `and d,s,K`
+    AndNumber(FreeRegister, Register, u32),
+    /// `or d,s,t`
+    Or(FreeRegister, Register, Register),
+    /// `xor d,s,t`
+    Xor(FreeRegister, Register, Register),
     /// `sll d,s,K`
     ShiftLeftNumber(FreeRegister, Register, u32),
+    /// `sra d,s,K`
+    ShiftRightArithmeticNumber(FreeRegister, Register, u32),
+    /// `lb d,K(b)`
+    LoadByte(FreeRegister, Register, u32),
+    /// `lbu d,K(b)`
+    LoadByteUnsigned(FreeRegister, Register, u32),
     /// `lw d,K(b)`
     LoadWord(FreeRegister, Register, u32),
+    /// `sb s,K(b)`
+    StoreByte(Register, Register, u32),
     /// `sw s,K(b)`
     StoreWord(Register, Register, u32),
     /// `b L`
@@ -43,6 +65,12 @@ pub enum Decoded {
     BranchGreater(Register, Register, u32),
     /// `bge s,t,L`
     BranchGreaterEqual(Register, Register, u32),
+    /// `j L`
+    Jump(u32),
+    /// `j s`
+    JumpRegister(Register),
+    /// `jal L`
+    Call(u32),
     /// Any instruction, as it is written.
     Other(Instruction<u32>),
 }
@@ -75,6 +103,7 @@ fn decode_common(instruction: &Instruction<u32>) -> Option<Decoded>
 {
     match instruction {
         Instruction::LoadNumber(d, n) => Some(Decoded::LoadNumber(FreeRegister::new(*d)?, *n)),
+        Instruction::LoadAddress(d, a) => decode_address(FreeRegister::new(*d)?, *a),
         Instruction::Move(d, s) => Some(Decoded::Move(FreeRegister::new(*d)?, *s)),
         Instruction::Binary(op, d, s, t) => decode_binary(*op, FreeRegister::new(*d)?, *s, *t),
         Instruction::Load(op, d, a) => decode_load(*op, FreeRegister::new(*d)?, *a),
@@ -83,7 +112,29 @@ fn decode_common(instruction: &Instruction<u32>) -> Option<Decoded>
         Instruction::BranchIf(condition, s, t, address) => {
             decode_branch(*condition, *s, *t, *address)
         }
+        Instruction::Jump(to) => Some(decode_jump(*to)),
+        Instruction::Call(Target::Label(address)) => Some(Decoded::Call(*address)),
         _ => None,
+    }
+}
+
+/// An address for a register, decoded, if it is a place with a number.
+fn decode_address(d: FreeRegister, a: Address<u32>) -> Option<Decoded>
+    ensures { IfSome result (λ decoded. instruction_of decoded ≡ written.LoadAddress d a) }
+{
+    match (a.name, a.base) {
+        (Some(name), None) => Some(Decoded::LoadAddress(d, name, a.offset)),
+        _ => None,
+    }
+}
+
+/// A jump, decoded.
+fn decode_jump(to: Target<u32>) -> Decoded
+    ensures { instruction_of result ≡ written.Jump to }
+{
+    match to {
+        Target::Label(address) => Decoded::Jump(address),
+        Target::Register(s) => Decoded::JumpRegister(s),
     }
 }
 
@@ -96,6 +147,14 @@ fn decode_binary(op: BinaryOp, d: FreeRegister, s: Register, t: Value) -> Option
         (BinaryOp::Add, Value::Number(n)) => Some(Decoded::AddNumber(d, s, n)),
         (BinaryOp::Subtract, Value::Register(t)) => Some(Decoded::Subtract(d, s, t)),
         (BinaryOp::Subtract, Value::Number(n)) => Some(Decoded::SubtractNumber(d, s, n)),
+        (BinaryOp::Multiply, Value::Register(t)) => Some(Decoded::Multiply(d, s, t)),
+        (BinaryOp::And, Value::Register(t)) => Some(Decoded::And(d, s, t)),
+        (BinaryOp::And, Value::Number(n)) => Some(Decoded::AndNumber(d, s, n)),
+        (BinaryOp::Or, Value::Register(t)) => Some(Decoded::Or(d, s, t)),
+        (BinaryOp::Xor, Value::Register(t)) => Some(Decoded::Xor(d, s, t)),
+        (BinaryOp::ShiftRightArithmetic, Value::Number(n)) => Some(
+            Decoded::ShiftRightArithmeticNumber(d, s, n),
+        ),
         (BinaryOp::ShiftLeft, Value::Number(n)) => Some(Decoded::ShiftLeftNumber(d, s, n)),
         _ => None,
     }
@@ -108,6 +167,17 @@ fn base_and_offset(a: Address<u32>) -> Option<(Register, u32)>
     match a.name {
         None => Some((a.base?, a.offset)),
         Some(_) => None,
+    }
+}
+
+/// The sum of a place and a number, as an address.
+pub fn address_at(name: u32, offset: u32) -> Address<u32>
+    ensures { result ≡ offset_at name offset }
+{
+    Address {
+        name: Some(name),
+        offset,
+        base: None,
     }
 }
 
@@ -128,6 +198,8 @@ fn decode_load(op: LoadOp, d: FreeRegister, a: Address<u32>) -> Option<Decoded>
 {
     let (base, offset) = base_and_offset(a)?;
     match op {
+        LoadOp::Byte => Some(Decoded::LoadByte(d, base, offset)),
+        LoadOp::ByteUnsigned => Some(Decoded::LoadByteUnsigned(d, base, offset)),
         LoadOp::Word => Some(Decoded::LoadWord(d, base, offset)),
         _ => None,
     }
@@ -139,8 +211,9 @@ fn decode_store(op: StoreOp, s: Register, a: Address<u32>) -> Option<Decoded>
 {
     let (base, offset) = base_and_offset(a)?;
     match op {
+        StoreOp::Byte => Some(Decoded::StoreByte(s, base, offset)),
+        StoreOp::Half => None,
         StoreOp::Word => Some(Decoded::StoreWord(s, base, offset)),
-        _ => None,
     }
 }
 
