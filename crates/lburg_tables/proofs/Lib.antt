@@ -1,2 +1,5 @@
 pub mod Lines
 pub mod Lists
+pub mod Waiting
+pub mod Closure
+pub mod Chaining

@@ -4,3 +4,15 @@ pub mod IsIndex
 pub mod IsTables
 pub mod Added
 pub mod TablesText
+pub mod RowOf
+pub mod Offers
+pub mod Row
+pub mod RowLaws
+pub mod Waits
+pub mod Weights
+pub mod AreRules
+pub mod ChainTries
+pub mod Counted
+pub mod Leads
+pub mod BestChains
+pub mod Listed

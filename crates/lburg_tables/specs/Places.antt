@@ -1,11 +1,12 @@
 -- What follows of the places of the rules with one root: which they are, their order and their number.
-use Rattle.std.specs.Prelude.{◌≡◌, ℕ, zero, suc, ◌+◌, ◌<◌, Some, List, [], ◌∷◌, ◌++◌, length, slice_get, Bool, true, false, if◌then◌else◌}
+use Rattle.std.specs.Prelude.{◌≡◌, ℕ, zero, suc, ◌+◌, ◌<◌, Some, List, [], ◌∷◌, ◌++◌, length, slice_get, slice_index_or, Bool, true, false, if◌then◌else◌}
 use Rattle.std.specs.List.{count_by}
-use Rattle.std.proofs.Common.{refl, sym, ap, ◌∙◌, arith}
+use Rattle.std.proofs.Common.{refl, sym, ap, ◌∙◌, arith, get_or}
 use Rattle.std.proofs.lemmas.Bool.{false≢true, eqb-true, eq-eqb}
 use Rattle.std.proofs.lemmas.List.Recursion.{is_count_by}
-use Rattle.std.proofs.lemmas.Option.{none-some, same_Some}
+use Rattle.std.proofs.lemmas.Option.{none-some, same_Some, slice_get_within, slice_get-get_or}
 use Rattle.lburg_model.specs.declared.rule.Rule.{Rule}
+use Rattle.lburg_model.specs.declared.pattern.Pattern.{Pattern, Nonterminal, Leaf, Unary', Binary'}
 use Rattle.lburg_model.specs.Pattern.{pattern_of}
 use Rattle.lburg_tables.specs.Root.{Root, Chain, Operator, root_of, same_root, has_root, places_from, places_with}
 
@@ -145,3 +146,28 @@ pushed_from root k (q ∷ rs) r place h =
 -- a rule behind the others adds its place, where it has this root
 pub pushed : (root : Root) (rules : List Rule) (r : Rule) → places_with root (rules ++ r ∷ []) ≡ places_with root rules ++ place_of root r (length rules)
 pushed root rules r = pushed_from root 0 rules r (length rules) (omega arith)
+
+-- ---- what stands there
+
+-- a rule with this root is a chain rule
+pub chain_of : (q : Pattern) (m : ℕ) → root_of (pattern_of q) ≡ Chain m → q ≡ Nonterminal m
+chain_of (Nonterminal n) m e = let f : n ≡ m = cc in ap Nonterminal f
+chain_of (Leaf op) m e = cc
+chain_of (Unary' op x p) m e = cc
+chain_of (Binary' op x p y q) m e = cc
+
+-- a place of a list is a rule's
+pub place_within : (rules : List Rule) (root : Root) (places : List ℕ) (k : ℕ) → places ≡ places_with root rules → k < length places → get_or places k 0 < length rules
+place_within rules root places k are h =
+    let place = get_or places k 0 in
+    let here : slice_get places k ≡ Some place = slice_get-get_or places k 0 h in
+    let o = only root rules k place (sym (ap (λ (l : List ℕ). slice_get l k) are) ∙ here) in
+    slice_get_within rules place o.0 o.1
+
+-- the rule at a place of a list
+pub rule_there : (rules : List Rule) (root : Root) (places : List ℕ) (k i : ℕ) (r : Rule) → places ≡ places_with root rules → slice_get places k ≡ Some i → r ≡ slice_index_or rules i r → (slice_get rules i ≡ Some r) × (root_of (pattern_of r.pattern) ≡ root)
+rule_there rules root places k i r are here is =
+    let o = only root rules k i (sym (ap (λ (l : List ℕ). slice_get l k) are) ∙ here) in
+    let at : slice_get rules i ≡ Some r = slice_get-get_or rules i r (slice_get_within rules i o.0 o.1) ∙ ap Some (sym is) in
+    let same : o.0 ≡ r = (let f : Some o.0 ≡ Some r = sym o.1 ∙ at in cc) in
+    (at, sym (ap (λ (z : Rule). root_of (pattern_of z.pattern)) same) ∙ o.2)

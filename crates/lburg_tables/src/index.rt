@@ -2,8 +2,7 @@
 ghost use Rattle.std.specs.Prelude.{◌≡◌, ◌<◌, ℕ, [], IfOk, OnOk, length};
 ghost use Rattle.lburg_model.specs.Pattern.{pattern_of};
 ghost use Rattle.lburg_tables.specs.Root.{root_of};
-ghost use Rattle.lburg_tables.specs.IsIndex.{places_in};
-ghost use Rattle.lburg_tables.specs.IsTables.{IsTables};
+ghost use Rattle.lburg_tables.specs.IsIndex.{IsIndex, places_in};
 ghost use Rattle.lburg_tables.specs.Added.{HasList, added, operators_with, chains_with};
 
 use lburg_model::{Description, Pattern, Rule};
@@ -67,7 +66,7 @@ impl Index {
 
 /// The places of a description's rules. `Memory` comes where an allocation is refused.
 pub(crate) fn index_of(alloc: Global, d: &Description) -> Result<Index, Memory>
-    ensures { IfOk result (λ index. IsTables d.now index) }
+    ensures { IfOk result (λ index. IsIndex d.now.rules index) }
 {
     let mut index = Index {
         operators: empty_lists(alloc, d.terminals().len() + 1)?,

@@ -5,7 +5,7 @@ use Rattle.lburg_model.specs.Tree.{MTree}
 use Rattle.lburg_model.specs.Description.{MDescription}
 use Rattle.lburg_model.specs.Derivation.{MDerivation, cost, count}
 use Rattle.lburg_model.specs.Best.{IsBest, HasNone}
-use Rattle.tree_labeller.specs.declared.cell.Cell.{Cell}
+use Rattle.lburg_tables.specs.declared.cell.Cell.{Cell}
 use Rattle.tree_labeller.specs.Rows.{Row}
 use Rattle.tree_labeller.specs.MCells.{MCells}
 use Rattle.tree_labeller.specs.Labelled.{Labelled, cell}

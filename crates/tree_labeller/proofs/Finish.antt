@@ -3,21 +3,21 @@ use Rattle.std.proofs.Common.{◌≡◌, ◌≢◌, ℕ, zero, suc, ◌+◌, ◌
 use Rattle.std.specs.Prelude.{slice_get, slice_set, ◌==◌, if◌then◌else◌, slice_index_or, IfSome}
 use Rattle.std.proofs.lemmas.Option.{slice_get-get_or}
 use Rattle.std.proofs.lemmas.List.{get_or-set_same}
-use Rattle.tree_labeller.specs.declared.cell.Cell.{Cell}
+use Rattle.lburg_tables.specs.declared.cell.Cell.{Cell}
 use Rattle.place_queue.specs.declared.key.Key.{Key}
 use Rattle.tree_labeller.specs.Rows.{Row}
 use Rattle.lburg_model.specs.declared.rule.Rule.{Rule}
 use Rattle.lburg_model.specs.declared.pattern.Pattern.{Pattern}
 use Rattle.lburg_model.specs.declared.pattern.Pattern.{Nonterminal, Leaf, Unary', Binary'}
-use Rattle.tree_labeller.specs.Offers.{Offers}
-use Rattle.tree_labeller.specs.Row.{CellAt, Leq3, Relaxed, Taken, Left, Closed, AreCheap, IsCheap, Everywhere, Among}
+use Rattle.lburg_tables.specs.Offers.{Offers}
+use Rattle.lburg_tables.specs.Row.{CellAt, Leq3, Offered, Placed, Declined, Closed, AreCheap, IsCheap, Everywhere, Among}
 use Rattle.lburg_model.specs.Tree.{MTree, TLeaf, TOne, TTwo, nodes, kids_of, value_of}
 use Rattle.lburg_model.specs.Range.{IsMet}
 use Rattle.lburg_model.specs.Pattern.{MPattern, PHole, PLeaf, POne, PTwo, pattern_of}
 use Rattle.tree_labeller.specs.Labelled.{add, nothing_used, cells_of, end_of, cell, total, area, Sound, Labelled, KidsLabelled, base_total, IsRuleTotal, made_by, Started, Filled}
-use Rattle.tree_labeller.specs.Rows.{key_of}
+use Rattle.lburg_tables.specs.RowOf.{key_of}
 use Rattle.tree_labeller.specs.Totals.{cell_of, fitted, added, nodes_pos, sound_of}
-use Rattle.tree_labeller.proofs.Rows.{Leq_cells, leq_trans, leq_refl, stored, write_lowers, cell_after, among_more, among_none, among_all}
+use Rattle.lburg_tables.specs.RowLaws.{Leq_cells, leq_trans, leq_refl, stored, write_lowers, cell_after, among_more, among_none, among_all}
 
 abbrev pub Agree : List Row → List Row → ℕ → ℕ → Type 0
 Agree rows rows' lo hi = (i : ℕ) → lo ≤ i → i < hi → slice_get rows' i ≡ slice_get rows i
@@ -150,7 +150,7 @@ pub base_told : (rows : List Row) (d : List Rule) (w : ℕ) (p : MPattern) (t : 
 base_told rows d w p t at None l e = tt
 base_told rows d w p t at (Some k) l e = base_bounded rows d w p t at k l (sym e)
 
-base_is_total : (rows : List Row) (p : MPattern) (t : MTree) (at : ℕ) (k : Key) → base_total rows p t at ≡ Some k → total rows p t at ≡ Some k
+pub base_is_total : (rows : List Row) (p : MPattern) (t : MTree) (at : ℕ) (k : Key) → base_total rows p t at ≡ Some k → total rows p t at ≡ Some k
 base_is_total rows (PHole n) t at k e = cc
 base_is_total rows (PLeaf op) t at k e = e
 base_is_total rows (POne op p) t at k e = e
@@ -178,8 +178,8 @@ module _ (rows : List Row) (d : List Rule) (w at : ℕ) (t : MTree) (cells0 : Li
       let m = cheap j r is.0 in
       omega arith
 
-  pub bound_named : ((i : ℕ) (r : Rule) → slice_get d i ≡ Some r → r.left < 2 ^ 16) → (n : ℕ) (b : Cell) → CellAt cells0 n b → n < 2 ^ 16
-  bound_named named n b atb = let (j, r, k, is, left, tot, eq) = started.made n b atb in let a = named j r is.0 in omega arith
+  pub bound_named : (bound : ℕ) → ((i : ℕ) (r : Rule) → slice_get d i ≡ Some r → r.left < bound) → (n : ℕ) (b : Cell) → CellAt cells0 n b → n < bound
+  bound_named bound named n b atb = let (j, r, k, is, left, tot, eq) = started.made n b atb in let a = named j r is.0 in omega arith
 
 -- a write leaves the other rows
 pub other_row : (rows : List Row) (at : ℕ) (row : Row) (i : ℕ) → i ≢ at → slice_get (slice_set rows at row) i ≡ slice_get rows i
@@ -297,12 +297,12 @@ module _ (rows : List Row) (d : List Rule) (places : List ℕ) (at : ℕ) (t : M
       subst G3 (sym f) (subst G2 (sym e) (subst G1 kk now)))
       (among_more places x i j here among)
 
-  pub started_take : (cells : List (Option Cell)) (x i : ℕ) (r : Rule) (k : Key) (cells' : List (Option Cell)) (waiting waiting' : List (Option Key)) → Started rows d at t cells (Among places x) → slice_get places x ≡ Some i → Offers d (value_of t) i r → base_total rows (pattern_of r.pattern) t at ≡ Some k → r.left < length cells → Relaxed cells waiting r.left (made_by k i r) cells' waiting' → Started rows d at t cells' (Among places (x + 1))
-  started_take cells x i r k cells' waiting waiting' s here is tot h (Left b atb le) = record {
+  pub started_take : (cells : List (Option Cell)) (x i : ℕ) (r : Rule) (k : Key) (cells' : List (Option Cell)) → Started rows d at t cells (Among places x) → slice_get places x ≡ Some i → Offers d (value_of t) i r → base_total rows (pattern_of r.pattern) t at ≡ Some k → r.left < length cells → Offered cells r.left (made_by k i r) cells' → Started rows d at t cells' (Among places (x + 1))
+  started_take cells x i r k cells' s here is tot h (Declined b atb le) = record {
     made = s.made;
     closed = closed_on cells cells x i r k s here is tot (λ n b at. (b, at, leq_refl b)) (b, atb, le);
   }
-  started_take cells x i r k cells' waiting waiting' s here is tot h (Taken beats) =
+  started_take cells x i r k cells' s here is tot h (Placed beats) =
       let new = made_by k i r in
       record {
         made = λ n c atc.

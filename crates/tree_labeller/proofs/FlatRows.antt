@@ -3,8 +3,9 @@ use Rattle.std.proofs.Common.{◌≡◌, ℕ, zero, suc, ◌+◌, ◌*◌, ◌<�
 use Rattle.std.specs.Prelude.{slice_get, slice_set, slice_index_or}
 use Rattle.std.proofs.lemmas.List.{get_or-map, get_or-take, get_or-drop, get_or_past, length-map, length-take, length-take-le, length-drop, take-take, take_at, take-append-le, drop-drop, drop_at, drop-append-le, drop-take}
 use Rattle.std.proofs.lemmas.Option.{slice_get_past}
-use Rattle.tree_labeller.specs.declared.cell.Cell.{Cell}
-use Rattle.tree_labeller.specs.Rows.{Row, seen, row_of, rows_of, with_row}
+use Rattle.lburg_tables.specs.declared.cell.Cell.{Cell}
+use Rattle.tree_labeller.specs.Rows.{Row, rows_of, with_row}
+use Rattle.lburg_tables.specs.RowOf.{seen, row_of}
 use Rattle.tree_labeller.specs.MCells.{MCells}
 use Rattle.tree_labeller.specs.Labelled.{cell, cells_of, end_of}
 

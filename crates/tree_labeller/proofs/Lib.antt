@@ -1,9 +1,7 @@
-pub mod Rows
-pub mod Closure
 pub mod Finish
-pub mod Weights
 pub mod Roots
 pub mod Counting
 pub mod Choosing
 pub mod FlatRows
 pub mod Room
+pub mod Merging

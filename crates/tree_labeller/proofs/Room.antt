@@ -3,7 +3,7 @@ use Rattle.std.proofs.Common.{◌≡◌, ℕ, ◌+◌, ◌-◌, ◌*◌, ◌<◌
 use Rattle.lburg_model.specs.Tree.{MTree, TLeaf, TOne, TTwo, nodes}
 use Rattle.lburg_model.specs.Description.{MDescription, IsDescription}
 use Rattle.tree_labeller.specs.Labelled.{area}
-use Rattle.tree_labeller.specs.AreRules.{AreRules}
+use Rattle.lburg_tables.specs.AreRules.{AreRules}
 use Rattle.tree_labeller.specs.Totals.{nodes_pos}
 
 area_is : (w : ℕ) (t : MTree) → area w t ≡ w * nodes t
@@ -30,13 +30,3 @@ small_area w n t h l = let e = area_is w t in let a = more w (nodes t) n l in om
 -- nor has a row many cells
 pub narrow_rows : (w n : ℕ) (t : MTree) → n * w < 2 ^ 32 - 1 → nodes t ≤ n → w < 2 ^ 32 - 1
 narrow_rows w n t h l = let a = nodes_pos t in let b = at_least_width w n (omega arith) in omega arith
-
--- a description's rules are what the labeller needs
-pub are_rules : (d : MDescription) (w : ℕ) → IsDescription d → length d.nonterminals ≤ w → w < 2 ^ 32 - 1 → AreRules d.rules w
-are_rules d w is wide narrow = record {
-  lefts = λ i r e. let l = (is.rules i r e).left in omega arith;
-  named = λ i r e. let l = (is.rules i r e).left in let m = is.nonterminals in omega arith;
-  few = let l = is.rule_limit in omega arith;
-  narrow = narrow;
-  cheap = λ i r e. let l = (is.rules i r e).cost in omega arith;
-}

@@ -1,7 +1,7 @@
 -- The rule that makes a cell, and a measure of what is left below it.
 use Rattle.std.specs.Prelude.{◌≡◌, ◌≢◌, ◌≤◌, ◌<◌, ◌-◌, length, ℕ, ◌+◌, ◌*◌, Option, Some, None, List, [], ◌∷◌, slice_get}
 use Rattle.place_queue.specs.declared.key.Key.{Key}
-use Rattle.tree_labeller.specs.declared.cell.Cell.{Cell}
+use Rattle.lburg_tables.specs.declared.cell.Cell.{Cell}
 use Rattle.tree_labeller.specs.Rows.{Row}
 use Rattle.lburg_model.specs.declared.rule.Rule.{Rule}
 use Rattle.lburg_model.specs.Tree.{MTree}

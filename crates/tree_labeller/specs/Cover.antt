@@ -4,7 +4,7 @@ use Rattle.lburg_model.specs.declared.rule.Rule.{Rule}
 use Rattle.lburg_model.specs.Tree.{MTree}
 use Rattle.lburg_model.specs.Derivation.{MDerivation, Derives, cost, count, numbers}
 use Rattle.lburg_model.specs.Best.{Earlier, Better, ByCost, ByCount, ByNumbers, IsBestOf}
-use Rattle.tree_labeller.specs.declared.cell.Cell.{Cell}
+use Rattle.lburg_tables.specs.declared.cell.Cell.{Cell}
 use Rattle.tree_labeller.specs.Rows.{Row}
 use Rattle.tree_labeller.specs.Labelled.{cell, Labelled}
 use Rattle.tree_labeller.specs.Indexed.{Derivation, Less, erase}

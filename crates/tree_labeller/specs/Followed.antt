@@ -1,6 +1,6 @@
 -- A cell has a derivation, which takes the rule of each cell that it meets.
 use Rattle.std.proofs.Common.{◌≡◌, ℕ, zero, suc, ◌+◌, ◌≤◌, Some, List, ap, ◌∙◌, arith, subst}
-use Rattle.tree_labeller.specs.declared.cell.Cell.{Cell}
+use Rattle.lburg_tables.specs.declared.cell.Cell.{Cell}
 use Rattle.place_queue.specs.declared.key.Key.{Key}
 use Rattle.tree_labeller.specs.Rows.{Row}
 use Rattle.lburg_model.specs.declared.rule.Rule.{Rule}
@@ -57,6 +57,10 @@ module _ (rows : List Row) (d : List Rule) (w : ℕ) where
       let (i, r, k, is, left, tot, rule, of, many) = (sound_of rows d w at t f).fair.made n c e in
       let x = parted m (below_all m) (pattern_of r.pattern) t at k f tot (omega arith) in
       (Uses i r is left x.0, omega arith, omega arith, (c, e, rule, omega arith, omega arith, x.3))
+
+  -- the parts of a pattern whose cells have a total
+  pub parted_of : (p : MPattern) (t : MTree) (at : ℕ) (k : Key) → Labelled rows d w at t → total rows p t at ≡ Some k → Parted p t at k.cost k.count
+  parted_of p t at k f e = parted k.count (below_all k.count) p t at k f e (omega arith)
 
   pub derived : (n : ℕ) (t : MTree) (at : ℕ) (c : Cell) → Labelled rows d w at t → cell rows at n ≡ Some c → Derived n t at c.cost c.count
   derived n t at c f e = below_all c.count n t at c f e (omega arith)

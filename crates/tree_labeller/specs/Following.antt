@@ -1,6 +1,6 @@
 -- The rules of a derivation that follows the cells.
 use Rattle.std.specs.Prelude.{◌≡◌, ℕ, ◌+◌, Some, List}
-use Rattle.tree_labeller.specs.declared.cell.Cell.{Cell}
+use Rattle.lburg_tables.specs.declared.cell.Cell.{Cell}
 use Rattle.tree_labeller.specs.Rows.{Row}
 use Rattle.lburg_model.specs.declared.rule.Rule.{Rule}
 use Rattle.lburg_model.specs.Tree.{MTree, nodes}

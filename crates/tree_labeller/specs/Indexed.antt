@@ -4,7 +4,7 @@ use Rattle.lburg_model.specs.Best.{Earlier}
 use Rattle.lburg_model.specs.Tree.{MTree, TLeaf, TOne, TTwo, value_of}
 use Rattle.lburg_model.specs.Pattern.{MPattern, PHole, PLeaf, POne, PTwo, pattern_of}
 use Rattle.lburg_model.specs.declared.rule.Rule.{Rule}
-use Rattle.tree_labeller.specs.Offers.{Offers}
+use Rattle.lburg_tables.specs.Offers.{Offers}
 use Rattle.lburg_model.specs.Derivation.{MDerivation, MParts, Apply, NoPart, Part}
 
 mutual

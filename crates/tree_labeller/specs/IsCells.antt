@@ -1,7 +1,8 @@
 -- What the rows of cells keep, and what the filling of a row works on.
 use Rattle.std.specs.Prelude.{◌≡◌, ℕ, ◌*◌, ◌-◌, ◌<◌, ◌^◌, Option, None, List, length, slice_index_or}
 use Rattle.place_queue.specs.declared.key.Key.{Key}
-use Rattle.tree_labeller.specs.declared.cell.Cell.{Cell}
+use Rattle.lburg_tables.specs.declared.cell.Cell.{Cell}
+use Rattle.lburg_tables.specs.Waits.{IsIdle}
 use Rattle.tree_labeller.specs.MCells.{MCells, room}
 
 -- so few cells that a count of rules fits 32 bits
@@ -13,15 +14,12 @@ pub record IsBoard (width : ℕ) (ends : List ℕ) (cells : List Cell) : Type 0 
   pub many : length cells ≡ length ends * width
   pub small : AreFew (length ends) width
 
--- no place waits
-abbrev pub IsIdle : ℕ → List (Option Key) → Type 0
-IsIdle width waiting = (length waiting ≡ width) × ((n : ℕ) → slice_index_or waiting n None ≡ None)
-
-pub record IsScratch (width : ℕ) (row : List Cell) (waiting : List (Option Key)) : Type 0 where
+pub record IsScratch (width : ℕ) (base row : List Cell) (waiting : List (Option Key)) : Type 0 where
+  pub started : length base ≡ width
   pub wide : length row ≡ width
   pub idle : IsIdle width waiting
 
-pub record IsCells (board : MCells) (row : List Cell) (waiting : List (Option Key)) : Type 0 where
-  pub scratch : IsScratch board.nonterminals row waiting
+pub record IsCells (board : MCells) (base row : List Cell) (waiting : List (Option Key)) : Type 0 where
+  pub scratch : IsScratch board.nonterminals base row waiting
   pub small : AreFew (room board) board.nonterminals
   pub reach : room board < 2 ^ 64

@@ -1,11 +1,12 @@
 -- What the rows of cells say of a tree. The tree's own row is at its place, then come those of its subtrees, left to right.
 use Rattle.std.specs.Prelude.{◌≡◌, ℕ, ◌+◌, ◌*◌, ◌<◌, ◌≤◌, Option, Some, None, List, [], length, slice_get, slice_index_or, ◌==◌, if◌then◌else◌}
 use Rattle.place_queue.specs.declared.key.Key.{Key}
-use Rattle.tree_labeller.specs.declared.cell.Cell.{Cell}
-use Rattle.tree_labeller.specs.Rows.{Row, key_of}
+use Rattle.lburg_tables.specs.declared.cell.Cell.{Cell}
+use Rattle.tree_labeller.specs.Rows.{Row}
+use Rattle.lburg_tables.specs.RowOf.{key_of}
 use Rattle.lburg_model.specs.declared.rule.Rule.{Rule}
-use Rattle.tree_labeller.specs.Offers.{Offers}
-use Rattle.tree_labeller.specs.Row.{Leq3, CellAt, Closed, Everywhere}
+use Rattle.lburg_tables.specs.Offers.{Offers}
+use Rattle.lburg_tables.specs.Row.{Leq3, CellAt, Closed, Everywhere}
 use Rattle.lburg_model.specs.Range.{IsMet}
 use Rattle.lburg_model.specs.Tree.{MTree, TLeaf, TOne, TTwo, nodes, value_of}
 use Rattle.lburg_model.specs.Pattern.{MPattern, PHole, PLeaf, POne, PTwo, pattern_of}

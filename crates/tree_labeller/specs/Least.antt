@@ -2,16 +2,16 @@
 use Rattle.std.proofs.Common.{◌≡◌, ℕ, ◌+◌, Option, Some, None, List, refl, sym, ap, ◌∙◌, arith}
 use Rattle.std.specs.Prelude.{◌==◌, if◌then◌else◌}
 use Rattle.std.proofs.lemmas.Bool.{eq-eqb}
-use Rattle.tree_labeller.specs.declared.cell.Cell.{Cell}
+use Rattle.lburg_tables.specs.declared.cell.Cell.{Cell}
 use Rattle.place_queue.specs.declared.key.Key.{Key}
 use Rattle.tree_labeller.specs.Rows.{Row}
 use Rattle.lburg_model.specs.declared.rule.Rule.{Rule}
-use Rattle.tree_labeller.specs.Row.{Leq, Leq3}
+use Rattle.lburg_tables.specs.Row.{Leq, Leq3}
 use Rattle.lburg_model.specs.Tree.{MTree, nodes}
 use Rattle.lburg_model.specs.Pattern.{MPattern}
 use Rattle.tree_labeller.specs.Indexed.{Derivation, Uses, Parts, AtHole, AtLeaf, AtOne, AtTwo, cost, costs, count, counts}
 use Rattle.tree_labeller.specs.Labelled.{nothing_used, cell, total, Labelled}
-use Rattle.tree_labeller.specs.Rows.{key_of}
+use Rattle.lburg_tables.specs.RowOf.{key_of}
 use Rattle.tree_labeller.specs.Totals.{sound_of}
 
 -- the number of the rule at the head

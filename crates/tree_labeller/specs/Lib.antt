@@ -1,7 +1,4 @@
-pub mod Offers
 pub mod Rows
-pub mod Row
-pub mod Waits
 pub mod Indexed
 pub mod Labelled
 pub mod Following
@@ -9,7 +6,7 @@ pub mod Chosen
 pub mod ChainRules
 pub mod Trials
 pub mod Tries
-pub mod AreRules
+pub mod Merged
 pub mod MCells
 pub mod IsLabelled
 pub mod IsCells

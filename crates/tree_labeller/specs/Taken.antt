@@ -2,17 +2,17 @@
 use Rattle.std.proofs.Common.{◌≡◌, ◌≢◌, ℕ, ◌+◌, ◌-◌, Option, Some, None, List, refl, sym, ap, ◌∙◌, arith, subst}
 use Rattle.std.specs.Prelude.{ℤ, slice_get, ◌==◌, if◌then◌else◌, Bool, true, false}
 use Rattle.std.proofs.lemmas.Bool.{eqb-true, eq-eqb}
-use Rattle.tree_labeller.specs.declared.cell.Cell.{Cell}
+use Rattle.lburg_tables.specs.declared.cell.Cell.{Cell}
 use Rattle.place_queue.specs.declared.key.Key.{Key}
 use Rattle.tree_labeller.specs.Rows.{Row}
 use Rattle.lburg_model.specs.declared.rule.Rule.{Rule}
 use Rattle.lburg_model.specs.Tree.{MTree, TLeaf, TOne, TTwo, nodes, kids_of, value_of}
 use Rattle.lburg_model.specs.Range.{IsMet}
-use Rattle.tree_labeller.specs.Offers.{Offers}
+use Rattle.lburg_tables.specs.Offers.{Offers}
 use Rattle.lburg_model.specs.Pattern.{MPattern, PHole, PLeaf, POne, PTwo, pattern_of}
 use Rattle.tree_labeller.specs.Indexed.{Derivation, Parts, Uses, AtHole, AtLeaf, AtOne, AtTwo, costs, counts}
 use Rattle.tree_labeller.specs.Labelled.{add, nothing_used, cell, total, Labelled}
-use Rattle.tree_labeller.specs.Rows.{key_of}
+use Rattle.lburg_tables.specs.RowOf.{key_of}
 use Rattle.tree_labeller.specs.Following.{Follows, FollowIn}
 use Rattle.tree_labeller.specs.Chosen.{Chosen}
 use Rattle.tree_labeller.specs.Totals.{sound_of}

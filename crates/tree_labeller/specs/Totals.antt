@@ -2,14 +2,14 @@
 use Rattle.std.proofs.Common.{◌≡◌, ℕ, ◌+◌, ◌*◌, ◌<◌, ◌≤◌, Option, Some, None, List, refl, sym, ap, arith}
 use Rattle.std.specs.Prelude.{◌==◌, true, false, Bool, if◌then◌else◌, IfSome}
 use Rattle.std.proofs.lemmas.Bool.{eqb-true}
-use Rattle.tree_labeller.specs.declared.cell.Cell.{Cell}
+use Rattle.lburg_tables.specs.declared.cell.Cell.{Cell}
 use Rattle.place_queue.specs.declared.key.Key.{Key}
 use Rattle.tree_labeller.specs.Rows.{Row}
 use Rattle.lburg_model.specs.declared.rule.Rule.{Rule}
 use Rattle.lburg_model.specs.Tree.{MTree, TLeaf, TOne, TTwo, nodes}
 use Rattle.lburg_model.specs.Pattern.{MPattern, PHole, PLeaf, POne, PTwo}
 use Rattle.tree_labeller.specs.Labelled.{add, cell, area, Sound, Labelled, KidsLabelled, Ready}
-use Rattle.tree_labeller.specs.Rows.{key_of}
+use Rattle.lburg_tables.specs.RowOf.{key_of}
 
 pub cell_of : (o : Option Cell) (k : Key) → key_of o ≡ Some k → (c : Cell) × (o ≡ Some c) × (c.cost ≡ k.cost) × (c.count ≡ k.count)
 cell_of None k e = cc

@@ -1,28 +1,24 @@
--- How many rules the filling of a row tries.
-use Rattle.std.specs.Prelude.{ℕ, ◌+◌, Option, None, Some, List, [], ◌∷◌, slice_index_or}
+-- How many rules and chains the filling of a row tries.
+use Rattle.std.specs.Prelude.{ℕ, ◌+◌, Option, List, length}
+use Rattle.lburg_model.specs.Description.{MDescription}
 use Rattle.lburg_model.specs.declared.rule.Rule.{Rule}
-use Rattle.lburg_model.specs.Pattern.{MPattern, PHole, PLeaf, POne, PTwo, pattern_of}
 use Rattle.lburg_tables.specs.Root.{Operator}
 use Rattle.lburg_tables.specs.Places.{with_root}
-use Rattle.tree_labeller.specs.declared.cell.Cell.{Cell}
-
--- 1 for a cell, 0 for none
-abbrev pub cell_weight : Option Cell → ℕ
-cell_weight None = 0
-cell_weight (Some c) = 1
-
--- 1 for the pattern of a chain rule from a nonterminal with a cell in the row, else 0
-abbrev pub chain_tries_of : List (Option Cell) → MPattern → ℕ
-chain_tries_of row (PHole n) = cell_weight (slice_index_or row n None)
-chain_tries_of row (PLeaf op) = 0
-chain_tries_of row (POne op p) = 0
-chain_tries_of row (PTwo op p q) = 0
-
--- how many are chain rules from nonterminals with a cell in the row
-abbrev pub chain_tries : List (Option Cell) → List Rule → ℕ
-chain_tries row [] = 0
-chain_tries row (r ∷ rs) = chain_tries_of row (pattern_of r.pattern) + chain_tries row rs
+use Rattle.lburg_tables.specs.Leads.{HasRanged}
+use Rattle.lburg_tables.specs.Row.{CellAt}
+use Rattle.lburg_tables.specs.declared.cell.Cell.{Cell}
+use Rattle.lburg_tables.specs.ChainTries.{chain_tries}
+use Rattle.tree_labeller.specs.Trials.{ChainTrials}
 
 -- how many have the operator at their root, and how many are chain rules from a cell of the row
 abbrev pub row_tries : ℕ → List (Option Cell) → List Rule → ℕ
 row_tries op row rules = with_root (Operator op) rules + chain_tries row rules
+
+-- the nonterminal has a cell in the row
+abbrev pub HasCell : List (Option Cell) → ℕ → Type 0
+HasCell row n = (c : Cell) × CellAt row n c
+
+-- at a node with this operator, of which the base row and the filled row are these
+pub data FillTries (d : MDescription) (op : ℕ) (base row : List (Option Cell)) : ℕ → Type 0 where
+  TriedRules : HasRanged d.rules → FillTries d op base row (row_tries op row d.rules)
+  TriedChains : {many : ℕ} → (HasRanged d.rules → ⊥) → ChainTrials d (HasCell base) (length d.nonterminals) many → FillTries d op base row (with_root (Operator op) d.rules + many)

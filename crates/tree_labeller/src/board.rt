@@ -1,9 +1,10 @@
 ghost use Rattle.std.specs.Prelude.{◌≡◌, ◌+◌, ◌*◌, ◌-◌, ◌^◌, ◌<◌, ◌≤◌, IfOk, length, slice_get, slice_set};
 ghost use Rattle.tree_labeller.specs.Labelled.{cell, end_of};
 ghost use Rattle.tree_labeller.specs.MCells.{MCells, HasRoom, room};
-ghost use Rattle.tree_labeller.specs.Rows.{row_of, rows_of, with_row};
+ghost use Rattle.lburg_tables.specs.RowOf.{row_of};
+ghost use Rattle.tree_labeller.specs.Rows.{rows_of, with_row};
 
-use crate::cell::Cell;
+use lburg_tables::Cell;
 use lcc_base::Memory;
 use std::alloc::Global;
 use std::marker::Model;

@@ -2,7 +2,7 @@ ghost use Rattle.std.specs.Prelude.{◌≡◌, ◌*◌, ◌-◌, ◌^◌, ◌<�
 ghost use Rattle.tree_labeller.specs.MCells.{MCells, HasRoom, room};
 
 use crate::board::{Board, empty_cells};
-use crate::cell::Cell;
+use lburg_tables::Cell;
 use lcc_base::Memory;
 use place_queue::Queue;
 use std::alloc::Global;
@@ -11,9 +11,11 @@ use std::marker::Model;
 /// What the filling of a row works on.
 #[derive(Debug, Drop)]
 pub(crate) struct Scratch {
+    /// What the rules make that are no chain rules.
+    pub(crate) base: Vec<Cell>,
     /// The row that is filled.
     pub(crate) row: Vec<Cell>,
-    /// The nonterminals whose chain rules are still to be tried.
+    /// The nonterminals whose chain rules are still to be tried, where some have ranges.
     pub(crate) queue: Queue,
 }
 
@@ -33,7 +35,7 @@ impl Model for Cells {
 
     ghost view = { λ c. c.board };
 
-    ghost invariant = { λ c. IsCells c.board c.scratch.row.items c.scratch.queue };
+    ghost invariant = { λ c. IsCells c.board c.scratch.base.items c.scratch.row.items c.scratch.queue };
 }
 
 impl Cells {
@@ -48,9 +50,11 @@ impl Cells {
             return Err(Memory);
         }
         let board = Board::reserve(alloc, nodes, nonterminals)?;
-        let row = empty_cells(alloc, nonterminals)?;
-        let queue = Queue::reserve(alloc, nonterminals)?;
-        let scratch = Scratch { row, queue };
+        let scratch = Scratch {
+            base: empty_cells(alloc, nonterminals)?,
+            row: empty_cells(alloc, nonterminals)?,
+            queue: Queue::reserve(alloc, nonterminals)?,
+        };
         Ok(Cells { board, scratch })
     }
 

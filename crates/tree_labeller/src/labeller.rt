@@ -1,19 +1,20 @@
 ghost use Rattle.std.specs.Prelude.{◌≡◌, ℕ, ◌+◌, ◌*◌, ◌-◌, ◌^◌, ◌<◌, ◌≤◌, ◌⊎◌, length, slice_get};
-ghost use Rattle.lburg_model.specs.Tree.{nodes, op_of, kids_of};
-ghost use Rattle.tree_labeller.specs.Labelled.{Filled, KidsLabelled, area, Labelled};
-ghost use Rattle.tree_labeller.specs.AreRules.{AreRules};
+ghost use Rattle.lburg_model.specs.Tree.{nodes, op_of, kids_of, value_of};
+ghost use Rattle.tree_labeller.specs.Labelled.{Started, KidsLabelled, area, Labelled};
+ghost use Rattle.lburg_tables.specs.Row.{Closed, Everywhere};
+ghost use Rattle.lburg_tables.specs.AreRules.{AreRules};
 ghost use Rattle.tree_labeller.specs.ChainRules.{chain_rules};
-ghost use Rattle.tree_labeller.specs.Tries.{row_tries};
+ghost use Rattle.tree_labeller.specs.Tries.{FillTries};
 ghost use Rattle.tree_labeller.specs.Trials.{Trials, TrialsOfEach};
-ghost use Rattle.tree_labeller.specs.Rows.{row_of};
+ghost use Rattle.lburg_tables.specs.RowOf.{row_of};
 ghost use Rattle.tree_labeller.specs.IsCells.{IsScratch};
 ghost use Rattle.tree_labeller.specs.MCells.{HasRoom, room};
 ghost use Rattle.tree_labeller.specs.IsLabelled.{IsLabelled};
 
 use crate::board::Board;
 use crate::cells::{Cells, Scratch};
-use crate::closing::{NodeRules, close_row};
 use crate::labels::Labels;
+use crate::merging::merge_chains;
 use crate::starting::{NodeLabels, start_row};
 use lburg_model::{Rule, TreeNode};
 use lburg_tables::Tables;
@@ -36,24 +37,27 @@ fn fill_row<N: TreeNode, L: Ledger>(
     steps: &mut Steps<L>,
 )
     requires same { node.now.labels.rules.now ≡ node.now.tables.now.rules }
-    requires scratch { IsScratch node.now.labels.board.now.nonterminals scratch.old.row.items scratch.old.queue }
+    requires scratch { IsScratch node.now.labels.board.now.nonterminals scratch.old.base.items scratch.old.row.items scratch.old.queue }
+    requires wide { length node.now.tables.now.nonterminals ≤ node.now.labels.board.now.nonterminals }
     requires are { AreRules node.now.labels.rules.now node.now.labels.board.now.nonterminals }
     requires small { area node.now.labels.board.now.nonterminals (N.tree tree.now) < 2 ^ 32 - 1 }
     requires room { node.now.at + nodes (N.tree tree.now) ≤ length node.now.labels.board.now.rows }
     requires reach { length node.now.labels.board.now.rows < 2 ^ 64 }
     requires kids { KidsLabelled node.now.labels.board.now.rows node.now.labels.rules.now node.now.labels.board.now.nonterminals node.now.at (N.tree tree.now) }
-    ensures filled { Filled node.now.labels.board.now.rows node.now.labels.rules.now node.now.at (N.tree tree.now) node.now.labels.board.now.nonterminals (row_of scratch.new.row.items) }
-    ensures scratch { IsScratch node.now.labels.board.now.nonterminals scratch.new.row.items scratch.new.queue }
-    ensures steps { steps.new ≡ steps.old + row_tries (op_of (N.tree tree.now)) (row_of scratch.new.row.items) node.now.labels.rules.now }
+    ensures started { Started node.now.labels.board.now.rows node.now.labels.rules.now node.now.at (N.tree tree.now) (row_of scratch.new.base.items) Everywhere }
+    ensures closed { Closed node.now.labels.rules.now (value_of (N.tree tree.now)) (row_of scratch.new.base.items) (row_of scratch.new.row.items) }
+    ensures scratch { IsScratch node.now.labels.board.now.nonterminals scratch.new.base.items scratch.new.row.items scratch.new.queue }
+    ensures steps { (n : ℕ) × FillTries node.now.tables.now (op_of (N.tree tree.now)) (row_of scratch.new.base.items) (row_of scratch.new.row.items) n × (steps.new ≡ steps.old + n) }
 {
-    let row = scratch.row.as_mut_slice();
-    start_row(node, tree, row, &mut scratch.queue, steps);
-    let rules = NodeRules {
-        tables: node.tables,
-        rules: node.labels.rules,
-        constant: tree.value(),
-    };
-    close_row(&rules, row, &mut scratch.queue, steps);
+    start_row(node, tree, scratch.base.as_mut_slice(), steps);
+    scratch.row.copy_from_slice(&scratch.base);
+    if node.tables.has_ranged_chains() {
+        let row = scratch.row.as_mut_slice();
+        node.tables
+            .close_row(tree.value(), row, &mut scratch.queue, steps);
+    } else {
+        merge_chains(node.tables, &scratch.base, &mut scratch.row, steps);
+    }
 }
 
 // Labels a tree: its rows stand from `at` on. Returns the place after them.
@@ -67,17 +71,18 @@ fn label_at<N: TreeNode, L: Ledger>(
     steps: &mut Steps<L>,
 ) -> usize
     requires same { grammar.now.rules.now ≡ grammar.now.tables.now.rules }
+    requires wide { length grammar.now.tables.now.nonterminals ≤ board.old.nonterminals }
     requires are { AreRules grammar.now.rules.now board.old.nonterminals }
-    requires scratch { IsScratch board.old.nonterminals scratch.old.row.items scratch.old.queue }
+    requires scratch { IsScratch board.old.nonterminals scratch.old.base.items scratch.old.row.items scratch.old.queue }
     requires small { area board.old.nonterminals (N.tree tree.now) < 2 ^ 32 - 1 }
     requires room { at + nodes (N.tree tree.now) ≤ length board.old.rows }
     requires reach { length board.old.rows < 2 ^ 64 }
     ensures next { result ≡ at + nodes (N.tree tree.now) }
     ensures others { (i : ℕ) → (i < at) ⊎ (at + nodes (N.tree tree.now) ≤ i) → slice_get board.new.rows i ≡ slice_get board.old.rows i }
     ensures board { HasRoom board.new (room board.old) board.old.nonterminals }
-    ensures scratch { IsScratch board.old.nonterminals scratch.new.row.items scratch.new.queue }
+    ensures scratch { IsScratch board.old.nonterminals scratch.new.base.items scratch.new.row.items scratch.new.queue }
     ensures labelled { Labelled board.new.rows grammar.now.rules.now board.old.nonterminals at (N.tree tree.now) }
-    ensures trials { (n : ℕ) × Trials grammar.now.rules.now (N.tree tree.now) n × (steps.new ≡ steps.old + n) }
+    ensures trials { (n : ℕ) × Trials grammar.now.tables.now (N.tree tree.now) n × (steps.new ≡ steps.old + n) }
 {
     let next = label_kids(grammar, tree, at, board, scratch, steps);
     let node = NodeLabels {
@@ -105,17 +110,18 @@ fn label_kids<N: TreeNode, L: Ledger>(
     steps: &mut Steps<L>,
 ) -> usize
     requires same { grammar.now.rules.now ≡ grammar.now.tables.now.rules }
+    requires wide { length grammar.now.tables.now.nonterminals ≤ board.old.nonterminals }
     requires are { AreRules grammar.now.rules.now board.old.nonterminals }
-    requires scratch { IsScratch board.old.nonterminals scratch.old.row.items scratch.old.queue }
+    requires scratch { IsScratch board.old.nonterminals scratch.old.base.items scratch.old.row.items scratch.old.queue }
     requires small { area board.old.nonterminals (N.tree tree.now) < 2 ^ 32 - 1 }
     requires room { at + nodes (N.tree tree.now) ≤ length board.old.rows }
     requires reach { length board.old.rows < 2 ^ 64 }
     ensures next { result ≡ at + nodes (N.tree tree.now) }
     ensures others { (i : ℕ) → (i ≤ at) ⊎ (at + nodes (N.tree tree.now) ≤ i) → slice_get board.new.rows i ≡ slice_get board.old.rows i }
     ensures board { HasRoom board.new (room board.old) board.old.nonterminals }
-    ensures scratch { IsScratch board.old.nonterminals scratch.new.row.items scratch.new.queue }
+    ensures scratch { IsScratch board.old.nonterminals scratch.new.base.items scratch.new.row.items scratch.new.queue }
     ensures kids { KidsLabelled board.new.rows grammar.now.rules.now board.old.nonterminals at (N.tree tree.now) }
-    ensures trials { (n : ℕ) × TrialsOfEach grammar.now.rules.now (kids_of (N.tree tree.now)) n × (steps.new ≡ steps.old + n) }
+    ensures trials { (n : ℕ) × TrialsOfEach grammar.now.tables.now (kids_of (N.tree tree.now)) n × (steps.new ≡ steps.old + n) }
 {
     match tree.arity() {
         0 => at + 1,
@@ -127,17 +133,18 @@ fn label_kids<N: TreeNode, L: Ledger>(
     }
 }
 
-/// Labels a tree. It takes no memory and refuses nothing. A step is one rule that is tried at one
-/// node: each rule whose pattern has the node's operator at its root, and each chain rule from a
-/// nonterminal that has a derivation there. The bound is by the tree's nodes, and the rules,
-/// nonterminals and chain rules of the tables.
+/// Labels a tree. It takes no memory and refuses nothing. A step is one rule or chain that is tried
+/// at one node: each rule whose pattern has the node's operator at its root; and each best chain from
+/// a nonterminal that such a rule derives there or, where some chain rule has a range, each chain
+/// rule from a nonterminal that has a derivation there. The bound is by the tree's nodes, and the
+/// rules, nonterminals and chain rules of the tables.
 /// Source: Aho, Ganapathi and Tjiang, Code generation using tree matching and dynamic programming.
 pub fn label<N: TreeNode, L: Ledger>(t: &Tables, tree: &N, cells: &mut Cells, steps: &mut Steps<L>)
     requires nodes { nodes (N.tree tree.now) ≤ room cells.old }
     requires nonterminals { length t.now.nonterminals ≤ cells.old.nonterminals }
     ensures labelled { IsLabelled t.now cells.new (N.tree tree.now) }
     ensures room { HasRoom cells.new (room cells.old) cells.old.nonterminals }
-    ensures trials { (n : ℕ) × Trials t.now.rules (N.tree tree.now) n × (steps.new ≡ steps.old + n) }
+    ensures trials { (n : ℕ) × Trials t.now (N.tree tree.now) n × (steps.new ≡ steps.old + n) }
     ensures steps { steps.new ≤ steps.old + nodes (N.tree tree.now) * (length t.now.rules + length t.now.nonterminals * chain_rules t.now.rules) }
     ensures kept { steps.old ≤ steps.new }
 {

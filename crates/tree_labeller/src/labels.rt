@@ -5,10 +5,9 @@ ghost use Rattle.tree_labeller.specs.Labelled.{Labelled, cell};
 ghost use Rattle.tree_labeller.specs.Chosen.{Chosen};
 
 use crate::board::Board;
-use crate::cell::Cell;
 use crate::cells::Cells;
 use lburg_model::{Rule, TreeNode};
-use lburg_tables::Tables;
+use lburg_tables::{Cell, Tables};
 
 /// The rows of a tree, and the rules that it was labelled with.
 #[derive(Clone, Copy, Debug)]

@@ -2,18 +2,17 @@
 #![tactic(auto)]
 
 mod board;
-mod cell;
 mod cells;
-mod closing;
 mod labeller;
 mod labels;
 mod matching;
+mod merging;
 mod sizes;
 mod starting;
 
 pub use board::Board;
-pub use cell::Cell;
 pub use cells::Cells;
 pub use labeller::label;
 pub use labels::{Choice, Labels, labels_in};
+pub use lburg_tables::Cell;
 pub use sizes::{most_nodes, node_count};

@@ -2,7 +2,7 @@ ghost use Rattle.std.specs.Prelude.{◌≡◌, ◌+◌, ◌*◌, ◌-◌, ◌^�
 ghost use Rattle.lburg_model.specs.Tree.{nodes};
 ghost use Rattle.lburg_model.specs.Pattern.{pattern_of};
 ghost use Rattle.tree_labeller.specs.Labelled.{base_total, IsRuleTotal, KidsLabelled, total, area, Ready, Labelled, cell};
-ghost use Rattle.tree_labeller.specs.Rows.{key_of};
+ghost use Rattle.lburg_tables.specs.RowOf.{key_of};
 
 use crate::labels::Labels;
 use lburg_model::{Pattern, Rule, TreeNode};

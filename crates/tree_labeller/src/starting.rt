@@ -1,31 +1,18 @@
-ghost use Rattle.std.specs.Prelude.{◌≡◌, ℕ, ◌+◌, ◌-◌, ◌^◌, ◌<◌, ◌≤◌, length};
+ghost use Rattle.std.specs.Prelude.{◌≡◌, ◌+◌, ◌-◌, ◌^◌, ◌<◌, ◌≤◌, length};
 ghost use Rattle.lburg_model.specs.Tree.{nodes, op_of};
 ghost use Rattle.lburg_tables.specs.Root.{Operator};
 ghost use Rattle.lburg_tables.specs.Places.{with_root};
-ghost use Rattle.tree_labeller.specs.Row.{CellAt, Everywhere};
-ghost use Rattle.tree_labeller.specs.Rows.{row_of, waiting_of};
-ghost use Rattle.tree_labeller.specs.IsCells.{IsIdle};
+ghost use Rattle.lburg_tables.specs.Row.{Everywhere};
+ghost use Rattle.lburg_tables.specs.RowOf.{row_of};
 ghost use Rattle.tree_labeller.specs.Labelled.{Started, KidsLabelled, area};
-ghost use Rattle.tree_labeller.specs.AreRules.{AreRules};
-ghost use Rattle.tree_labeller.specs.declared.cell.Cell.{Cell as Cells};
+ghost use Rattle.lburg_tables.specs.AreRules.{AreRules};
 
-use crate::cell::Cell;
-use crate::closing::relax;
 use crate::labels::Labels;
 use crate::matching::rule_total_at;
 use lburg_model::TreeNode;
-use lburg_tables::Tables;
+use lburg_tables::{Cell, Tables, clear_row, offer};
 use lcc_base::Steps;
-use place_queue::Queue;
 use std::sync::ledger::Ledger;
-
-fn clear_row(cells: &mut [Cell])
-    ensures { (n : ℕ) (c : Cells) → CellAt (row_of cells.new) n c → ⊥ }
-{
-    for n in 0..cells.len() {
-        cells[n].rule = 0;
-    }
-}
 
 /// What is tried at a node: the rules whose patterns have its operator at their root, on the rows of
 /// its operands.
@@ -37,25 +24,21 @@ pub(crate) struct NodeLabels<'a> {
     pub(crate) at: usize,
 }
 
-/// Fills a row with what the rules make of the subtrees' rows, but for the chain rules. Each cell
-/// waits.
+/// Fills a row with what the rules make of the subtrees' rows, but for the chain rules.
 pub(crate) fn start_row<N: TreeNode, L: Ledger>(
     node: &NodeLabels,
     tree: &N,
     row: &mut [Cell],
-    queue: &mut Queue,
     steps: &mut Steps<L>,
 )
     requires same { node.now.labels.rules.now ≡ node.now.tables.now.rules }
     requires wide { length row.old ≡ node.now.labels.board.now.nonterminals }
-    requires idle { IsIdle (length row.old) queue.old }
     requires are { AreRules node.now.labels.rules.now (length row.old) }
     requires small { area (length row.old) (N.tree tree.now) < 2 ^ 32 - 1 }
     requires room { node.now.at + nodes (N.tree tree.now) ≤ length node.now.labels.board.now.rows }
     requires reach { length node.now.labels.board.now.rows < 2 ^ 64 }
     requires kids { KidsLabelled node.now.labels.board.now.rows node.now.labels.rules.now (length row.old) node.now.at (N.tree tree.now) }
     ensures started { Started node.now.labels.board.now.rows node.now.labels.rules.now node.now.at (N.tree tree.now) (row_of row.new) Everywhere }
-    ensures waits { queue.new ≡ waiting_of (row_of row.new) }
     ensures steps { steps.new ≡ steps.old + with_root (Operator (op_of (N.tree tree.now))) node.now.labels.rules.now }
 {
     clear_row(row);
@@ -71,7 +54,7 @@ pub(crate) fn start_row<N: TreeNode, L: Ledger>(
                 count: key.count + 1,
                 rule: place + 1,
             };
-            relax(row, queue, rule.left as usize, cell);
+            offer(row, rule.left as usize, cell);
         }
     }
 }

@@ -1,7 +1,8 @@
 use Rattle.std.proofs.Common.{ℕ, ◌+◌, ◌<◌, List, length, sym, ap, subst, arith}
 use Rattle.std.specs.Prelude.{slice_set}
 use Rattle.lburg_model.specs.Tree.{op_of}
-use Rattle.tree_labeller.specs.Rows.{Row, row_of}
+use Rattle.tree_labeller.specs.Rows.{Row}
+use Rattle.lburg_tables.specs.RowOf.{row_of}
 use Rattle.tree_labeller.specs.Labelled.{Filled, Labelled}
 use Rattle.tree_labeller.specs.Totals.{nodes_pos}
 use Rattle.tree_labeller.specs.Tries.{row_tries}

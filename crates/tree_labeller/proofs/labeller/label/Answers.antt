@@ -3,9 +3,10 @@ use Rattle.lburg_model.specs.declared.rule.Rule.{Rule}
 use Rattle.lburg_model.specs.Description.{MDescription}
 use Rattle.lburg_model.specs.Tree.{nodes}
 use Rattle.tree_labeller.specs.MCells.{MCells}
-use Rattle.tree_labeller.specs.AreRules.{AreRules}
+use Rattle.lburg_tables.specs.AreRules.{AreRules}
 use Rattle.tree_labeller.specs.ChainRules.{chain_rules}
-use Rattle.tree_labeller.proofs.Room.{are_rules, small_area, narrow_rows}
+use Rattle.lburg_tables.specs.AreRules.{are_rules}
+use Rattle.tree_labeller.proofs.Room.{small_area, narrow_rows}
 use Rattle.tree_labeller.proofs.Counting.{most_trials, step_bound}
 use Rattle.tree_labeller.proofs.labeller.label.Goals as goal
 

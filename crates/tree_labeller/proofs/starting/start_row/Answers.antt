@@ -7,25 +7,23 @@ use Rattle.lburg_model.specs.Tree.{op_of}
 use Rattle.lburg_tables.specs.Root.{Operator, places_with}
 use Rattle.lburg_tables.specs.Places.{all, many}
 use Rattle.place_queue.specs.declared.key.Key.{Key}
-use Rattle.tree_labeller.specs.declared.cell.Cell.{Cell}
-use Rattle.tree_labeller.specs.Row.{Among}
-use Rattle.tree_labeller.specs.Rows.{seen, row_of, waiting_of}
+use Rattle.lburg_tables.specs.declared.cell.Cell.{Cell}
+use Rattle.lburg_tables.specs.Row.{Among}
+use Rattle.lburg_tables.specs.RowOf.{row_of}
 use Rattle.tree_labeller.specs.Labelled.{IsRuleTotal, Started}
 use Rattle.tree_labeller.proofs.Finish.{started_none, started_skip, started_take, started_all}
-use Rattle.tree_labeller.proofs.Roots.{place_within, rule_there, operator_of}
-use Rattle.tree_labeller.proofs.Rows.{all_match, idle_all, waits_after, row_within}
+use Rattle.lburg_tables.specs.Places.{place_within, rule_there}
+use Rattle.tree_labeller.proofs.Roots.{operator_of}
+use Rattle.lburg_tables.specs.RowLaws.{row_within}
 use Rattle.tree_labeller.proofs.starting.start_row.Goals.{in-Some, in_default}
 use Rattle.tree_labeller.proofs.starting.start_row.Goals as goal
 
 pub loop-k-init : goal.loop-k-init
 loop-k-init g c =
     let node = c.args.node.now in
-    let row = row_of c.clear_row.new.cells in
-    let long = length-map c.clear_row.new.cells seen ∙ c.clear_row.auto.cells in
-    let idle = c.requires.idle in
+    let row = row_of c.clear_row.new.row in
     record {
       started = started_none node.labels.board.now.rows node.labels.rules.now c.rules_on-places.result.now node.at (g.N.TreeNode.tree c.args.tree.now) row c.clear_row.ensures;
-      waits = idle_all row c.args.queue.now (idle.0 ∙ sym long, idle.1) c.clear_row.ensures;
       steps = omega arith;
     }
 
@@ -41,8 +39,8 @@ overflow_add-cell-in-Some-2 g c =
     let few = c.requires.are.few in
     omega arith
 
-pub relax-requires-clause-within : goal.relax-requires-clause-within
-relax-requires-clause-within g c =
+pub offer-requires-clause-within : goal.offer-requires-clause-within
+offer-requires-clause-within g c =
     let rules = c.args.node.now.labels.rules.now in
     let places = c.rules_on-places.result.now in
     let place = get_or places c.loop-k.k 0 in
@@ -51,11 +49,8 @@ relax-requires-clause-within g c =
     let there = rule_there rules (Operator c.op.result) places c.loop-k.k place c.index-rules-place.result are here c.index-rules-place.is in
     let inside = c.requires.are.lefts place c.index-rules-place.result there.0 in
     let one = c.loop-k.auto.row in
-    let two = c.clear_row.auto.cells in
+    let two = c.clear_row.auto.row in
     omega arith
-
-pub relax-requires-clause-matches : goal.relax-requires-clause-matches
-relax-requires-clause-matches g c = all_match (row_of c.loop-k.row) c.loop-k.queue c.loop-k.invariant.waits
 
 pub loop-k-preserved : goal.loop-k-preserved
 loop-k-preserved g c =
@@ -68,7 +63,6 @@ loop-k-preserved g c =
     let place = get_or places k 0 in
     let rule = c.index-rules-place.result in
     let row = row_of c.loop-k.row in
-    let waiting = c.loop-k.queue in
     let inv = c.loop-k.invariant in
     let are = c.rules_on-places.ensures ∙ ap (places_with (Operator c.op.result)) (sym c.requires.same) in
     let here : slice_get places k ≡ Some place = slice_get-get_or places k 0 c.loop-k-test.true in
@@ -76,18 +70,13 @@ loop-k-preserved g c =
     let Tells : Option Key → Type 0 = λ o. IsRuleTotal rows rule tree node.at o in
     let tells : Tells c.rule_total_at.result = c.rule_total_at.ensures.value in
     let After : List Cell → Type 0 = λ x. Started rows rules node.at tree (row_of x) (Among places (k + 1)) in
-    let Waits : List (Option Key) → List Cell → Type 0 = λ w x. w ≡ waiting_of (row_of x) in
-    let inside : rule.left < length c.loop-k.row = (let l = c.requires.are.lefts place rule there.0 in let one = c.loop-k.auto.row in let two = c.clear_row.auto.cells in omega arith) in
+    let inside : rule.left < length c.loop-k.row = (let l = c.requires.are.lefts place rule there.0 in let one = c.loop-k.auto.row in let two = c.clear_row.auto.row in omega arith) in
     record {
       started = elim c.match-rule_total_at.branch [
         | in-Some w ↦
             let total = subst Tells w.in-Some.is tells in
-            subst After (sym w.row-is) (started_take rows rules places node.at tree row k place rule w.in-Some.key (row_of w.relax.new.row) waiting w.relax.new.queue inv.started here (there.0, total.0) total.1 (row_within c.loop-k.row rule.left inside) w.relax.ensures.relaxed)
+            subst After (sym w.row-is) (started_take rows rules places node.at tree row k place rule w.in-Some.key (row_of w.offer.new.row) inv.started here (there.0, total.0) total.1 (row_within c.loop-k.row rule.left inside) w.offer.ensures)
         | in_default w ↦ subst After (sym w.row-is) (started_skip rows rules places node.at tree row k place rule inv.started here there.0 (subst Tells w.in_default.is tells))
-      ];
-      waits = elim c.match-rule_total_at.branch [
-        | in-Some w ↦ subst (Waits c.match-rule_total_at.queue) (sym w.row-is) (w.queue-is ∙ waits_after row waiting rule.left _ (row_of w.relax.new.row) w.relax.new.queue inv.waits w.relax.ensures.relaxed)
-        | in_default w ↦ subst (Waits c.match-rule_total_at.queue) (sym w.row-is) (w.queue-is ∙ inv.waits)
       ];
       steps = let a = inv.steps in let b = c.tick.ensures in omega arith;
     }

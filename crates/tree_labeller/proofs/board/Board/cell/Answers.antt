@@ -1,6 +1,6 @@
 use Rattle.std.proofs.Common.{sym, ap, ◌∙◌, arith}
 use Rattle.tree_labeller.specs.MCells.{MCells}
-use Rattle.tree_labeller.specs.Rows.{seen}
+use Rattle.lburg_tables.specs.RowOf.{seen}
 use Rattle.tree_labeller.specs.Labelled.{cell}
 use Rattle.tree_labeller.proofs.FlatRows.{cell_there, cell_past, cell_beside}
 use Rattle.tree_labeller.proofs.board.Board.cell.Goals.{then-at-len-via-then-at-len, then-at-len-via-else-at-len+then-n-self}

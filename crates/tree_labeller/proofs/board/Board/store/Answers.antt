@@ -1,9 +1,10 @@
 use Rattle.std.proofs.Common.{◌≡◌, ◌*◌, List, length, refl, sym, ap, ◌∙◌, arith}
 use Rattle.std.specs.Prelude.{slice_set}
 use Rattle.std.proofs.lemmas.List.{with_items_is}
-use Rattle.tree_labeller.specs.declared.cell.Cell.{Cell}
+use Rattle.lburg_tables.specs.declared.cell.Cell.{Cell}
 use Rattle.tree_labeller.specs.MCells.{MCells}
-use Rattle.tree_labeller.specs.Rows.{row_of, rows_of, with_row}
+use Rattle.lburg_tables.specs.RowOf.{row_of}
+use Rattle.tree_labeller.specs.Rows.{rows_of, with_row}
 use Rattle.tree_labeller.proofs.FlatRows.{room_is, row_within, row_stored}
 use Rattle.tree_labeller.proofs.board.Board.store.Goals as goal
 

@@ -1,0 +1,56 @@
+ghost use Rattle.std.specs.Prelude.{◌≡◌, ℕ, ◌+◌, ◌^◌, ◌<◌, ◌≤◌, ℤ, Option, length};
+ghost use Rattle.lburg_tables.specs.Leads.{HasRanged};
+ghost use Rattle.lburg_tables.specs.Row.{CellAt, Closed, IsCheap};
+ghost use Rattle.lburg_tables.specs.RowOf.{row_of};
+ghost use Rattle.lburg_tables.specs.declared.cell.Cell.{Cell as Cells};
+ghost use Rattle.tree_labeller.specs.Merged.{AllFit, Extended};
+ghost use Rattle.tree_labeller.specs.Trials.{ChainTrials};
+ghost use Rattle.tree_labeller.specs.Tries.{HasCell};
+
+use lburg_tables::{BestChain, Cell, Tables, offer};
+use lcc_base::Steps;
+use std::sync::ledger::Ledger;
+
+// Tries the chains from a nonterminal on its cell.
+fn extend<L: Ledger>(row: &mut [Cell], from: Cell, chains: &[BestChain], steps: &mut Steps<L>)
+    requires fit { AllFit (length row.old) from chains.now }
+    ensures extended { Extended chains.now from (length chains.now) (row_of row.old) (row_of row.new) }
+    ensures steps { steps.new ≡ steps.old + length chains.now }
+{
+    for chain in chains {
+        steps.tick();
+        let cell = Cell {
+            cost: from.cost + chain.cost,
+            count: from.count + chain.count,
+            rule: chain.rule,
+        };
+        offer(row, chain.to as usize, cell);
+    }
+}
+
+/// Adds to a row, which is a copy of the base row, what the chain rules make of the base cells,
+/// where no chain rule has a range: a chain of several rules ends like the best one between its two
+/// nonterminals. A step is one chain that is tried on a base cell.
+/// Source: Fraser and Hanson, A Retargetable C Compiler, chapter 14.
+pub(crate) fn merge_chains<L: Ledger>(
+    tables: &Tables,
+    base: &[Cell],
+    row: &mut [Cell],
+    steps: &mut Steps<L>,
+)
+    requires free { HasRanged tables.now.rules → ⊥ }
+    requires copied { row.old ≡ base.now }
+    requires wide { length tables.now.nonterminals ≤ length base.now }
+    requires named { (n : ℕ) (c : Cells) → CellAt (row_of base.now) n c → n < length tables.now.nonterminals }
+    requires short { (n : ℕ) (c : Cells) → CellAt (row_of base.now) n c → c.count + length base.now < 2 ^ 32 }
+    requires cheap { IsCheap (row_of base.now) }
+    ensures closed { (constant : Option ℤ) → Closed tables.now.rules constant (row_of base.now) (row_of row.new) }
+    ensures steps { (n : ℕ) × ChainTrials tables.now (HasCell (row_of base.now)) (length tables.now.nonterminals) n × (steps.new ≡ steps.old + n) }
+{
+    let nonterminals = tables.description().nonterminals().len();
+    for m in 0..nonterminals {
+        if let Some(from) = base[m].seen() {
+            extend(row, from, tables.best_chains(m), steps);
+        }
+    }
+}
