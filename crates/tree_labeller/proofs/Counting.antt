@@ -21,7 +21,7 @@ use Rattle.lburg_tables.specs.Weights.{root_weight, with_more}
 use Rattle.tree_labeller.specs.ChainRules.{chain_weight, chain_rules}
 use Rattle.tree_labeller.specs.Rows.{Row}
 use Rattle.tree_labeller.specs.Labelled.{cell, total, base_total, Labelled, Started}
-use Rattle.tree_labeller.specs.Tries.{row_tries, HasCell, FillTries, TriedRules, TriedChains}
+use Rattle.tree_labeller.specs.Tries.{row_tries, HasCell, ClosingTries, TriedRules, TriedChains}
 use Rattle.tree_labeller.specs.Trials.{IsTried, RuleTrials, NoRule, Tried, Untried, IsBase, ChainTrials, NoStart, Start, Pass, RootTrials, ByRules, ByChains, Trials, AtRoot, TrialsOfEach, NoTree, Tree}
 use Rattle.tree_labeller.specs.Indexed.{Derivation, Uses, erase, erase_in}
 use Rattle.tree_labeller.specs.Erased.{derives, indexed}
@@ -120,7 +120,7 @@ module _ (rows rows' : List Row) (d : MDescription) (w at : ℕ) (t : MTree) (ba
       told_by m i r parts there root f.0 f.1
 
   -- what the filling of the row tried is what is tried at the root
-  pub root_trials : (row : List (Option Cell)) (n : ℕ) → ((m : ℕ) → cell rows' at m ≡ get_or row m None) → FillTries d (op_of t) base row n → RootTrials d t n
+  pub root_trials : (row : List (Option Cell)) (n : ℕ) → ((m : ℕ) → cell rows' at m ≡ get_or row m None) → ClosingTries d base row n → RootTrials d t (with_root (Operator (op_of t)) d.rules + n)
   root_trials row n own (TriedRules ranged) = ByRules ranged (row_trials rows' d.rules w at t row labelled own)
   root_trials row n own (TriedChains {many = many} free chains) = ByChains free (chain_trials_as d (HasCell base) (IsBase d t) is_base has_cell (length d.nonterminals) many chains)
 

@@ -4,4 +4,4 @@ pub mod Counting
 pub mod Choosing
 pub mod FlatRows
 pub mod Room
-pub mod Merging
+pub mod MergedRows

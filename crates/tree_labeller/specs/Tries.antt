@@ -18,7 +18,7 @@ row_tries op row rules = with_root (Operator op) rules + chain_tries row rules
 abbrev pub HasCell : List (Option Cell) → ℕ → Type 0
 HasCell row n = (c : Cell) × CellAt row n c
 
--- at a node with this operator, of which the base row and the filled row are these
-pub data FillTries (d : MDescription) (op : ℕ) (base row : List (Option Cell)) : ℕ → Type 0 where
-  TriedRules : HasRanged d.rules → FillTries d op base row (row_tries op row d.rules)
-  TriedChains : {many : ℕ} → (HasRanged d.rules → ⊥) → ChainTrials d (HasCell base) (length d.nonterminals) many → FillTries d op base row (with_root (Operator op) d.rules + many)
+-- so many chain rules or chains are tried to fill a row from its base row
+pub data ClosingTries (d : MDescription) (base row : List (Option Cell)) : ℕ → Type 0 where
+  TriedRules : HasRanged d.rules → ClosingTries d base row (chain_tries row d.rules)
+  TriedChains : {many : ℕ} → (HasRanged d.rules → ⊥) → ChainTrials d (HasCell base) (length d.nonterminals) many → ClosingTries d base row many

@@ -4,7 +4,9 @@ ghost use Rattle.tree_labeller.specs.Labelled.{Started, KidsLabelled, area, Labe
 ghost use Rattle.lburg_tables.specs.Row.{Closed, Everywhere};
 ghost use Rattle.lburg_tables.specs.AreRules.{AreRules};
 ghost use Rattle.tree_labeller.specs.ChainRules.{chain_rules};
-ghost use Rattle.tree_labeller.specs.Tries.{FillTries};
+ghost use Rattle.lburg_tables.specs.Places.{with_root};
+ghost use Rattle.lburg_tables.specs.Root.{Operator};
+ghost use Rattle.tree_labeller.specs.Tries.{ClosingTries};
 ghost use Rattle.tree_labeller.specs.Trials.{Trials, TrialsOfEach};
 ghost use Rattle.lburg_tables.specs.RowOf.{row_of};
 ghost use Rattle.tree_labeller.specs.IsCells.{IsScratch};
@@ -14,7 +16,7 @@ ghost use Rattle.tree_labeller.specs.IsLabelled.{IsLabelled};
 use crate::board::Board;
 use crate::cells::{Cells, Scratch};
 use crate::labels::Labels;
-use crate::merging::merge_chains;
+use crate::merging::fill_from_base;
 use crate::starting::{NodeLabels, start_row};
 use lburg_model::{Rule, TreeNode};
 use lburg_tables::Tables;
@@ -39,6 +41,7 @@ fn fill_row<N: TreeNode, L: Ledger>(
     requires same { node.now.labels.rules.now ≡ node.now.tables.now.rules }
     requires scratch { IsScratch node.now.labels.board.now.nonterminals scratch.old.base.items scratch.old.row.items scratch.old.queue }
     requires wide { length node.now.tables.now.nonterminals ≤ node.now.labels.board.now.nonterminals }
+    requires named { AreRules node.now.labels.rules.now (length node.now.tables.now.nonterminals) }
     requires are { AreRules node.now.labels.rules.now node.now.labels.board.now.nonterminals }
     requires small { area node.now.labels.board.now.nonterminals (N.tree tree.now) < 2 ^ 32 - 1 }
     requires room { node.now.at + nodes (N.tree tree.now) ≤ length node.now.labels.board.now.rows }
@@ -47,17 +50,17 @@ fn fill_row<N: TreeNode, L: Ledger>(
     ensures started { Started node.now.labels.board.now.rows node.now.labels.rules.now node.now.at (N.tree tree.now) (row_of scratch.new.base.items) Everywhere }
     ensures closed { Closed node.now.labels.rules.now (value_of (N.tree tree.now)) (row_of scratch.new.base.items) (row_of scratch.new.row.items) }
     ensures scratch { IsScratch node.now.labels.board.now.nonterminals scratch.new.base.items scratch.new.row.items scratch.new.queue }
-    ensures steps { (n : ℕ) × FillTries node.now.tables.now (op_of (N.tree tree.now)) (row_of scratch.new.base.items) (row_of scratch.new.row.items) n × (steps.new ≡ steps.old + n) }
+    ensures steps { (n : ℕ) × ClosingTries node.now.tables.now (row_of scratch.new.base.items) (row_of scratch.new.row.items) n × (steps.new ≡ steps.old + (with_root (Operator (op_of (N.tree tree.now))) node.now.labels.rules.now + n)) }
 {
     start_row(node, tree, scratch.base.as_mut_slice(), steps);
-    scratch.row.copy_from_slice(&scratch.base);
-    if node.tables.has_ranged_chains() {
-        let row = scratch.row.as_mut_slice();
-        node.tables
-            .close_row(tree.value(), row, &mut scratch.queue, steps);
-    } else {
-        merge_chains(node.tables, &scratch.base, &mut scratch.row, steps);
-    }
+    fill_from_base(
+        node.tables,
+        tree.value(),
+        &scratch.base,
+        &mut scratch.row,
+        &mut scratch.queue,
+        steps,
+    );
 }
 
 // Labels a tree: its rows stand from `at` on. Returns the place after them.
@@ -72,6 +75,7 @@ fn label_at<N: TreeNode, L: Ledger>(
 ) -> usize
     requires same { grammar.now.rules.now ≡ grammar.now.tables.now.rules }
     requires wide { length grammar.now.tables.now.nonterminals ≤ board.old.nonterminals }
+    requires named { AreRules grammar.now.rules.now (length grammar.now.tables.now.nonterminals) }
     requires are { AreRules grammar.now.rules.now board.old.nonterminals }
     requires scratch { IsScratch board.old.nonterminals scratch.old.base.items scratch.old.row.items scratch.old.queue }
     requires small { area board.old.nonterminals (N.tree tree.now) < 2 ^ 32 - 1 }
@@ -111,6 +115,7 @@ fn label_kids<N: TreeNode, L: Ledger>(
 ) -> usize
     requires same { grammar.now.rules.now ≡ grammar.now.tables.now.rules }
     requires wide { length grammar.now.tables.now.nonterminals ≤ board.old.nonterminals }
+    requires named { AreRules grammar.now.rules.now (length grammar.now.tables.now.nonterminals) }
     requires are { AreRules grammar.now.rules.now board.old.nonterminals }
     requires scratch { IsScratch board.old.nonterminals scratch.old.base.items scratch.old.row.items scratch.old.queue }
     requires small { area board.old.nonterminals (N.tree tree.now) < 2 ^ 32 - 1 }

@@ -1,14 +1,16 @@
-ghost use Rattle.std.specs.Prelude.{◌≡◌, ℕ, ◌+◌, ◌^◌, ◌<◌, ◌≤◌, ℤ, Option, length};
+ghost use Rattle.std.specs.Prelude.{◌≡◌, ℕ, ◌+◌, ◌^◌, ◌<◌, ◌≤◌, ◌-◌, ℤ, Option, length};
 ghost use Rattle.lburg_tables.specs.Leads.{HasRanged};
 ghost use Rattle.lburg_tables.specs.Row.{CellAt, Closed, IsCheap};
 ghost use Rattle.lburg_tables.specs.RowOf.{row_of};
+ghost use Rattle.lburg_tables.specs.Waits.{IsIdle};
 ghost use Rattle.lburg_tables.specs.declared.cell.Cell.{Cell as Cells};
 ghost use Rattle.tree_labeller.specs.Merged.{AllFit, Extended};
 ghost use Rattle.tree_labeller.specs.Trials.{ChainTrials};
-ghost use Rattle.tree_labeller.specs.Tries.{HasCell};
+ghost use Rattle.tree_labeller.specs.Tries.{HasCell, ClosingTries};
 
 use lburg_tables::{BestChain, Cell, Tables, offer};
 use lcc_base::Steps;
+use place_queue::Queue;
 use std::sync::ledger::Ledger;
 
 // Tries the chains from a nonterminal on its cell.
@@ -28,11 +30,9 @@ fn extend<L: Ledger>(row: &mut [Cell], from: Cell, chains: &[BestChain], steps: 
     }
 }
 
-/// Adds to a row, which is a copy of the base row, what the chain rules make of the base cells,
-/// where no chain rule has a range: a chain of several rules ends like the best one between its two
-/// nonterminals. A step is one chain that is tried on a base cell.
-/// Source: Fraser and Hanson, A Retargetable C Compiler, chapter 14.
-pub(crate) fn merge_chains<L: Ledger>(
+// Adds to a row, which is a copy of the base row, what the chain rules make of the base cells, where
+// no chain rule has a range. Each base cell is read before any chain changes it.
+fn merge_chains<L: Ledger>(
     tables: &Tables,
     base: &[Cell],
     row: &mut [Cell],
@@ -52,5 +52,37 @@ pub(crate) fn merge_chains<L: Ledger>(
         if let Some(from) = base[m].seen() {
             extend(row, from, tables.best_chains(m), steps);
         }
+    }
+}
+
+/// Fills the row of a node with this constant from its base row: adds what the chain rules make of
+/// the base cells. Where no chain rule has a range, each best chain is tried on the base cell where
+/// it starts; else the chain rules that apply at the node are tried one by one. A step is one chain
+/// or rule that is tried on a cell.
+/// Source: Fraser and Hanson, A Retargetable C Compiler, chapter 14.
+pub(crate) fn fill_from_base<L: Ledger>(
+    tables: &Tables,
+    constant: Option<i64>,
+    base: &[Cell],
+    row: &mut [Cell],
+    queue: &mut Queue,
+    steps: &mut Steps<L>,
+)
+    requires as_wide { length row.old ≡ length base.now }
+    requires wide { length tables.now.nonterminals ≤ length base.now }
+    requires narrow { length base.now < 2 ^ 32 - 1 }
+    requires idle { IsIdle (length base.now) queue.old }
+    requires named { (n : ℕ) (c : Cells) → CellAt (row_of base.now) n c → n < length tables.now.nonterminals }
+    requires short { (n : ℕ) (c : Cells) → CellAt (row_of base.now) n c → c.count + length base.now < 2 ^ 32 }
+    requires cheap { IsCheap (row_of base.now) }
+    ensures closed { Closed tables.now.rules constant (row_of base.now) (row_of row.new) }
+    ensures idle { IsIdle (length base.now) queue.new }
+    ensures steps { (n : ℕ) × ClosingTries tables.now (row_of base.now) (row_of row.new) n × (steps.new ≡ steps.old + n) }
+{
+    row.copy_from_slice(base);
+    if tables.has_ranged_chains() {
+        tables.close_row(constant, row, queue, steps);
+    } else {
+        merge_chains(tables, base, row, steps);
     }
 }

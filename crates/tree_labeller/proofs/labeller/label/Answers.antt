@@ -7,7 +7,7 @@ use Rattle.lburg_tables.specs.AreRules.{AreRules}
 use Rattle.tree_labeller.specs.ChainRules.{chain_rules}
 use Rattle.lburg_tables.specs.AreRules.{are_rules}
 use Rattle.tree_labeller.proofs.Room.{small_area, narrow_rows}
-use Rattle.tree_labeller.proofs.Counting.{most_trials, step_bound}
+use Rattle.tree_labeller.proofs.Counting.{most_trials, most_at_node}
 use Rattle.tree_labeller.proofs.labeller.label.Goals as goal
 
 pub label_at-requires-clause-are : goal.label_at-requires-clause-are
@@ -33,9 +33,7 @@ label_at-requires-clause-small g c =
 
 pub returns-clause-steps : goal.returns-clause-steps
 returns-clause-steps g c =
-    let d = c.args.t.now in
     let tree = g.N.TreeNode.tree c.args.tree.now in
-    let tried = c.label_at.ensures.trials in
-    let same : c.rules.result.now ≡ d.rules = c.rules.ensures.value ∙ ap (λ (z : MDescription). z.rules) c.description.ensures.value in
-    let Most : List Rule → Type 0 = λ rules. tried.0 ≤ nodes tree * length rules in
-    step_bound c.args.steps.now c.label_at.new.steps tried.0 (nodes tree) (length d.rules) (length d.nonterminals * chain_rules d.rules) (subst Most same (most_trials c.rules.result.now tree tried.0 tried.1)) tried.2
+    let (many, trials, steps) = c.label_at.ensures.trials in
+    let most = most_trials c.args.t.now tree many trials in
+    omega arith

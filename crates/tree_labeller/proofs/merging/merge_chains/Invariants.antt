@@ -7,6 +7,6 @@ use Rattle.tree_labeller.proofs.merging.merge_chains.Given as goal
 
 abbrev pub invariant-loop-m : goal.invariant-loop-m
 invariant-loop-m g l = record {
-  merged : Merged l.tables.now.rules (length l.tables.now.nonterminals) (row_of l.base) l.m (row_of l.row);
-  steps : (n : ℕ) × ChainTrials l.tables.now (HasCell (row_of l.base)) l.m n × (l.steps ≡ l.initial.steps + n);
+  merged : Merged l.tables.rules (length l.tables.nonterminals) (row_of l.base) l.m (row_of l.row);
+  steps : (n : ℕ) × ChainTrials l.tables (HasCell (row_of l.base)) l.m n × (l.steps ≡ l.initial.steps + n);
 }

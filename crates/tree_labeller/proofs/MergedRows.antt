@@ -1,8 +1,9 @@
 -- The merging of a row from base cells and best chains.
-use Rattle.std.proofs.Common.{◌≡◌, ◌≢◌, ℕ, zero, suc, ◌+◌, ◌*◌, ◌<◌, ◌≤◌, ◌⊎◌, inl, inr, ⊎_elim, Option, Some, None, List, length, length-set, get_or, refl, sym, ap, ◌∙◌, subst, arith}
+use Rattle.std.proofs.Common.{◌≡◌, ◌≢◌, ℕ, zero, suc, ◌+◌, ◌*◌, ◌^◌, ◌<◌, ◌≤◌, ◌⊎◌, inl, inr, ⊎_elim, Option, Some, None, List, length, length-set, get_or, refl, sym, ap, ◌∙◌, subst, arith}
 use Rattle.std.specs.Prelude.{slice_get, slice_set, ℤ}
+use Rattle.std.proofs.lemmas.List.{length-map}
 use Rattle.std.proofs.lemmas.Option.{slice_get_within}
-use Rattle.lburg_model.specs.Description.{MDescription}
+use Rattle.lburg_model.specs.Description.{MDescription, IsDescription}
 use Rattle.lburg_model.specs.Range.{IsMet}
 use Rattle.lburg_model.specs.declared.range.Range.{Range}
 use Rattle.lburg_model.specs.declared.rule.Rule.{Rule}
@@ -11,8 +12,9 @@ use Rattle.lburg_tables.specs.declared.cell.Cell.{Cell}
 use Rattle.lburg_tables.specs.BestChains.{AreBest}
 use Rattle.lburg_tables.specs.Leads.{IsFree, Leads, Empty, Then, HasRanged}
 use Rattle.lburg_tables.specs.Row.{CellAt, Leq, Leq3, Offered, Placed, Declined, IsChain, made_from, Same, FromChain, AreCheap, IsCheap, Closed}
+use Rattle.lburg_tables.specs.RowOf.{seen, row_of}
 use Rattle.lburg_tables.specs.RowLaws.{within, Leq_cells, leq_trans, leq_refl, same_or_not, stored, cell_after, write_lowers}
-use Rattle.tree_labeller.specs.Merged.{after_chain, Extended, FromBase, Merged}
+use Rattle.tree_labeller.specs.Merged.{after_chain, AllFit, Extended, FromBase, Merged}
 
 -- ---- the chains from one nonterminal
 
@@ -137,15 +139,32 @@ merged_more d base row row' k from chains here best s ex = record {
       (same_or_not m k);
 }
 
--- ---- the whole is closed
+-- ---- what chains make fits
+
+-- a chain that leads to another nonterminal ends with a rule
+last_of : (d : MDescription) (m n cost count number : ℕ) → IsDescription d → n ≢ m → Leads d.rules m n cost count number → (n < length d.nonterminals) × (1 ≤ number)
+last_of d m n cost count number is ne (Empty e) = absurd (ne e)
+last_of d m n cost count number is ne (Then i r before free left) = let a = (is.rules i r free.0).left in (omega arith, omega arith)
 
 -- a chain costs at most 2 ^ 15 for each of its rules
-pub leads_cheap : (rules : List Rule) (m n cost count number : ℕ) → AreCheap rules → Leads rules m n cost count number → cost ≤ 32768 * count
+leads_cheap : (rules : List Rule) (m n cost count number : ℕ) → AreCheap rules → Leads rules m n cost count number → cost ≤ 32768 * count
 leads_cheap rules m n cost count number cheap (Empty e) = omega arith
 leads_cheap rules m n cost count number cheap (Then {p = p} {cost = k} {count = q} {number = z} i r before free left) =
     let a = leads_cheap rules m p k q z cheap before in
     let b = cheap i r free.0 in
     omega arith
+
+pub fits_after : (d : MDescription) (m width : ℕ) (from : Cell) (chains : List BestChain) → IsDescription d → AreBest d m chains → length d.nonterminals ≤ width → from.count + width < 2 ^ 32 → from.cost ≤ 32768 * from.count → AllFit width from chains
+fits_after d m width from chains is best wide few cheap i x at =
+    let a = best.leads i x at in
+    let last = last_of d m x.to x.cost x.count x.rule is a.0 a.1 in
+    let last0 = last.0 in
+    let short = best.short i x at in
+    let most = is.nonterminals in
+    let cost = leads_cheap d.rules m x.to x.cost x.count x.rule (λ j r e. let c = (is.rules j r e).cost in omega arith) a.1 in
+    record { to = omega arith; rule = last.1; cost = omega arith; count = omega arith }
+
+-- ---- the whole is closed
 
 met_by : (o : Option Range) (constant : Option ℤ) → o ≡ None → IsMet o constant
 met_by None constant e = tt
@@ -181,7 +200,7 @@ module _ (rules : List Rule) (constant : Option ℤ) (few : ℕ) (base row : Lis
       (same_or_not n f)
 
   without : (i m : ℕ) (r : Rule) → IsChain rules constant i m r → IsFree rules i m r
-  without i m r ch = (ch.0.0, ch.1, no_range r.range (λ range e. free (i, r, ch.0.0, m, range, ch.1, e)))
+  without i m r ch = (ch.0.0, ch.1, no_range r.range (λ range e. free (i, r, ch.0.0, (m, range, ch.1, e))))
 
   no_smaller : (j : ℕ) (r : Rule) (m : ℕ) (b : Cell) → IsChain rules constant j m r → CellAt row m b → (c : Cell) × CellAt row r.left c × Leq_cells c (made_from b j r)
   no_smaller j r m b ch at =
@@ -236,3 +255,6 @@ module _ (rules : List Rule) (constant : Option ℤ) (few : ℕ) (base row : Lis
         (λ f. let a = h f.from f.cell f.at in let b = leads_cheap rules f.from n f.cost f.count c.rule rc f.leads in let t = f.total in let u = f.sum in omega arith)
         (s.made n c at);
   }
+
+pub row_long : (cells : List Cell) → length (row_of cells) ≡ length cells
+row_long cells = length-map cells seen
