@@ -7,7 +7,7 @@ use Rattle.lburg_tables.specs.AreRules.{AreRules}
 use Rattle.tree_labeller.specs.ChainRules.{chain_rules}
 use Rattle.lburg_tables.specs.AreRules.{are_rules}
 use Rattle.tree_labeller.proofs.Room.{small_area, narrow_rows}
-use Rattle.tree_labeller.proofs.Counting.{most_trials, most_at_node}
+use Rattle.tree_labeller.proofs.Counting.{most_trials}
 use Rattle.tree_labeller.proofs.labeller.label.Goals as goal
 
 pub label_at-requires-clause-are : goal.label_at-requires-clause-are
@@ -23,6 +23,14 @@ label_at-requires-clause-are g c =
     let F : List Rule → Type 0 = λ rs. AreRules rs board.nonterminals in
     subst F (sym c.rules.ensures.value)
     (are_rules d board.nonterminals c.rules.ensures.is (omega arith) (narrow_rows board.nonterminals (length board.rows) tree c.cells.invariant.small (omega arith)))
+
+pub label_at-requires-clause-named : goal.label_at-requires-clause-named
+label_at-requires-clause-named g c =
+    let d = c.args.t.now in
+    let same = c.rules.ensures.value ∙ ap (λ (z : MDescription). z.rules) c.description.ensures.value in
+    let most = c.description.ensures.is.nonterminals in
+    let F : List Rule → Type 0 = λ rs. AreRules rs (length d.nonterminals) in
+    subst F (sym same) (are_rules d (length d.nonterminals) c.description.ensures.is (omega arith) (omega arith))
 
 pub label_at-requires-clause-small : goal.label_at-requires-clause-small
 label_at-requires-clause-small g c =
