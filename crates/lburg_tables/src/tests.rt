@@ -23,3 +23,43 @@ fn texts(rt: HostRuntime) -> Result<(), Fail> {
     }
     Ok(())
 }
+
+// The best chains from the nonterminal of a place, none where there is no such nonterminal: where
+// each leads to, its cost, its count and its last rule.
+fn chains(rt: &HostRuntime, tables: &Tables, from: usize) -> Result<Vec<(u16, u64, u32, u16)>, Fail> {
+    let mut chains = Vec::new(rt.alloc());
+    if from < tables.description().nonterminals().len() {
+        for chain in tables.best_chains(from) {
+            chains.push((chain.to, chain.cost, chain.count, chain.rule))?;
+        }
+    }
+    Ok(chains)
+}
+
+// A cycle, a tie by cost that the count decides, and one that the rule's number decides.
+#[test]
+fn chains_between_nonterminals(rt: HostRuntime) -> Result<(), Fail> {
+    let text = b"%term A=1\n%%\ns: A \"\" 3\nt: s \"\" 2\nu: t \"\" 1\nu: s \"\" 3\nt: u \"\"\nt: s \"\" 2\n";
+    let d = read(rt.alloc(), text).ok().ok_or("a description")?;
+    let tables = build(rt.alloc(), &d).ok().ok_or("tables")?;
+    assert_eq!(rt; tables.has_ranged_chains(), false);
+    let from_s = chains(&rt, &tables, 0)?;
+    assert_eq!(rt; from_s.as_slice(), [(1, 2, 1, 2), (2, 3, 1, 4)].as_slice());
+    let from_t = chains(&rt, &tables, 1)?;
+    assert_eq!(rt; from_t.as_slice(), [(2, 1, 1, 3)].as_slice());
+    let from_u = chains(&rt, &tables, 2)?;
+    assert_eq!(rt; from_u.as_slice(), [(1, 0, 1, 5)].as_slice());
+    Ok(())
+}
+
+// A chain rule with a range is in no chain.
+#[test]
+fn ranges_of_chain_rules(rt: HostRuntime) -> Result<(), Fail> {
+    let text = b"%term A=1\n%%\ns: A \"\"\nt: s \"\" range(a,0,9)\nu: t \"\" 1\n";
+    let d = read(rt.alloc(), text).ok().ok_or("a description")?;
+    let tables = build(rt.alloc(), &d).ok().ok_or("tables")?;
+    assert_eq!(rt; tables.has_ranged_chains(), true);
+    let from_s = chains(&rt, &tables, 0)?;
+    assert_eq!(rt; from_s.len(), 0);
+    Ok(())
+}
