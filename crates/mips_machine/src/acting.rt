@@ -147,6 +147,7 @@ impl Processor {
     }
 
     /// Does what the instruction at this address says, as it is written.
+    #[inline(never)]
     fn act_written(&mut self, order: Order, instruction: &Instruction<u32>) -> Step
         requires { self.old.pc < data_start }
         ensures { Did (act order self.old instruction.now) self.old self.new result }
