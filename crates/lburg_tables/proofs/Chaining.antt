@@ -1,9 +1,9 @@
 -- The best chains from a nonterminal, from the row that tells them.
 use Rattle.std.proofs.Common.{◌≡◌, ◌≢◌, ℕ, zero, suc, ◌+◌, ◌<◌, ◌≤◌, ◌⊎◌, inl, inr, ⊎_elim, Option, Some, None, List, [], ◌∷◌, ◌++◌, length, length-append, get_or, refl, sym, ap, ◌∙◌, subst, arith}
-use Rattle.std.specs.Prelude.{slice_get, slice_set, slice_index_or, ◌==◌, if◌then◌else◌, Bool, true, false, IsTrue, ℤ}
+use Rattle.std.specs.Prelude.{slice_get, slice_set, ◌==◌, if◌then◌else◌, Bool, true, false}
 use Rattle.std.proofs.lemmas.Bool.Decides.{eqb_tells}
 use Rattle.std.proofs.lemmas.List.{get_or_push, get_or_append_left}
-use Rattle.std.proofs.lemmas.Option.{slice_get_within, none-some}
+use Rattle.std.proofs.lemmas.Option.{none-some}
 use Rattle.lburg_model.specs.Description.{MDescription}
 use Rattle.lburg_model.specs.Range.{IsMet}
 use Rattle.lburg_model.specs.declared.range.Range.{Range}
@@ -14,8 +14,8 @@ use Rattle.lburg_tables.specs.Counted.{Counted, NoNumber, One, Other}
 use Rattle.lburg_tables.specs.Leads.{IsFree, Leads, Empty, Then, IsReached}
 use Rattle.lburg_tables.specs.BestChains.{AreBest}
 use Rattle.lburg_tables.specs.Listed.{IsOrigin, Listed, chain_at, chain_with}
-use Rattle.lburg_tables.specs.Row.{CellAt, Leq, Leq3, IsChain, made_from, Same, FromChain, Closed}
-use Rattle.lburg_tables.specs.RowOf.{seen, row_of}
+use Rattle.lburg_tables.specs.Row.{CellAt, Leq, Leq3, IsChain, Same, FromChain, Closed}
+use Rattle.lburg_tables.specs.RowOf.{row_of}
 use Rattle.lburg_tables.specs.RowLaws.{same_or_not, within, seen_set, row_within, stored, cell_after}
 
 -- ---- the list of a row's chains

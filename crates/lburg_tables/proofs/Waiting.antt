@@ -1,11 +1,7 @@
 -- What waits of a row of cells.
-use Rattle.std.proofs.Common.{◌≡◌, ◌≢◌, ℕ, zero, suc, ◌+◌, ◌<◌, ◌≤◌, ◌⊎◌, inl, inr, ⊎_elim, Option, Some, None, List, [], ◌∷◌, length, refl, sym, ap, ◌∙◌, subst, arith, length-set, get_or, Bool}
-use Rattle.std.specs.Prelude.{slice_get, slice_set, ℤ, if◌then◌else◌}
-use Rattle.std.proofs.lemmas.Bool.{cases_lt}
-use Rattle.std.proofs.lemmas.Option.{slice_get_within}
-use Rattle.std.proofs.lemmas.Bool.Decides.{eqb_tells}
-use Rattle.std.proofs.lemmas.List.{get_or-set_same, get_or-set_other, map-set, length-map, ext_get_or}
-use Rattle.std.proofs.lemmas.List.{get_or-map as get_or-map_within}
+use Rattle.std.proofs.Common.{◌≡◌, ℕ, zero, suc, ◌+◌, ◌<◌, ◌≤◌, inl, inr, ⊎_elim, Option, Some, None, List, [], ◌∷◌, length, refl, sym, ap, ◌∙◌, subst, arith, length-set, get_or}
+use Rattle.std.specs.Prelude.{slice_get, slice_set, ℤ}
+use Rattle.std.proofs.lemmas.List.{get_or-set_same, get_or-set_other, length-map, ext_get_or}
 use Rattle.std.proofs.Math.ListN.{get_or-map}
 use Rattle.lburg_model.specs.Range.{IsMet}
 use Rattle.place_queue.specs.declared.key.Key.{Key}
@@ -15,7 +11,7 @@ use Rattle.lburg_model.specs.declared.rule.Rule.{Rule}
 use Rattle.lburg_tables.specs.RowOf.{seen, row_of, key_of, waiting_of}
 use Rattle.lburg_tables.specs.Waits.{Matches}
 use Rattle.lburg_tables.specs.Waits.{IsIdle}
-use Rattle.lburg_tables.specs.Row.{CellAt, Relaxed, Taken, Left, Leq3, IsChain, made_from, Beats, Spread, Among, Everywhere}
+use Rattle.lburg_tables.specs.Row.{CellAt, Relaxed, Taken, Left, IsChain, made_from, Beats, Spread, Among, Everywhere}
 use Rattle.lburg_tables.specs.RowLaws.{within, Leq_cells, leq_trans, leq_refl, leq_flip, same_or_not, stored, cell_after, write_lowers, among_more, among_all, seen_at, seen_is}
 
 pub key_at : (row : List (Option Cell)) (n : ℕ) → get_or (waiting_of row) n None ≡ key_of (get_or row n None)

@@ -1,6 +1,6 @@
 -- Chains: chain rules without a range, one applied after another.
 -- Source: Fraser and Hanson, A Retargetable C Compiler, chapter 14 (closures).
-use Rattle.std.specs.Prelude.{◌≡◌, ◌≢◌, ℕ, ◌+◌, Option, Some, None, List, slice_get}
+use Rattle.std.specs.Prelude.{◌≡◌, ◌≢◌, ℕ, ◌+◌, Some, None, List, slice_get}
 use Rattle.lburg_model.specs.declared.pattern.Pattern.{Nonterminal}
 use Rattle.lburg_model.specs.declared.range.Range.{Range}
 use Rattle.lburg_model.specs.declared.rule.Rule.{Rule}

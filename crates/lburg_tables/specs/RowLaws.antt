@@ -1,21 +1,14 @@
 -- What follows of rows of cells: writes, the order of cells, and what is seen of a row.
-use Rattle.std.proofs.Common.{◌≡◌, ◌≢◌, ℕ, zero, suc, ◌+◌, ◌<◌, ◌⊎◌, inl, inr, ⊎_elim, Option, Some, None, List, [], ◌∷◌, length, refl, sym, ap, ◌∙◌, subst, arith, length-set, get_or, Bool}
-use Rattle.std.specs.Prelude.{slice_get, slice_set, ℤ, if◌then◌else◌}
+use Rattle.std.proofs.Common.{◌≡◌, ◌≢◌, ℕ, zero, suc, ◌+◌, ◌<◌, ◌⊎◌, inl, inr, ⊎_elim, Option, Some, None, List, [], ◌∷◌, length, sym, ap, ◌∙◌, subst, arith, get_or, Bool}
+use Rattle.std.specs.Prelude.{slice_get, slice_set, if◌then◌else◌}
 use Rattle.std.proofs.lemmas.Bool.{cases_lt}
 use Rattle.std.proofs.lemmas.Option.{slice_get_within}
 use Rattle.std.proofs.lemmas.Bool.Decides.{eqb_tells}
-use Rattle.std.proofs.lemmas.List.{get_or-set_same, get_or-set_other, map-set, length-map, ext_get_or}
+use Rattle.std.proofs.lemmas.List.{get_or-set_same, get_or-set_other, map-set, length-map}
 use Rattle.std.proofs.lemmas.List.{get_or-map as get_or-map_within}
-use Rattle.std.proofs.Math.ListN.{get_or-map}
-use Rattle.lburg_model.specs.Range.{IsMet}
-use Rattle.place_queue.specs.declared.key.Key.{Key}
-use Rattle.place_queue.specs.Leq.{Leq}
 use Rattle.lburg_tables.specs.declared.cell.Cell.{Cell}
-use Rattle.lburg_model.specs.declared.rule.Rule.{Rule}
-use Rattle.lburg_tables.specs.RowOf.{seen, row_of, key_of, waiting_of}
-use Rattle.lburg_tables.specs.Waits.{Matches}
-use Rattle.lburg_tables.specs.Waits.{IsIdle}
-use Rattle.lburg_tables.specs.Row.{CellAt, Relaxed, Taken, Left, Leq3, IsChain, made_from, Beats, Spread, Among, Everywhere}
+use Rattle.lburg_tables.specs.RowOf.{seen, row_of}
+use Rattle.lburg_tables.specs.Row.{CellAt, Leq3, Beats, Among}
 
 -- what stands at a place of a list
 pub within : {A : Type 0} (xs : List (Option A)) (n : ℕ) (x : A) → get_or xs n None ≡ Some x → n < length xs
@@ -130,4 +123,3 @@ cleared_more row n c h e below m b lt at =
     cc)
     (λ not_here. below m b (omega arith) (sym (get_or-set_other (row_of row) n m None None not_here) ∙ at2))
     (same_or_not m n)
-

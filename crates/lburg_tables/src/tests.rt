@@ -26,7 +26,11 @@ fn texts(rt: HostRuntime) -> Result<(), Fail> {
 
 // The best chains from the nonterminal of a place, none where there is no such nonterminal: where
 // each leads to, its cost, its count and its last rule.
-fn chains(rt: &HostRuntime, tables: &Tables, from: usize) -> Result<Vec<(u16, u64, u32, u16)>, Fail> {
+fn chains(
+    rt: &HostRuntime,
+    tables: &Tables,
+    from: usize,
+) -> Result<Vec<(u16, u64, u32, u16)>, Fail> {
     let mut chains = Vec::new(rt.alloc());
     if from < tables.description().nonterminals().len() {
         for chain in tables.best_chains(from) {
@@ -39,7 +43,8 @@ fn chains(rt: &HostRuntime, tables: &Tables, from: usize) -> Result<Vec<(u16, u6
 // A cycle, a tie by cost that the count decides, and one that the rule's number decides.
 #[test]
 fn chains_between_nonterminals(rt: HostRuntime) -> Result<(), Fail> {
-    let text = b"%term A=1\n%%\ns: A \"\" 3\nt: s \"\" 2\nu: t \"\" 1\nu: s \"\" 3\nt: u \"\"\nt: s \"\" 2\n";
+    let text =
+        b"%term A=1\n%%\ns: A \"\" 3\nt: s \"\" 2\nu: t \"\" 1\nu: s \"\" 3\nt: u \"\"\nt: s \"\" 2\n";
     let d = read(rt.alloc(), text).ok().ok_or("a description")?;
     let tables = build(rt.alloc(), &d).ok().ok_or("tables")?;
     assert_eq!(rt; tables.has_ranged_chains(), false);

@@ -1,7 +1,6 @@
-use Rattle.std.proofs.Common.{◌≡◌, ◌+◌, ◌<◌, ◌≤◌, ◌++◌, ◌∷◌, [], ℕ, None, Option, List, length, sym, ap, ◌∙◌, subst, arith}
-use Rattle.std.specs.Prelude.{slice_index_or, ℤ}
+use Rattle.std.proofs.Common.{◌≡◌, ◌+◌, ◌<◌, ◌++◌, ◌∷◌, [], ℕ, None, List, length, sym, ap, ◌∙◌, subst, arith}
+use Rattle.std.specs.Prelude.{slice_index_or}
 use Rattle.std.proofs.lemmas.List.{length-map, with_items_is}
-use Rattle.lburg_model.specs.Description.{MDescription}
 use Rattle.lburg_model.specs.declared.rule.Rule.{Rule}
 use Rattle.lburg_tables.specs.declared.best_chain.BestChain.{BestChain}
 use Rattle.lburg_tables.specs.declared.cell.Cell.{Cell}

@@ -1,6 +1,5 @@
-use Rattle.std.proofs.Common.{◌<◌, length, length-set, refl, sym, ap, ◌∙◌, arith}
+use Rattle.std.proofs.Common.{◌<◌, length, length-set, refl, arith}
 use Rattle.std.specs.Prelude.{slice_set}
-use Rattle.lburg_tables.specs.Listed.{IsOrigin}
 use Rattle.lburg_tables.specs.RowOf.{row_of}
 use Rattle.lburg_tables.proofs.Chaining.{is_origin}
 use Rattle.lburg_tables.proofs.chains.close_from.Goals as goal

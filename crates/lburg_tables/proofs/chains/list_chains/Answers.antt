@@ -1,6 +1,6 @@
-use Rattle.std.proofs.Common.{◌+◌, List, Option, Some, None, sym, ap, ◌∙◌, subst, ◌≡◌}
+use Rattle.std.proofs.Common.{◌+◌, List, sym, ◌∙◌, subst}
 use Rattle.lburg_tables.specs.declared.best_chain.BestChain.{BestChain}
-use Rattle.lburg_tables.specs.Listed.{Listed, chain_at}
+use Rattle.lburg_tables.specs.Listed.{Listed}
 use Rattle.lburg_tables.specs.RowOf.{row_of}
 use Rattle.lburg_tables.proofs.Chaining.{listed_none, listed_push, listed_skip}
 use Rattle.lburg_tables.proofs.chains.list_chains.Goals.{in-Some+in_ok-push, in_default}
