@@ -12,7 +12,7 @@ use Rattle.lburg_model.specs.Derivation.{MDerivation, MParts, Apply, Derives}
 use Rattle.lburg_model.specs.Description.{MDescription, RuleAt}
 use Rattle.lburg_tables.specs.Counted.{Counted, NoNumber, One, Other}
 use Rattle.lburg_tables.specs.declared.cell.Cell.{Cell}
-use Rattle.lburg_tables.specs.Leads.{Leads, Empty, Then, IsReached, HasRanged}
+use Rattle.lburg_tables.specs.Leads.{Leads, Empty, Then, IsReached}
 use Rattle.lburg_tables.specs.ChainTries.{cell_weight, chain_tries_of, chain_tries}
 use Rattle.lburg_tables.specs.Root.{Root, Operator, root_of, same_root}
 use Rattle.lburg_tables.specs.Places.{with_root, HasRoot}

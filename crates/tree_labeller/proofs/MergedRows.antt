@@ -1,5 +1,5 @@
 -- The merging of a row from base cells and best chains.
-use Rattle.std.proofs.Common.{◌≡◌, ◌≢◌, ℕ, zero, suc, ◌+◌, ◌*◌, ◌^◌, ◌<◌, ◌≤◌, ◌⊎◌, inl, inr, ⊎_elim, Option, Some, None, List, length, length-set, get_or, refl, sym, ap, ◌∙◌, subst, arith}
+use Rattle.std.proofs.Common.{◌≡◌, ◌≢◌, ℕ, ◌+◌, ◌*◌, ◌^◌, ◌<◌, ◌≤◌, inl, inr, ⊎_elim, Option, Some, None, List, length, length-set, get_or, refl, sym, ap, ◌∙◌, subst, arith}
 use Rattle.std.specs.Prelude.{slice_get, slice_set, ℤ}
 use Rattle.std.proofs.lemmas.List.{length-map}
 use Rattle.std.proofs.lemmas.Option.{slice_get_within}
@@ -11,10 +11,10 @@ use Rattle.lburg_tables.specs.declared.best_chain.BestChain.{BestChain}
 use Rattle.lburg_tables.specs.declared.cell.Cell.{Cell}
 use Rattle.lburg_tables.specs.BestChains.{AreBest}
 use Rattle.lburg_tables.specs.Leads.{IsFree, Leads, Empty, Then, HasRanged}
-use Rattle.lburg_tables.specs.Row.{CellAt, Leq, Leq3, Offered, Placed, Declined, IsChain, made_from, Same, FromChain, AreCheap, IsCheap, Closed}
+use Rattle.lburg_tables.specs.Row.{CellAt, Leq, Leq3, Offered, Placed, Declined, IsChain, made_from, FromChain, AreCheap, Closed}
 use Rattle.lburg_tables.specs.RowOf.{seen, row_of}
 use Rattle.lburg_tables.specs.RowLaws.{within, Leq_cells, leq_trans, leq_refl, same_or_not, stored, cell_after, write_lowers}
-use Rattle.tree_labeller.specs.Merged.{after_chain, AllFit, Extended, FromBase, Merged}
+use Rattle.tree_labeller.specs.Merged.{after_chain, AllFit, Extended, Merged}
 
 -- ---- the chains from one nonterminal
 

@@ -1,9 +1,7 @@
 -- What room for a tree gives.
-use Rattle.std.proofs.Common.{◌≡◌, ℕ, ◌+◌, ◌-◌, ◌*◌, ◌<◌, ◌≤◌, ◌^◌, length, arith}
+use Rattle.std.proofs.Common.{◌≡◌, ℕ, ◌+◌, ◌-◌, ◌*◌, ◌<◌, ◌≤◌, ◌^◌, arith}
 use Rattle.lburg_model.specs.Tree.{MTree, TLeaf, TOne, TTwo, nodes}
-use Rattle.lburg_model.specs.Description.{MDescription, IsDescription}
 use Rattle.tree_labeller.specs.Labelled.{area}
-use Rattle.lburg_tables.specs.AreRules.{AreRules}
 use Rattle.tree_labeller.specs.Totals.{nodes_pos}
 
 area_is : (w : ℕ) (t : MTree) → area w t ≡ w * nodes t

@@ -1,13 +1,8 @@
 -- What a pattern's root tells.
-use Rattle.std.proofs.Common.{◌≡◌, ℕ, ◌<◌, Some, List, length, get_or, sym, ap, ◌∙◌}
-use Rattle.std.specs.Prelude.{slice_get, slice_index_or}
-use Rattle.std.proofs.lemmas.Option.{slice_get_within, slice_get-get_or}
-use Rattle.lburg_model.specs.declared.rule.Rule.{Rule}
-use Rattle.lburg_model.specs.declared.pattern.Pattern.{Pattern, Nonterminal, Leaf, Unary', Binary'}
+use Rattle.std.proofs.Common.{◌≡◌, ℕ, Some, List, ap}
 use Rattle.lburg_model.specs.Tree.{MTree, TLeaf, TOne, TTwo, op_of}
-use Rattle.lburg_model.specs.Pattern.{MPattern, PHole, PLeaf, POne, PTwo, pattern_of}
-use Rattle.lburg_tables.specs.Root.{Root, Chain, Operator, root_of, places_with}
-use Rattle.lburg_tables.specs.Places.{only}
+use Rattle.lburg_model.specs.Pattern.{MPattern, PHole, PLeaf, POne, PTwo}
+use Rattle.lburg_tables.specs.Root.{Operator, root_of}
 use Rattle.place_queue.specs.declared.key.Key.{Key}
 use Rattle.tree_labeller.specs.Rows.{Row}
 use Rattle.tree_labeller.specs.Labelled.{base_total}

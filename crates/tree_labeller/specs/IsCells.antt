@@ -1,5 +1,5 @@
 -- What the rows of cells keep, and what the filling of a row works on.
-use Rattle.std.specs.Prelude.{◌≡◌, ℕ, ◌*◌, ◌-◌, ◌<◌, ◌^◌, Option, None, List, length, slice_index_or}
+use Rattle.std.specs.Prelude.{◌≡◌, ℕ, ◌*◌, ◌-◌, ◌<◌, ◌^◌, Option, List, length}
 use Rattle.place_queue.specs.declared.key.Key.{Key}
 use Rattle.lburg_tables.specs.declared.cell.Cell.{Cell}
 use Rattle.lburg_tables.specs.Waits.{IsIdle}

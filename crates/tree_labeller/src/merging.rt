@@ -32,12 +32,7 @@ fn extend<L: Ledger>(row: &mut [Cell], from: Cell, chains: &[BestChain], steps: 
 
 // Adds to a row, which is a copy of the base row, what the chain rules make of the base cells, where
 // no chain rule has a range. Each base cell is read before any chain changes it.
-fn merge_chains<L: Ledger>(
-    tables: &Tables,
-    base: &[Cell],
-    row: &mut [Cell],
-    steps: &mut Steps<L>,
-)
+fn merge_chains<L: Ledger>(tables: &Tables, base: &[Cell], row: &mut [Cell], steps: &mut Steps<L>)
     requires free { HasRanged tables.now.rules → ⊥ }
     requires copied { row.old ≡ base.now }
     requires wide { length tables.now.nonterminals ≤ length base.now }

@@ -1,10 +1,8 @@
-use Rattle.std.proofs.Common.{◌≡◌, ◌*◌, ◌≤◌, List, length, sym, ap, ◌∙◌, subst, arith}
+use Rattle.std.proofs.Common.{List, length, sym, ap, ◌∙◌, subst, arith}
 use Rattle.lburg_model.specs.declared.rule.Rule.{Rule}
 use Rattle.lburg_model.specs.Description.{MDescription}
-use Rattle.lburg_model.specs.Tree.{nodes}
 use Rattle.tree_labeller.specs.MCells.{MCells}
 use Rattle.lburg_tables.specs.AreRules.{AreRules}
-use Rattle.tree_labeller.specs.ChainRules.{chain_rules}
 use Rattle.lburg_tables.specs.AreRules.{are_rules}
 use Rattle.tree_labeller.proofs.Room.{small_area, narrow_rows}
 use Rattle.tree_labeller.proofs.Counting.{most_trials}

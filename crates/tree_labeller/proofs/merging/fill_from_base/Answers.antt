@@ -1,6 +1,5 @@
-use Rattle.std.proofs.Common.{◌≡◌, IsTrue, false, refl, arith}
+use Rattle.std.proofs.Common.{IsTrue, false, refl}
 use Rattle.lburg_tables.specs.ChainTries.{chain_tries}
-use Rattle.lburg_tables.specs.Leads.{HasRanged}
 use Rattle.lburg_tables.specs.RowOf.{row_of}
 use Rattle.tree_labeller.specs.Tries.{TriedRules, TriedChains}
 use Rattle.tree_labeller.proofs.merging.fill_from_base.Goals as goal

@@ -1,13 +1,11 @@
-use Rattle.std.proofs.Common.{◌≡◌, ◌+◌, ◌<◌, ℕ, Option, List, length, get_or, None, refl, sym, ap, ◌∙◌, subst, arith}
-use Rattle.std.specs.Prelude.{ℤ}
+use Rattle.std.proofs.Common.{◌≡◌, ◌+◌, ◌<◌, ℕ, List, length, get_or, None, sym, ap, ◌∙◌, subst, arith}
 use Rattle.lburg_model.specs.Description.{MDescription}
 use Rattle.lburg_tables.specs.declared.cell.Cell.{Cell}
 use Rattle.lburg_tables.specs.Row.{CellAt}
 use Rattle.lburg_tables.specs.RowOf.{row_of}
 use Rattle.lburg_tables.specs.RowLaws.{seen_at}
 use Rattle.tree_labeller.specs.Merged.{Merged}
-use Rattle.tree_labeller.specs.Trials.{ChainTrials, NoStart, Start, Pass}
-use Rattle.tree_labeller.specs.Tries.{HasCell}
+use Rattle.tree_labeller.specs.Trials.{NoStart, Start, Pass}
 use Rattle.tree_labeller.proofs.MergedRows.{merged_none, merged_skip, merged_more, merged_closed, fits_after, row_long}
 use Rattle.tree_labeller.proofs.merging.merge_chains.Goals.{in-Some, in_default}
 use Rattle.tree_labeller.proofs.merging.merge_chains.Goals as goal
