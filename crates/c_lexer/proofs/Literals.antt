@@ -1,16 +1,15 @@
 -- What the tokens of string literals denote.
-use Rattle.std.proofs.Common.{◌≡◌, ◌≤◌, ◌<◌, ◌+◌, ℕ, zero, suc, Bool, true, false, if◌then◌else◌, Option, Some, None, Result, Ok, Err, List, [], ◌∷◌, ◌++◌, length, drop, refl, sym, ap, ◌∙◌, subst, arith, append_assoc}
-use Rattle.std.specs.Prelude.{nat_le, ◌==◌, ◌||◌, take}
+use Rattle.std.proofs.Common.{◌≡◌, ◌≤◌, ◌<◌, ◌+◌, ℕ, zero, suc, Bool, true, false, if◌then◌else◌, Option, Some, None, Ok, List, [], ◌∷◌, ◌++◌, length, drop, refl, sym, ap, ◌∙◌, subst, arith, append_assoc}
+use Rattle.std.specs.Prelude.{nat_le, ◌==◌}
 use Rattle.std.proofs.lemmas.Grind.{common_steps}
 use Rattle.c_lexer.specs.declared.class.LexClass.TheVariants.{Octal, Hex}
-use Rattle.c_lexer.specs.declared.lex_fault.LexFaultKind.{LexFaultKind}
 use Rattle.c_lexer.specs.declared.quoted.Quoted.{Quoted}
 use Rattle.c_lexer.specs.declared.quoted.Quoted.TheVariants.{Close, Character, Fault}
 use Rattle.c_lexer.specs.Classes.{in_lex}
 use Rattle.c_lexer.specs.Runs.{run}
 use Rattle.c_lexer.specs.Numbers.{value_behind}
 use Rattle.c_lexer.specs.Chains.{Chain}
-use Rattle.c_lexer.specs.Quoted.{simple_escape, simple_or_fault, numeric, hexadecimal, octal, escape, quoted, behind_quoted, next_character}
+use Rattle.c_lexer.specs.Quoted.{simple_escape, simple_or_fault, numeric, hexadecimal, escape, quoted, next_character}
 use Rattle.c_lexer.specs.Characters.{Characters, Values}
 use Rattle.c_lexer.specs.Texts.{len_of, value_before, values_from}
 use Rattle.c_lexer.proofs.Values.{is_character, have_values}

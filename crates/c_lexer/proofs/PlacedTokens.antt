@@ -1,5 +1,5 @@
 -- A source's tokens are these lexemes.
-use Rattle.std.proofs.Common.{◌≡◌, ◌≤◌, ◌+◌, ◌-◌, ℕ, zero, suc, Bool, true, false, if◌then◌else◌, Option, Some, None, Result, Ok, Err, List, [], ◌∷◌, length, drop, refl, sym, ap, ◌∙◌, subst, arith}
+use Rattle.std.proofs.Common.{◌≡◌, ◌≤◌, ◌+◌, ◌-◌, ℕ, Bool, true, false, if◌then◌else◌, Option, Some, None, Result, Ok, Err, List, [], ◌∷◌, length, drop, refl, sym, ap, ◌∙◌, subst, arith}
 use Rattle.std.specs.Prelude.{nat_le, ◌==◌}
 use Rattle.std.proofs.lemmas.Grind.{common_steps}
 use Rattle.lcc_text.specs.declared.class.Class.TheVariants.{Digit, Name as NameBytes}
@@ -24,11 +24,11 @@ use Rattle.c_lexer.specs.Integers.{greatest, kinds, first_holding, integer_class
 use Rattle.c_lexer.specs.Numbers.{number_in}
 use Rattle.c_lexer.specs.Constants.{is_floating, class_or_fault, constant_of}
 use Rattle.c_lexer.specs.Quoted.{quoted}
-use Rattle.c_lexer.specs.Characters.{Characters, Values}
+use Rattle.c_lexer.specs.Characters.{Characters}
 use Rattle.c_lexer.specs.LongestSigns.{longest_sign}
 use Rattle.c_lexer.specs.Starts.{start_of}
 use Rattle.c_lexer.specs.Readings.{Reading, class_of_word, of_length, one_character, character_of, text_of, sign_or_fault, ReadsFrom, Reads}
-use Rattle.c_lexer.specs.Tokens.{answer_at, Cuts, AreTokens}
+use Rattle.c_lexer.specs.Tokens.{answer_at, AreTokens}
 use Rattle.c_lexer.specs.Texts
 use Rattle.c_lexer.specs.Texts.{TextBytes}
 use Rattle.c_lexer.specs.SourceUnits.{IsLexeme, AreLexemes}

@@ -1,4 +1,4 @@
-use Rattle.std.proofs.Common.{◌+◌, ◌++◌, length, refl, sym, ap, ◌∙◌, arith}
+use Rattle.std.proofs.Common.{◌+◌, ◌++◌, length, sym, ap, ◌∙◌, arith}
 use Rattle.c_lexer.specs.Texts.{values_from, text_of}
 use Rattle.c_lexer.proofs.PlacedTokens.{shorter}
 use Rattle.c_lexer.proofs.Literals.{one_more, no_more}
