@@ -35,6 +35,10 @@ weight_qualify q (Array of n) = ap (λ z. 1 + z) (weight_qualify q of)
 pub weight_under : (p q : ℕ) (s u : CType) → qualify p s ≡ qualify q u → weight s ≡ weight u
 weight_under p q s u e = sym (weight_qualify p s) ∙ ap weight e ∙ weight_qualify q u
 
+pub weight_bare : (s : CType) → weight (unqualified s) ≡ weight s
+weight_bare (Plain q k) = refl
+weight_bare (Array of n) = refl
+
 -- a parameter isn't above all of them
 pub weight_among : (ts : List CType) (ids : List ℕ) (i d : ℕ) → i < length ids → weight (unqualified (type_in ts (get_or ids i d))) ≤ all_weight (types_in ts ids)
 weight_among ts [] i d l = absurd (omega arith)

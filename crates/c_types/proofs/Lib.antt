@@ -2,6 +2,7 @@ pub mod Alike
 pub mod Bare
 pub mod Below
 pub mod Bits
+pub mod Composed
 pub mod Completing
 pub mod Defined
 pub mod Fresh

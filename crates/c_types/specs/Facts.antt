@@ -1,6 +1,10 @@
 -- What the functions of the table's insides ensure.
 use Rattle.std.specs.Prelude.{◌≡◌, ◌≢◌, ◌≤◌, ◌<◌, ℕ, Bool, true, false, Option, Some, None, List, [], ◌∷◌, length, if◌then◌else◌}
+use Rattle.std.specs.Option.{option_map}
 use Rattle.std.specs.Str.{bytes_eq}
+use Rattle.std.specs.Prelude.{Vec}
+use Rattle.std.specs.declared.alloc.Global.{Global}
+use Rattle.c_types.specs.declared.composite.FunctionParts.{FunctionParts}
 use Rattle.c_types.specs.declared.type_form.TypeForm.{TypeForm}
 use Rattle.c_types.specs.declared.type_form.TypeForm.TheVariants as form
 use Rattle.c_types.specs.declared.type_form.Member.{Member}
@@ -9,9 +13,10 @@ use Rattle.c_types.specs.declared.type_table.Facts.{Facts}
 use Rattle.c_types.specs.declared.layout.Laying.{Laying}
 use Rattle.c_types.specs.declared.extent.Extent.{Extent}
 use Rattle.c_types.specs.Bounds.{IsBounded}
-use Rattle.c_types.specs.CType.{CType, qualify, depth}
+use Rattle.c_types.specs.CType.{CType, Plain, Function, CTypes, NoType, And, qualify, depth}
+use Rattle.c_types.specs.Composite.{composite}
 use Rattle.c_types.specs.Layout.{Field, start, laid, spots, greatest_align, greatest_nesting, extent, known, no_object}
-use Rattle.c_types.specs.Table.{Table, formed, tagged, tags, types, type_at, form_at, is_qualified, is_open_form, placed, places_of}
+use Rattle.c_types.specs.Table.{Table, AreSomeBelow, Extends, formed, parameters_in, tagged, tags, types, type_at, form_at, is_qualified, is_open_form, placed, places_of}
 use Rattle.c_types.specs.Keeps.{IsSettled, is_formed, place_named}
 
 -- the type of a form that is added
@@ -53,3 +58,28 @@ pub record IsLaid (l : Laying) (kind : Bool) (fs : List Field) (ms : List Member
 abbrev pub AreBounded : List Field → Type 0
 AreBounded [] = Unit {0}
 AreBounded (f ∷ fs) = IsBounded f.extent × AreBounded fs
+
+-- The later table holds more forms, and else is the same.
+pub record Grows (old new : Table) : Type 0 where
+  pub extends : Extends old new
+  pub completed : new.completed ≡ old.completed
+
+abbrev pub items_of : Option (Vec ℕ Global) → Option (List ℕ)
+items_of o = option_map (λ v. v.items) o
+
+-- what a function is formed from, and its type
+abbrev pub function_of : Table → FunctionParts → CType
+function_of t f = Plain 0 (Function (type_at t f.result) (parameters_in (types t) (items_of f.parameters) f.more))
+
+abbrev pub ArePartsBelow : ℕ → FunctionParts → Type 0
+ArePartsBelow n f = (f.result < n) × AreSomeBelow n (items_of f.parameters)
+
+-- whether `...` stands behind the parameters of one that lists them, of the first where both do
+abbrev pub more_of : Option (Vec ℕ Global) → Bool → Bool → Bool
+more_of None m n = n
+more_of (Some v) m n = m
+
+-- the composite with the first of a list, if there is one
+abbrev pub first_composite : CType → CTypes → CType
+first_composite s NoType = s
+first_composite s (And u us) = composite s u

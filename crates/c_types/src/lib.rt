@@ -3,6 +3,7 @@
 #![tactic(auto)]
 
 mod compatible;
+mod composite;
 mod conversions;
 mod definition;
 mod extent;

@@ -1,0 +1,10 @@
+use Rattle.std.proofs.Common.{◌≡◌, sym, ap, ◌∙◌}
+use Rattle.c_types.specs.CType.{qualify}
+use Rattle.c_types.specs.Table.{type_at}
+use Rattle.c_types.proofs.Bits.{qualify_none}
+use Rattle.c_types.proofs.type_table.TypeTable.qualified.Goals as goal
+
+pub returns-then-number-eq0-clause-means : goal.returns-then-number-eq0-clause-means
+returns-then-number-eq0-clause-means c =
+    let s = type_at c.args.self.now c.args.of in
+    sym (ap (λ q. qualify q s) (sym c.number.ensures ∙ c.if-number-eq0.true) ∙ qualify_none s)
