@@ -203,9 +203,9 @@ one_composed t old new a b ids i d id g l w m h =
     let rest = all_composite (types_in T (drop (i + 1) a)) (types_in T (drop (i + 1) b)) in
     let k : drop i a ≡ x ∷ drop (i + 1) a = drop_more a i d w in
     let s : all_composite (types_in T (drop i a)) (types_in T (drop i b)) ≡ And (unqualified (type_at new id)) rest =
-        ap (λ (xs : List ℕ). all_composite (types_in T xs) (types_in T (drop i b))) k ∙ all_more T x (drop (i + 1) a) (drop i b)
-        ∙ ap (λ z. And z (all_composite (types_in T (drop (i + 1) a)) (types_in T (drop 1 (drop i b))))) (sym m)
-        ∙ ap (λ (xs : List ℕ). And (unqualified (type_at new id)) (all_composite (types_in T (drop (i + 1) a)) (types_in T xs))) (drop_next b i) in
+    ap (λ (xs : List ℕ). all_composite (types_in T xs) (types_in T (drop i b))) k ∙ all_more T x (drop (i + 1) a) (drop i b)
+    ∙ ap (λ z. And z (all_composite (types_in T (drop (i + 1) a)) (types_in T (drop 1 (drop i b))))) (sym m)
+    ∙ ap (λ (xs : List ℕ). And (unqualified (type_at new id)) (all_composite (types_in T (drop (i + 1) a)) (types_in T xs))) (drop_next b i) in
     joined_push (types new) ids id rest ∙ ap (λ z. joined z (And (unqualified (type_at new id)) rest)) (same_types old new g ids l)
     ∙ ap (joined (types_in (types old) ids)) (sym s) ∙ h
 

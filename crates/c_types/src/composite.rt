@@ -105,8 +105,10 @@ impl TypeTable {
         match self.pointer_to(x) {
             Some(to) => match self.pointer_to(y) {
                 Some(other) => {
-                    let to =
-                        self.composite_under((to, Qualifiers::none()), (other, Qualifiers::none()))?;
+                    let to = self.composite_under(
+                        (to, Qualifiers::none()),
+                        (other, Qualifiers::none()),
+                    )?;
                     self.form_place(TypeForm::Pointer { to })
                 }
                 None => Ok(x),
@@ -155,7 +157,10 @@ impl TypeTable {
         ensures within { IfOk result (λ id. id < length self.new.forms) }
         ensures grows { Grows self.old self.new }
     {
-        let of = self.composite_under((a.result, Qualifiers::none()), (b.result, Qualifiers::none()))?;
+        let of = self.composite_under(
+            (a.result, Qualifiers::none()),
+            (b.result, Qualifiers::none()),
+        )?;
         let more = more_of(&a.parameters, a.more, b.more);
         let parameters = self.parameters_composite(a.parameters, b.parameters)?;
         self.function_place(of, parameters, more)

@@ -31,7 +31,10 @@ pub(crate) enum FormKey {
 }
 
 /// A copy of the parameters' places.
-pub(crate) fn copied(alloc: Global, parameters: &Option<Items<TypeId>>) -> Result<Option<Vec<TypeId>>, Memory>
+pub(crate) fn copied(
+    alloc: Global,
+    parameters: &Option<Items<TypeId>>,
+) -> Result<Option<Vec<TypeId>>, Memory>
     ensures { IfOk result (λ o. option_map (λ v. v.items) o ≡ parameters.now) }
 {
     match parameters {

@@ -48,14 +48,14 @@ all_composite-loop-i-preserved t c =
     let id = c.in_ok-id.id in
     let l : x < length T.forms = below_at (length T.forms) a i 0 c.requires.a c.loop-i-test.true in
     let m : unqualified (type_at N id) ≡ first_composite (unqualified (type_at T x)) (types_in (types T) (drop i b)) =
-        c.in_ok-id.ensures.means ∙ ap (λ (s : CType). first_composite (unqualified s) (types_in (types L) (drop i b))) (v.grows.extends.types_stay x l)
-        ∙ ap (first_composite (unqualified (type_at T x))) (same_types T L v.grows (drop i b) (below_drop (length T.forms) b i c.requires.b)) in
+    c.in_ok-id.ensures.means ∙ ap (λ (s : CType). first_composite (unqualified s) (types_in (types L) (drop i b))) (v.grows.extends.types_stay x l)
+    ∙ ap (first_composite (unqualified (type_at T x))) (same_types T L v.grows (drop i b) (below_drop (length T.forms) b i c.requires.b)) in
     let p : c.push.new.self.items ≡ ids ++ id ∷ [] = c.in_ok-push.ensures.items in
     record {
       grows = grows_twice T L N v.grows g;
       below = subst (AreBelow (length N.forms)) (sym p) (below_push (length N.forms) ids id (still_below L N g ids v.below) c.in_ok-id.ensures.within);
       means = subst (λ (xs : List ℕ). joined (types_in (types N) xs) (all_composite (types_in (types T) (drop (i + 1) a)) (types_in (types T) (drop (i + 1) b))) ≡ all_composite (types_in (types T) a) (types_in (types T) b)) (sym p)
-        (one_composed T L N a b ids i 0 id g v.below c.loop-i-test.true m v.means);
+          (one_composed T L N a b ids i 0 id g v.below c.loop-i-test.true m v.means);
     }
 
 pub all_composite-returns-clause-means : goal.all_composite-returns-clause-means
@@ -133,12 +133,12 @@ functions_composite-returns-clause-means t c =
     let g = c.composite_under.ensures.grows in
     let of = c.in_ok-of.of in
     let r : type_at P of ≡ composite (type_at T a.result) (type_at T b.result) =
-        c.parameters_composite.ensures.grows.extends.types_stay of c.in_ok-of.ensures.within ∙ c.in_ok-of.ensures.means ∙ results_composed (type_at T a.result) (type_at T b.result) c.none.result.0 c.none-2.result.0 c.none.ensures c.none-2.ensures in
+    c.parameters_composite.ensures.grows.extends.types_stay of c.in_ok-of.ensures.within ∙ c.in_ok-of.ensures.means ∙ results_composed (type_at T a.result) (type_at T b.result) c.none.result.0 c.none-2.result.0 c.none.ensures c.none-2.ensures in
     let os = items_of c.in_ok-parameters.parameters in
     let q : parameters_in (types P) os c.more_of-more.result ≡ parameters_composite (parameters_in (types T) (items_of a.parameters) a.more) (parameters_in (types T) (items_of b.parameters) b.more) =
-        ap (parameters_in (types P) os) c.more_of-more.ensures ∙ c.in_ok-parameters.ensures.means a.more b.more
-        ∙ ap (λ (z : Parameters). parameters_composite z (parameters_in (types M) (items_of b.parameters) b.more)) (same_parameters T M g (items_of a.parameters) a.more c.requires.a.1)
-        ∙ ap (parameters_composite (parameters_in (types T) (items_of a.parameters) a.more)) (same_parameters T M g (items_of b.parameters) b.more c.requires.b.1) in
+    ap (parameters_in (types P) os) c.more_of-more.ensures ∙ c.in_ok-parameters.ensures.means a.more b.more
+    ∙ ap (λ (z : Parameters). parameters_composite z (parameters_in (types M) (items_of b.parameters) b.more)) (same_parameters T M g (items_of a.parameters) a.more c.requires.a.1)
+    ∙ ap (parameters_composite (parameters_in (types T) (items_of a.parameters) a.more)) (same_parameters T M g (items_of b.parameters) b.more c.requires.b.1) in
     let k = ap (λ (z : CType). Plain 0 (Function z (parameters_in (types P) os c.more_of-more.result))) r ∙ ap (λ (z : Parameters). Plain 0 (Function (composite (type_at T a.result) (type_at T b.result)) z)) q in
     IfOk-weaker c.function_place.result _ _ (λ id h. h ∙ k) c.function_place.ensures.means
 
@@ -150,7 +150,11 @@ functions_composite-returns-clause-grows t c =
 -- ---- two pointers
 
 pub kinds_composite-returns-in_ok-to-in-Some-pointer_to-clause-means : goal.kinds_composite-returns-in_ok-to-in-Some-pointer_to-clause-means
-kinds_composite-returns-in_ok-to-in-Some-pointer_to-clause-means t c = ?
+kinds_composite-returns-in_ok-to-in-Some-pointer_to-clause-means t c =
+    let T = c.args.self.now in
+    let k = ap (λ (z : CType). Plain 0 (Pointer z)) c.in_ok-to-in-Some-pointer_to.ensures.means
+    ∙ pointers_composed (type_at T c.args.x) (type_at T c.args.y) (type_at T c.in-Some.to) (type_at T c.in-Some-pointer_to.other) c.none.result.0 c.none-in-Some-pointer_to.result.0 c.in-Some.ensures.some c.in-Some-pointer_to.ensures.some c.none.ensures c.none-in-Some-pointer_to.ensures in
+    IfOk-weaker c.form_place.result _ _ (λ id h. h ∙ k) c.form_place.ensures.means
 
 pub kinds_composite-returns-in_ok-to-in-Some-pointer_to-clause-grows : goal.kinds_composite-returns-in_ok-to-in-Some-pointer_to-clause-grows
 kinds_composite-returns-in_ok-to-in-Some-pointer_to-clause-grows t c = grows_twice c.args.self.now c.composite_under.new.self c.form_place.new.self c.composite_under.ensures.grows c.form_place.ensures.grows
@@ -158,7 +162,13 @@ kinds_composite-returns-in_ok-to-in-Some-pointer_to-clause-grows t c = grows_twi
 -- ---- a parameter
 
 pub parameter_composite-parameter-b-requires : goal.parameter_composite-parameter-b-requires
-parameter_composite-parameter-b-requires t c = ?
+parameter_composite-parameter-b-requires t c = below_at (length c.args.self.now.forms) c.args.b.now c.args.i 0 c.requires.b c.if-i-b.true
 
 pub parameter_composite-composite_under-requires : goal.parameter_composite-composite_under-requires
-parameter_composite-composite_under-requires t c = ?
+parameter_composite-composite_under-requires t c =
+    let T = c.args.self.now in
+    let p = c.parameter-a.result in
+    let e : weight (type_at T p.0) ≡ weight (type_at T c.args.a) = sym (weight_qualify p.1.0 (type_at T p.0)) ∙ ap weight c.parameter-a.ensures.means ∙ weight_bare (type_at T c.args.a) in
+    let d = c.decreases in
+    let g : 6 * weight (type_at T p.0) + 2 < t = omega (arith, e, d) in
+    (g, (c.parameter-a.ensures.within, c.parameter-b.ensures.within))
