@@ -273,13 +273,6 @@ tag_apart basics es ds t k v a b l g m n q h =
 
 -- ---- types under qualifiers
 
-max_none : (a : ℕ) → bit_or 0 a ≡ a
-max_none a = same_from_bits (bit_or 0 a) a (λ i. (let e : bit_at (bit_or 0 a) i ≡ max (bit_at 0 i) (bit_at a i) = bit_at_or 0 a i in let z = bit_at-zero i in omega (arith, e, z)))
-
-and_false : (b : Bool) → (b && false) ≡ false
-and_false true = refl
-and_false false = refl
-
 -- a parameter's type without its own qualifiers
 pub parameter_bare : (q : ℕ) (s : CType) → IsBare s → is_array s ≡ false → s ≡ unqualified (qualify q s)
 parameter_bare q (Plain p k) h n = ap (λ z. Plain z k) h

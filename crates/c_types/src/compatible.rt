@@ -4,13 +4,11 @@ ghost use Rattle.c_types.specs.Compatible.{all_compatible, all_kept, compatible,
 ghost use Rattle.c_types.specs.Table.{AreBelow, AreSomeBelow, form_at, is_qualified, is_tagged, parameters_in, type_at, types, types_in};
 ghost use Rattle.c_types.specs.Readings.{is_array, is_function, is_pointer};
 
+use crate::conversions::INT;
 use crate::qualifiers::Qualifiers;
 use crate::type_form::{TypeForm, TypeId};
 use crate::type_table::{BASIC, TypeTable};
 use lcc_base::Items;
-
-/// The place of int.
-const INT: TypeId = 6;
 
 /// Whether both sizes of arrays are the same, where both are known.
 fn lengths_fit(a: Option<u32>, b: Option<u32>) -> bool

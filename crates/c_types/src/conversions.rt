@@ -7,7 +7,7 @@ use crate::type_form::{TypeForm, TypeId};
 use crate::type_table::TypeTable;
 
 /// The places of the basic types that conversions give.
-const INT: TypeId = 6;
+pub(crate) const INT: TypeId = 6;
 
 const UNSIGNED: TypeId = 7;
 

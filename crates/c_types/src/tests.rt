@@ -1,4 +1,5 @@
 use super::*;
+use lcc_base::Items;
 use std::test::Fail;
 
 #[test]
@@ -41,4 +42,43 @@ fn refused_types(rt: HostRuntime) {
         length: Some(16_777_217),
     });
     assert_eq!(rt; large, Err(TypeFault::TooLarge));
+}
+
+#[test]
+fn conversions(rt: HostRuntime) {
+    let types = TypeTable::new(rt.alloc());
+    assert_eq!(rt; types.promote(1), 6);
+    assert_eq!(rt; types.promote(5), 6);
+    assert_eq!(rt; types.promote(7), 7);
+    assert_eq!(rt; types.usual(8, 7), 9);
+    assert_eq!(rt; types.usual(5, 1), 6);
+    assert_eq!(rt; types.usual(8, 6), 8);
+}
+
+#[test]
+fn compatible_types(rt: HostRuntime) -> Result<(), Fail> {
+    let mut types = TypeTable::new(rt.alloc());
+    assert!(rt; types.compatible(6, 6));
+    assert!(rt; !types.compatible(6, 8));
+    let shade = types.add(TypeForm::Enumeration {
+        members: Items::new(rt.alloc()),
+    })?;
+    assert!(rt; types.compatible(shade, 6));
+    assert!(rt; !types.compatible(7, shade));
+    Ok(())
+}
+
+#[test]
+fn composite_arrays(rt: HostRuntime) -> Result<(), Fail> {
+    let mut types = TypeTable::new(rt.alloc());
+    let open = types.add(TypeForm::Array {
+        of: 6,
+        length: None,
+    })?;
+    let three = types.add(TypeForm::Array {
+        of: 6,
+        length: Some(3),
+    })?;
+    assert_eq!(rt; types.composite(open, three), Ok(three));
+    Ok(())
 }
