@@ -1,13 +1,13 @@
 -- Compatible types one by one: what their parts give, and how much there is of them.
-use Rattle.std.proofs.Common.{◌≡◌, ℕ, zero, suc, ◌+◌, ◌*◌, ◌<◌, ◌≤◌, Bool, true, false, List, [], ◌∷◌, length, drop, get_or, max, refl, sym, ap, ◌∙◌, subst, true≢false, drop_of_length-le, arith}
-use Rattle.std.specs.Prelude.{◌≢◌, Some, None, Option, ◌&&◌, not, nat_eq, bit_or}
+use Rattle.std.proofs.Common.{◌≡◌, ℕ, zero, suc, ◌+◌, ◌<◌, ◌≤◌, Bool, true, false, List, [], ◌∷◌, length, drop, get_or, max, refl, sym, ap, ◌∙◌, true≢false, drop_of_length-le, arith}
+use Rattle.std.specs.Prelude.{Some, None, Option, ◌&&◌, nat_eq, bit_or}
 use Rattle.std.specs.Int.{bit_at}
 use Rattle.std.proofs.lemmas.Bool.Decides.{nat_tests}
 use Rattle.std.proofs.lemmas.List.{drop_more}
 use Rattle.std.proofs.lemmas.Nat.Bits.{bit_at_or, bit_at-zero, same_from_bits}
 use Rattle.c_types.specs.declared.type_form.TypeForm.{TypeForm}
 use Rattle.c_types.specs.declared.type_form.TypeForm.TheVariants as form
-use Rattle.c_types.specs.CType.{CType, Plain, Array, Kind, Simple, Pointer, Function, Structure, Union, Enumeration, Parameters, Open, Listed, CTypes, NoType, And, kind_of, qualify, unqualified, weight, kind_weight, parameters_weight, all_weight}
+use Rattle.c_types.specs.CType.{CType, Plain, Array, Kind, Simple, Pointer, Function, Structure, Union, Enumeration, Parameters, Open, Listed, CTypes, NoType, And, kind_of, qualify, unqualified, weight, all_weight}
 use Rattle.c_types.specs.Compatible.{basic_place, compatible, kinds_compatible, parameters_compatible, all_compatible, kind_compatible, lengths_fit, same_flag}
 use Rattle.c_types.specs.Readings.{is_array}
 use Rattle.c_types.specs.Table.{formed, is_qualified, is_tagged, type_in, types_in}

@@ -1,9 +1,7 @@
 -- Types without qualifiers of their own, and which of them are compatible at different places.
-use Rattle.std.proofs.Common.{◌≡◌, ℕ, zero, suc, ◌+◌, ◌-◌, ◌<◌, ◌≤◌, Bool, true, false, cond, List, [], ◌∷◌, ◌++◌, length, get_or, max, refl, sym, ap, ◌∙◌, subst, true≢false, arith}
-use Rattle.std.specs.Prelude.{◌≢◌, slice_get, Some, None, Option, ◌&&◌, nat_eq, nat_lt, bit_or, if◌then◌else◌}
-use Rattle.std.specs.Int.{bit_at}
+use Rattle.std.proofs.Common.{◌≡◌, ℕ, zero, suc, ◌+◌, ◌-◌, ◌<◌, ◌≤◌, Bool, true, false, List, length, refl, sym, ap, ◌∙◌, subst, true≢false, arith}
+use Rattle.std.specs.Prelude.{◌≢◌, slice_get, Some, None, Option, nat_eq, nat_lt, if◌then◌else◌}
 use Rattle.std.proofs.lemmas.Bool.Decides.{nat_tests}
-use Rattle.std.proofs.lemmas.Nat.Bits.{bit_at_or, bit_at-zero, same_from_bits}
 use Rattle.std.proofs.lemmas.Option.{get_or_from_slice_get, slice_get-get_or}
 use Rattle.c_types.specs.declared.type_form.TypeForm.{TypeForm}
 use Rattle.c_types.specs.declared.type_form.TypeForm.TheVariants as form
@@ -11,12 +9,11 @@ use Rattle.c_types.specs.declared.type_form.Enumerator.{Enumerator}
 use Rattle.c_types.specs.declared.form_key.FormKey.{FormKey}
 use Rattle.c_types.specs.declared.type_table.Formed.{Formed}
 use Rattle.c_types.specs.declared.definition.Definition.{Definition}
-use Rattle.c_types.specs.CType.{Basic, Void, Char, SignedChar, UnsignedChar, Short, UnsignedShort, Int, Unsigned, Long, UnsignedLong, CType, Plain, Array, Kind, Simple, Pointer, Function, Structure, Union, Enumeration, basic, kind_of, qualify, unqualified}
-use Rattle.c_types.specs.Compatible.{basic_place, is_int, kind_compatible, kinds_compatible}
+use Rattle.c_types.specs.CType.{Basic, Void, Char, SignedChar, UnsignedChar, Short, UnsignedShort, Int, Unsigned, Long, UnsignedLong, CType, Plain, Array, Simple, Pointer, Function, Structure, Union, Enumeration, basic, kind_of, qualify, unqualified}
+use Rattle.c_types.specs.Compatible.{basic_place, is_int, kind_compatible}
 use Rattle.c_types.specs.Readings.{is_array}
-use Rattle.c_types.specs.Table.{Table, basic_forms, form_at, formed, is_qualified, is_tagged, number_at, type_at, type_in, types, types_of, IsOver}
-use Rattle.c_types.specs.Keeps.{Keeps, forms_in, is_formed}
-use Rattle.c_types.proofs.Bits.{or_none}
+use Rattle.c_types.specs.Table.{Table, basic_forms, form_at, formed, is_qualified, is_tagged, number_at, type_at, type_in, types, types_of}
+use Rattle.c_types.specs.Keeps.{Keeps, is_formed}
 use Rattle.c_types.proofs.Insides.{basic_type_at, form_of_entry, length-forms, table_of, type_by_form}
 use Rattle.c_types.proofs.Defined.{number_test}
 use Rattle.c_types.proofs.Named.{all_over}

@@ -1,7 +1,7 @@
 -- Places below a bound, one by one.
-use Rattle.std.proofs.Common.{◌≡◌, ℕ, zero, suc, ◌+◌, ◌<◌, ◌≤◌, List, [], ◌∷◌, length, get_or, max, refl, sym, ap, ◌∙◌, arith}
+use Rattle.std.proofs.Common.{◌≡◌, ℕ, zero, suc, ◌<◌, ◌≤◌, List, [], ◌∷◌, length, get_or, max, refl, arith}
 use Rattle.c_types.specs.declared.type_form.Member.{Member}
-use Rattle.std.proofs.Common.{Bool, true, false, true≢false}
+use Rattle.std.proofs.Common.{Bool, false, true≢false}
 use Rattle.std.specs.Prelude.{Option, Some, None}
 use Rattle.c_types.specs.declared.type_form.TypeForm.{TypeForm}
 use Rattle.c_types.specs.declared.type_form.TypeForm.TheVariants as form

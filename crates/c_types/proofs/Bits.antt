@@ -1,5 +1,5 @@
 -- Sets of qualifiers as bits: no qualifiers, and the order in which they are joined.
-use Rattle.std.proofs.Common.{◌≡◌, ◌+◌, ℕ, zero, max, refl, sym, ap, ◌∙◌, arith}
+use Rattle.std.proofs.Common.{◌≡◌, ◌+◌, ℕ, max, refl, sym, ap, ◌∙◌, arith}
 use Rattle.std.specs.Prelude.{bit_or}
 use Rattle.std.specs.Int.{bit_at}
 use Rattle.std.proofs.lemmas.Nat.Bits.{bit_at_or, bit_at-zero, same_from_bits}

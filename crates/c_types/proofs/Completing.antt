@@ -1,6 +1,6 @@
 -- A structure or union that gets its members: what its table keeps then.
-use Rattle.std.proofs.Common.{◌≡◌, ◌⊎◌, inl, inr, ℕ, zero, suc, ◌+◌, ◌<◌, ◌≤◌, Bool, true, false, List, [], ◌∷◌, ◌++◌, length, refl, sym, ap, ◌∙◌, subst, true≢false, arith}
-use Rattle.std.specs.Prelude.{◌≢◌, slice_get, Some, None, Option, IfSome, is_some, nat_eq, nat_lt, ◌||◌, if◌then◌else◌}
+use Rattle.std.proofs.Common.{◌≡◌, inl, inr, ℕ, ◌+◌, ◌<◌, ◌≤◌, Bool, true, false, List, [], ◌∷◌, ◌++◌, length, refl, sym, ap, ◌∙◌, subst, arith}
+use Rattle.std.specs.Prelude.{Some, None, Option, IfSome, is_some, nat_eq, nat_lt, ◌||◌, if◌then◌else◌}
 use Rattle.std.specs.Map.{lookup}
 use Rattle.std.specs.Option.{option_map}
 use Rattle.std.proofs.lemmas.Bool.Decides.{nat_tests}
@@ -8,7 +8,6 @@ use Rattle.std.proofs.lemmas.List.{append-nil}
 use Rattle.std.proofs.lemmas.Option.{slice_get_within}
 use Rattle.c_types.specs.declared.type_form.TypeForm.{TypeForm}
 use Rattle.c_types.specs.declared.type_form.Member.{Member}
-use Rattle.c_types.specs.declared.type_fault.TypeFault.{TypeFault}
 use Rattle.c_types.specs.declared.type_fault.TypeFault.TheVariants as fault
 use Rattle.c_types.specs.declared.form_key.FormKey.{FormKey}
 use Rattle.c_types.specs.declared.type_table.Formed.{Formed}
@@ -17,7 +16,7 @@ use Rattle.c_types.specs.declared.extent.Extent.{Extent}
 use Rattle.c_types.specs.declared.room.Room.{Room}
 use Rattle.c_types.specs.declared.definition.Definition.{Definition}
 use Rattle.c_types.specs.Bounds.{IsBounded}
-use Rattle.c_types.specs.Layout.{Field, MemberType, start, laid, round_up, greatest_align, greatest_nesting, structure_extent, fields, known, no_object}
+use Rattle.c_types.specs.Layout.{Field, start, laid, round_up, greatest_align, greatest_nesting, structure_extent, known, no_object}
 use Rattle.c_types.specs.Table.{Table, Completed, Extends, IsOpen, AreMembersBelow, are_objects, excess, fields_at, form_at, is_above, is_union, members_among, members_refusal, number_at, places_of, tag_of, tags}
 use Rattle.c_types.specs.Keeps.{Keeps, IsDefinition, completed_in, forms_in, place_named}
 use Rattle.c_types.specs.Facts.{IsLaid}

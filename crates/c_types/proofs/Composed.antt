@@ -1,12 +1,12 @@
 -- Composite types one by one: what their parts give, in a table that grows.
-use Rattle.std.proofs.Common.{◌≡◌, ◌⊎◌, inl, inr, ℕ, zero, suc, ◌+◌, ◌<◌, ◌≤◌, Bool, true, false, List, [], ◌∷◌, ◌++◌, length, drop, get_or, refl, sym, ap, ◌∙◌, subst, true≢false, append_assoc, drop_of_length-le, arith}
-use Rattle.std.specs.Prelude.{slice_get, Some, None, Option, bit_or, is_some}
+use Rattle.std.proofs.Common.{◌≡◌, inl, inr, ℕ, zero, suc, ◌+◌, ◌<◌, ◌≤◌, Bool, false, List, [], ◌∷◌, ◌++◌, length, drop, get_or, refl, sym, ap, ◌∙◌, true≢false, append_assoc, drop_of_length-le, arith}
+use Rattle.std.specs.Prelude.{Some, None, Option, bit_or, is_some}
 use Rattle.std.proofs.lemmas.List.{drop_more, length-append}
 use Rattle.c_types.specs.declared.type_form.TypeForm.{TypeForm}
 use Rattle.c_types.specs.declared.extent.Extent.{Extent}
 use Rattle.c_types.specs.CType.{CType, Plain, Array, Kind, Simple, Pointer, Function, Structure, Union, Enumeration, Parameters, Open, Listed, CTypes, NoType, And, qualify, unqualified, parameters_weight}
 use Rattle.c_types.specs.Composite.{composite, kinds_composite, parameters_composite, all_composite, known_length}
-use Rattle.c_types.specs.Layout.{known, Tag}
+use Rattle.c_types.specs.Layout.{Tag}
 use Rattle.c_types.specs.Readings.{is_array, is_function, is_pointer}
 use Rattle.c_types.specs.Table.{Table, Completed, Adds, AreBelow, AreSomeBelow, Extends, parameters_in, tags, type_at, type_in, types, types_in}
 use Rattle.c_types.specs.Facts.{Grows, first_composite}

@@ -1,17 +1,15 @@
 -- Looking up what completed a structure or union.
-use Rattle.std.proofs.Common.{◌≡◌, ℕ, zero, suc, ◌<◌, ◌≤◌, Bool, true, false, cond, List, [], ◌∷◌, ◌++◌, length, take, get_or, refl, sym, ap, ◌∙◌, subst, true≢false, arith}
-use Rattle.std.specs.Prelude.{slice_get, Some, None, Option, is_some, nat_eq}
+use Rattle.std.proofs.Common.{◌≡◌, ℕ, suc, ◌<◌, Bool, true, false, cond, List, [], ◌∷◌, length, refl, sym, ap, ◌∙◌, true≢false, arith}
+use Rattle.std.specs.Prelude.{slice_get, Some, None, nat_eq}
 use Rattle.std.specs.Option.{option_map}
 use Rattle.std.proofs.lemmas.Option.{slice_get-get_or}
 use Rattle.std.proofs.lemmas.Bool.Decides.{nat_tests}
 use Rattle.std.specs.Map.{lookup}
 use Rattle.c_types.specs.declared.type_form.TypeForm.{TypeForm}
 use Rattle.c_types.specs.declared.type_form.TypeForm.TheVariants as form
-use Rattle.c_types.specs.declared.type_form.Member.{Member}
 use Rattle.c_types.specs.declared.definition.Definition.{Definition}
-use Rattle.c_types.specs.CType.{CType, Plain, Structure, Union}
-use Rattle.c_types.specs.Layout.{known, no_object, extent_by}
-use Rattle.c_types.specs.Table.{Table, Completed, tags, tags_of, tag_of, tagged, is_tagged, is_open_form, is_qualified, is_union, form_at, type_at, types, formed, number_at, extent_at, members_among, definition_of}
+use Rattle.c_types.specs.Layout.{known, extent_by}
+use Rattle.c_types.specs.Table.{Table, Completed, tags, tags_of, tag_of, is_tagged, is_open_form, is_qualified, form_at, number_at, extent_at, members_among}
 use Rattle.c_types.specs.declared.type_table.Facts.{Facts}
 use Rattle.c_types.specs.Keeps.{IsDefinition, IsFact, completed_in}
 use Rattle.c_types.proofs.Insides.{type_by_form}

@@ -1,6 +1,6 @@
 -- A form without parts: what is known of it, and the number that a new structure or union has.
-use Rattle.std.proofs.Common.{◌≡◌, ℕ, zero, suc, ◌+◌, ◌<◌, ◌≤◌, Bool, true, false, List, [], ◌∷◌, length, take, get_or, refl, sym, ap, ◌∙◌, subst, true≢false, arith}
-use Rattle.std.specs.Prelude.{slice_get, Some, None, Option, nat_eq}
+use Rattle.std.proofs.Common.{◌≡◌, ℕ, ◌<◌, Bool, true, false, List, [], ◌∷◌, length, take, refl, sym, ap, ◌∙◌, subst, true≢false, arith}
+use Rattle.std.specs.Prelude.{None, Option, nat_eq}
 use Rattle.std.proofs.lemmas.Option.{slice_get-get_or}
 use Rattle.std.proofs.lemmas.List.{take_all}
 use Rattle.std.proofs.lemmas.Bool.Decides.{nat_tests}
@@ -8,12 +8,11 @@ use Rattle.c_types.specs.declared.type_form.TypeForm.{TypeForm}
 use Rattle.c_types.specs.declared.type_form.TypeForm.TheVariants as form
 use Rattle.c_types.specs.declared.type_form.Enumerator.{Enumerator}
 use Rattle.c_types.specs.declared.qualifiers.Qualifiers.{Qualifiers}
-use Rattle.c_types.specs.declared.extent.Extent.{Extent}
 use Rattle.c_types.specs.declared.type_table.Facts.{Facts}
 use Rattle.c_types.specs.Bounds.{IsBounded}
 use Rattle.c_types.specs.CType.{depth}
 use Rattle.c_types.specs.Layout.{known, no_object}
-use Rattle.c_types.specs.Table.{Table, Completed, tags, tags_of, tag_of, tagged, excess, form_at, form_refusal, number_at, is_qualified, is_open_form, is_tagged}
+use Rattle.c_types.specs.Table.{Table, Completed, tags, tags_of, tag_of, tagged, excess, form_at, form_refusal, number_at, is_qualified, is_open_form}
 use Rattle.c_types.specs.Keeps.{is_formed}
 use Rattle.c_types.specs.Facts.{IsFactOf, type_of}
 use Rattle.c_types.proofs.Known.{IsApart, apart_push, known_apart, number_grows}

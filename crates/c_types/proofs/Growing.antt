@@ -1,12 +1,12 @@
 -- A list of forms that gets one more keeps its types and has one more; a place has the type of its form.
-use Rattle.std.proofs.Common.{◌≡◌, ℕ, zero, suc, ◌+◌, ◌<◌, ◌≤◌, List, [], ◌∷◌, ◌++◌, length, take, get_or, refl, sym, ap, ◌∙◌, subst, append_assoc, arith}
-use Rattle.std.specs.Prelude.{slice_get, Some, None, Option}
+use Rattle.std.proofs.Common.{◌≡◌, ℕ, zero, suc, ◌+◌, ◌<◌, List, [], ◌∷◌, ◌++◌, length, take, refl, sym, ap, ◌∙◌, subst, append_assoc, arith}
+use Rattle.std.specs.Prelude.{slice_get, Some, None}
 use Rattle.std.proofs.lemmas.List.{length-append, append-nil, get_or_append_left}
-use Rattle.std.proofs.Math.Seq.{take-append_seam, get_or-append_seam}
+use Rattle.std.proofs.Math.Seq.{get_or-append_seam}
 use Rattle.c_types.specs.declared.type_form.TypeForm.{TypeForm}
 use Rattle.c_types.specs.declared.type_form.TypeForm.TheVariants as form
-use Rattle.c_types.specs.CType.{CType, Plain, Array, Void, Pointer, Function, CTypes, And, Listed, basic, qualify, unqualified}
-use Rattle.c_types.specs.Table.{types_after, types_of, type_in, types_in, parameters_in, formed, tagged, counted, IsOver, AreBelow, AreSomeBelow}
+use Rattle.c_types.specs.CType.{CType, Plain, Array, Void, Pointer, Function, basic, qualify}
+use Rattle.c_types.specs.Table.{types_after, types_of, type_in, types_in, parameters_in, formed, tagged, counted, IsOver, AreBelow}
 
 pub types_push : (known : List CType) (n : ℕ) (fs : List TypeForm) (f : TypeForm) →
     types_after known n (fs ++ f ∷ []) ≡ types_after known n fs ++ formed (types_after known n fs) (n + tagged fs) f ∷ []

@@ -1,14 +1,11 @@
 -- What is known of structures by their numbers, and the extents that this gives.
-use Rattle.std.proofs.Common.{◌≡◌, ℕ, zero, suc, ◌+◌, ◌<◌, ◌≤◌, Bool, true, false, cond, List, [], ◌∷◌, ◌++◌, length, take, get_or, refl, sym, ap, ◌∙◌, subst, true≢false, append_assoc, arith}
+use Rattle.std.proofs.Common.{◌≡◌, ℕ, zero, suc, ◌<◌, Bool, true, false, cond, List, [], ◌∷◌, ◌++◌, take, refl, sym, ap, ◌∙◌, true≢false, arith}
 use Rattle.std.specs.Prelude.{slice_get, Some, None, Option, is_some, nat_eq, ◌&&◌}
-use Rattle.std.proofs.lemmas.Bool.Decides.{nat_tests}
 use Rattle.c_types.specs.declared.type_form.TypeForm.{TypeForm}
-use Rattle.c_types.specs.declared.type_form.TypeForm.TheVariants as form
-use Rattle.c_types.specs.declared.type_form.Member.{Member}
 use Rattle.c_types.specs.declared.extent.Extent.{Extent}
-use Rattle.c_types.specs.CType.{CType, Plain, Array, Kind, Simple, Pointer, Function, Structure, Union, Enumeration, qualify}
-use Rattle.c_types.specs.Layout.{Tag, Field, MemberType, known, extent_by, kind_extent, no_object, structure_extent, fields, times}
-use Rattle.c_types.specs.Table.{Table, Completed, tags_of, tag_of, tagged, counted, is_tagged, are_objects, member_types, type_in, AreMembersBelow}
+use Rattle.c_types.specs.CType.{CType, Plain, Array, Simple, Pointer, Function, Structure, Union, Enumeration, qualify}
+use Rattle.c_types.specs.Layout.{Tag, MemberType, known, extent_by, no_object, fields, times}
+use Rattle.c_types.specs.Table.{Table, Completed, tags_of, tag_of, tagged, counted, is_tagged, are_objects}
 use Rattle.c_types.specs.Keeps.{IsSettled}
 
 -- qualifiers don't change an extent

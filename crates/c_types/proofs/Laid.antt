@@ -1,6 +1,6 @@
 -- Members of a structure or union that are laid one by one.
-use Rattle.std.proofs.Common.{◌≡◌, ℕ, zero, suc, ◌+◌, ◌-◌, ◌*◌, ◌/◌, ◌<◌, ◌≤◌, Bool, true, false, cond, List, [], ◌∷◌, max, refl, sym, ap, ◌∙◌, subst, true≢false, arith}
-use Rattle.std.specs.Prelude.{◌≢◌, Some, None, Option, Result, Ok, Err, IfErr, nat_eq, nat_le, nat_lt, if◌then◌else◌}
+use Rattle.std.proofs.Common.{◌≡◌, ℕ, ◌+◌, ◌-◌, ◌<◌, ◌≤◌, Bool, true, false, List, [], ◌∷◌, max, refl, sym, ap, ◌∙◌, subst, arith}
+use Rattle.std.specs.Prelude.{◌≢◌, Some, None, Option, Result, Ok, Err, IfErr, nat_eq, nat_le, if◌then◌else◌}
 use Rattle.std.specs.Str.{bytes_eq}
 use Rattle.std.specs.Result.{IsErrAnd}
 use Rattle.std.proofs.Math.Nat.{mod-lt}
@@ -12,12 +12,11 @@ use Rattle.c_types.specs.declared.layout.Laying.{Laying}
 use Rattle.c_types.specs.declared.type_fault.TypeFault.{TypeFault}
 use Rattle.c_types.specs.declared.extent.Extent.{Extent}
 use Rattle.c_types.specs.declared.room.Room.{Room}
-use Rattle.c_types.specs.declared.room.Spot.{Spot}
 use Rattle.c_types.specs.Bounds.{IsBounded}
-use Rattle.c_types.specs.Layout.{Field, start, laid, spots, spot_in, next_room, room_after, bits_after, round_up, size_or_zero, field_align, greatest_align, greatest_nesting, structure_extent}
+use Rattle.c_types.specs.Layout.{Field, start, laid, spots, spot_in, next_room, round_up, field_align, greatest_align, greatest_nesting, structure_extent}
 use Rattle.c_types.specs.Table.{placed, place_at, places_of, is_above}
 use Rattle.c_types.specs.Keeps.{place_named}
-use Rattle.c_types.specs.Facts.{AreBounded, IsLaid, noted, or_place}
+use Rattle.c_types.specs.Facts.{AreBounded, noted, or_place}
 
 -- some members are laid, and the rest is to come
 pub record IsLaying (l : Laying) (kind : Bool) (rest all : List Field) (to_come members : List Member) : Type 0 where

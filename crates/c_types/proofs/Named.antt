@@ -1,8 +1,8 @@
 -- The place of a member by its name.
-use Rattle.std.proofs.Common.{◌≡◌, ℕ, zero, suc, ◌+◌, ◌-◌, ◌<◌, ◌≤◌, Bool, true, false, cond, List, [], ◌∷◌, ◌++◌, length, get_or, refl, sym, ap, ◌∙◌, subst, true≢false, arith}
+use Rattle.std.proofs.Common.{◌≡◌, ℕ, ◌+◌, ◌-◌, ◌<◌, ◌≤◌, Bool, true, false, List, [], ◌∷◌, ◌++◌, length, get_or, refl, sym, ap, ◌∙◌, subst, true≢false, arith}
 use Rattle.std.specs.Prelude.{◌≢◌, slice_get, Some, None, Option, nat_eq, nat_lt, if◌then◌else◌}
 use Rattle.std.specs.Option.{option_map}
-use Rattle.std.proofs.lemmas.Option.{slice_get-get_or, slice_get_within}
+use Rattle.std.proofs.lemmas.Option.{slice_get-get_or}
 use Rattle.std.specs.Map.{lookup}
 use Rattle.c_types.specs.declared.type_form.TypeForm.{TypeForm}
 use Rattle.c_types.specs.declared.type_form.TypeForm.TheVariants as form
@@ -11,10 +11,10 @@ use Rattle.c_types.specs.declared.type_form.MemberPlace.{MemberPlace}
 use Rattle.c_types.specs.declared.form_key.FormKey.{FormKey}
 use Rattle.c_types.specs.declared.type_table.Formed.{Formed}
 use Rattle.c_types.specs.declared.definition.Definition.{Definition}
-use Rattle.c_types.specs.CType.{CType, Plain, Array, Structure, Union, qualify}
-use Rattle.c_types.specs.Table.{Table, Completed, basic_forms, tags_of, is_tagged, is_open_form, is_qualified, is_union, form_at, type_at, types, formed, number_at, definition_of, place_among, place_of_member, IsOver}
+use Rattle.c_types.specs.CType.{qualify}
+use Rattle.c_types.specs.Table.{Table, basic_forms, is_tagged, is_open_form, is_qualified, is_union, form_at, type_at, types, formed, number_at, definition_of, place_among, place_of_member, IsOver}
 use Rattle.c_types.specs.Keeps.{Keeps, IsDefinition, forms_in, completed_in, place_named}
-use Rattle.c_types.proofs.Insides.{before, behind, forms_in_at, basic_over, table_of, type_by_form, length-forms, length-forms_in}
+use Rattle.c_types.proofs.Insides.{before, behind, forms_in_at, basic_over, type_by_form, length-forms}
 use Rattle.c_types.proofs.Defined.{AreOpen, number_test, open_tagged}
 
 first_entry : {i : ℕ} (es : List (FormKey × Formed)) → i < length es → FormKey × Formed

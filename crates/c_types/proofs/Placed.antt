@@ -1,13 +1,13 @@
 -- A form that gets a place: what its table keeps then.
 use Rattle.std.proofs.Common.{◌≡◌, ◌⊎◌, inl, inr, ℕ, zero, suc, ◌+◌, ◌-◌, ◌<◌, ◌≤◌, Bool, true, false, List, [], ◌∷◌, ◌++◌, length, get_or, refl, sym, ap, ◌∙◌, subst, true≢false, append_assoc, arith}
-use Rattle.std.specs.Prelude.{◌≢◌, slice_get, Some, None, Option, nat_lt}
+use Rattle.std.specs.Prelude.{slice_get, Some, None, nat_lt}
 use Rattle.std.specs.Map.{lookup, keys_of}
 use Rattle.std.specs.Prelude.{position}
 use Rattle.std.proofs.lemmas.List.Quantifiers.{position-Some}
 use Rattle.c_types.specs.declared.form_key.FormKey.TheVariants as key
 use Rattle.std.proofs.lemmas.Bool.Decides.{nat_tests}
 use Rattle.std.proofs.lemmas.Option.{slice_get_within}
-use Rattle.std.proofs.lemmas.List.{length-append, append-nil, get_or_append_left}
+use Rattle.std.proofs.lemmas.List.{append-nil}
 use Rattle.std.proofs.Math.Seq.{get_or-append_seam}
 use Rattle.c_types.specs.declared.type_form.TypeForm.{TypeForm}
 use Rattle.c_types.specs.declared.type_form.TypeForm.TheVariants as form
@@ -17,12 +17,12 @@ use Rattle.c_types.specs.declared.type_table.Facts.{Facts}
 use Rattle.c_types.specs.declared.definition.Definition.{Definition}
 use Rattle.c_types.specs.CType.{CType, Void, basic, qualify, depth}
 use Rattle.c_types.specs.Layout.{known, extent_by}
-use Rattle.c_types.specs.Table.{Table, Completed, Extends, basic_forms, form_at, type_at, type_in, types, types_of, formed, tagged, tags, is_qualified, is_open_form, is_tagged, number_at, IsNew, IsOver}
-use Rattle.c_types.specs.Keeps.{Keeps, IsFact, IsDefinition, IsKeyOf, IsSettled, forms_in, completed_in, is_formed}
+use Rattle.c_types.specs.Table.{Table, Extends, basic_forms, form_at, type_at, type_in, types, types_of, formed, tagged, tags, is_qualified, is_open_form, is_tagged, number_at, IsNew, IsOver}
+use Rattle.c_types.specs.Keeps.{Keeps, IsFact, IsKeyOf, IsSettled, forms_in, completed_in, is_formed}
 use Rattle.c_types.specs.Facts.{IsFactOf, type_of}
 use Rattle.c_types.proofs.Bits.{qualify_none}
 use Rattle.c_types.proofs.Growing.{types_push, length-types}
-use Rattle.c_types.proofs.Insides.{before, behind, form_of_entry, forms_in_at, table_of, type_by_form, length-forms, length-forms_in}
+use Rattle.c_types.proofs.Insides.{before, behind, form_of_entry, table_of, type_by_form, length-forms}
 use Rattle.c_types.proofs.Known.{settled_extent, settled_stays}
 use Rattle.c_types.proofs.Stays.{Stays, fact_stays, definition_stays, more, stays_more, tags_kept}
 use Rattle.c_types.proofs.Keys.{eq, key_at, same_forms, same_keys, lookup_none}

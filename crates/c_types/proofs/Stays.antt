@@ -1,6 +1,6 @@
 -- What a later table keeps of an earlier one, and so what is known of types and definitions.
-use Rattle.std.proofs.Common.{◌≡◌, ℕ, zero, suc, ◌+◌, ◌<◌, ◌≤◌, Bool, true, false, cond, List, [], ◌∷◌, ◌++◌, length, take, get_or, refl, sym, ap, ◌∙◌, subst, true≢false, arith}
-use Rattle.std.specs.Prelude.{slice_get, Some, None, Option, is_some, nat_eq}
+use Rattle.std.proofs.Common.{◌≡◌, ℕ, suc, ◌<◌, ◌≤◌, Bool, true, false, List, [], ◌∷◌, ◌++◌, length, refl, sym, ap, ◌∙◌, subst, true≢false, arith}
+use Rattle.std.specs.Prelude.{slice_get, Some, is_some, nat_eq}
 use Rattle.std.proofs.lemmas.List.{length-append, get_or_append_left, take-append-le}
 use Rattle.std.proofs.lemmas.Bool.Decides.{nat_tests}
 use Rattle.c_types.specs.declared.type_form.TypeForm.{TypeForm}
@@ -10,11 +10,11 @@ use Rattle.c_types.specs.declared.extent.Extent.{Extent}
 use Rattle.c_types.specs.declared.type_table.Facts.{Facts}
 use Rattle.c_types.specs.declared.definition.Definition.{Definition}
 use Rattle.c_types.specs.CType.{CType, qualify, depth}
-use Rattle.c_types.specs.Layout.{known, extent_by, fields, Tag, MemberType, no_object}
-use Rattle.c_types.specs.Table.{Table, Completed, tags, tags_of, tag_of, tagged, form_at, type_at, type_in, types, number_at, extent_at, fields_at, member_types, is_qualified, is_open_form, is_union, are_objects, places_of, AreMembersBelow}
-use Rattle.c_types.specs.Keeps.{IsFact, IsDefinition, IsSettled, completed_in, place_named}
+use Rattle.c_types.specs.Layout.{known, extent_by, fields, no_object}
+use Rattle.c_types.specs.Table.{Table, Completed, tags, tags_of, tag_of, form_at, type_at, type_in, types, number_at, fields_at, member_types, is_qualified, is_open_form, is_union, are_objects, places_of, AreMembersBelow}
+use Rattle.c_types.specs.Keeps.{IsFact, IsDefinition, IsSettled, completed_in}
 use Rattle.c_types.proofs.Growing.{type_stays}
-use Rattle.c_types.proofs.Known.{Stay, settled_extent, settled_stays, fields_stay, known_apart, tags_push}
+use Rattle.c_types.proofs.Known.{Stay, settled_extent, settled_stays, fields_stay, tags_push}
 
 pub record Stays (old new : Table) : Type 0 where
   pub longer : length old.forms ≤ length new.forms

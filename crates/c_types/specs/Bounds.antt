@@ -1,5 +1,5 @@
 -- Bounds that the types of a table keep.
-use Rattle.std.specs.Prelude.{ℕ, ◌<◌, ◌≤◌, IfSome}
+use Rattle.std.specs.Prelude.{◌<◌, ◌≤◌, IfSome}
 use Rattle.c_types.specs.declared.extent.Extent.{Extent}
 
 pub record IsBounded (e : Extent) : Type 0 where

@@ -1,7 +1,7 @@
 -- Types of C (C89 3.1.2.5, 3.5.3) as trees. A structure, union or enumeration is its number in order of
 -- declaration; what its definition gave stands apart. An array has no qualifiers: they are its element's
 -- (C89 3.5.3), so each type of C is one tree.
-use Rattle.std.specs.Prelude.{ℕ, ◌+◌, Bool, true, false, not, Option, List, max, bit_or}
+use Rattle.std.specs.Prelude.{ℕ, ◌+◌, Bool, Option, max, bit_or}
 
 -- the basic types
 pub data Basic : Type 0 where

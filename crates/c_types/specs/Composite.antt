@@ -1,8 +1,8 @@
 -- The composite type of two compatible types (C89 3.1.2.6): an array takes the known size, a function the
 -- parameters that are listed, each the composite of both where both lists are there; and so for the types that
 -- these are formed from.
-use Rattle.std.specs.Prelude.{ℕ, Bool, Option, Some, None}
-use Rattle.c_types.specs.CType.{CType, Plain, Array, Kind, Simple, Pointer, Function, Structure, Union, Enumeration, Parameters, Open, Listed, CTypes, NoType, And}
+use Rattle.std.specs.Prelude.{ℕ, Option, Some, None}
+use Rattle.c_types.specs.CType.{CType, Plain, Array, Kind, Pointer, Function, Parameters, Open, Listed, CTypes, And}
 
 abbrev pub known_length : Option ℕ → Option ℕ → Option ℕ
 known_length (Some n) m = Some n

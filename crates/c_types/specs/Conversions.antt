@@ -1,7 +1,7 @@
 -- The integral promotions (C89 3.2.1.1) and the usual arithmetic conversions (C89 3.2.1.5), where char has 8
 -- bits, short 16, int and long 32, and an enumeration is int.
-use Rattle.std.specs.Prelude.{◌≡◌, Bool, true, false}
-use Rattle.c_types.specs.CType.{Basic, Void, Char, SignedChar, UnsignedChar, Short, UnsignedShort, Int, Unsigned, Long, UnsignedLong, CType, Plain, Array, Kind, Simple, Pointer, Function, Structure, Union, Enumeration, basic}
+use Rattle.std.specs.Prelude.{Bool, true, false}
+use Rattle.c_types.specs.CType.{Basic, Void, Char, SignedChar, UnsignedChar, Short, UnsignedShort, Int, Unsigned, Long, UnsignedLong, CType, Plain, Simple, Enumeration, basic}
 
 -- the integer types: char, the signed and unsigned integer types, and the enumerations, qualified or not
 abbrev pub is_integer : CType → Bool

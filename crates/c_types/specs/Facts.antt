@@ -6,17 +6,15 @@ use Rattle.std.specs.Prelude.{Vec}
 use Rattle.std.specs.declared.alloc.Global.{Global}
 use Rattle.c_types.specs.declared.composite.FunctionParts.{FunctionParts}
 use Rattle.c_types.specs.declared.type_form.TypeForm.{TypeForm}
-use Rattle.c_types.specs.declared.type_form.TypeForm.TheVariants as form
 use Rattle.c_types.specs.declared.type_form.Member.{Member}
 use Rattle.c_types.specs.declared.type_form.MemberPlace.{MemberPlace}
 use Rattle.c_types.specs.declared.type_table.Facts.{Facts}
 use Rattle.c_types.specs.declared.layout.Laying.{Laying}
-use Rattle.c_types.specs.declared.extent.Extent.{Extent}
 use Rattle.c_types.specs.Bounds.{IsBounded}
 use Rattle.c_types.specs.CType.{CType, Plain, Function, CTypes, NoType, And, qualify, depth}
 use Rattle.c_types.specs.Composite.{composite}
-use Rattle.c_types.specs.Layout.{Field, start, laid, spots, greatest_align, greatest_nesting, extent, known, no_object}
-use Rattle.c_types.specs.Table.{Table, AreSomeBelow, Extends, formed, parameters_in, tagged, tags, types, type_at, form_at, is_qualified, is_open_form, placed, places_of}
+use Rattle.c_types.specs.Layout.{Field, start, laid, greatest_align, greatest_nesting, extent, known, no_object}
+use Rattle.c_types.specs.Table.{Table, AreSomeBelow, Extends, formed, parameters_in, tagged, tags, types, type_at, form_at, is_qualified, is_open_form, places_of}
 use Rattle.c_types.specs.Keeps.{IsSettled, is_formed, place_named}
 
 -- the type of a form that is added

@@ -1,5 +1,5 @@
 -- What a table of types keeps in its fields.
-use Rattle.std.specs.Prelude.{◌≡◌, ◌≢◌, ◌≤◌, ◌<◌, ℕ, ◌+◌, Bool, true, false, Option, Some, None, List, [], ◌∷◌, map, length, slice_get, is_some}
+use Rattle.std.specs.Prelude.{◌≡◌, ◌≢◌, ◌≤◌, ◌<◌, ℕ, ◌+◌, Bool, true, false, Option, Some, List, [], ◌∷◌, length, slice_get, is_some}
 use Rattle.std.specs.Str.{bytes_eq}
 use Rattle.indexmap.specs.IndexMap.{IndexMap, get_by}
 use Rattle.std.specs.Prelude.{Vec}
@@ -15,7 +15,7 @@ use Rattle.c_types.specs.declared.type_table.Facts.{Facts}
 use Rattle.c_types.specs.declared.definition.Definition.{Definition}
 use Rattle.c_types.specs.Bounds.{IsBounded}
 use Rattle.c_types.specs.declared.extent.Extent.{Extent}
-use Rattle.c_types.specs.CType.{CType, Plain, Array, Kind, Structure, Union, qualify, depth}
+use Rattle.c_types.specs.CType.{CType, Plain, Array, Structure, Union, qualify, depth}
 use Rattle.c_types.specs.Layout.{extent_by, known, no_object}
 use Rattle.c_types.specs.Table.{Table, Completed, basic_forms, type_at, form_at, number_at, tags, extent_at, fields_at, is_qualified, is_open_form, is_union, places_of, IsOver, AreMembersBelow, are_objects}
 

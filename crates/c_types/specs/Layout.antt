@@ -3,7 +3,7 @@
 -- alignment. A bit-field goes into the current unit of 32 bits where it fits, and else opens the next unit, at
 -- the next multiple of 4; width 0 closes the unit, and the member behind a run of fields begins past the unit. In a
 -- union each member stands at 0.
-use Rattle.std.specs.Prelude.{ℕ, ◌+◌, ◌-◌, ◌*◌, ◌/◌, Bool, true, false, ◌&&◌, nat_eq, nat_le, Option, Some, None, List, [], ◌∷◌, map, max, is_some, if◌then◌else◌}
+use Rattle.std.specs.Prelude.{ℕ, ◌+◌, ◌-◌, ◌*◌, ◌/◌, Bool, true, false, nat_eq, nat_le, Option, Some, None, List, [], ◌∷◌, max, is_some, if◌then◌else◌}
 use Rattle.c_types.specs.declared.extent.Extent.{Extent}
 use Rattle.c_types.specs.declared.room.Room.{Room}
 use Rattle.c_types.specs.declared.room.Spot.{Spot}

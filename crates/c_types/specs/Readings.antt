@@ -1,6 +1,6 @@
 -- Which form a type has under its qualifiers.
 use Rattle.std.specs.Prelude.{Bool, true, false}
-use Rattle.c_types.specs.CType.{CType, Plain, Array, Kind, Pointer, Function, Enumeration}
+use Rattle.c_types.specs.CType.{CType, Plain, Array, Pointer, Function, Enumeration}
 
 abbrev pub is_array : CType → Bool
 is_array (Array of length) = true

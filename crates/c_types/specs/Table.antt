@@ -1,5 +1,5 @@
 -- What a table of types holds, and the types that its places stand for.
-use Rattle.std.specs.Prelude.{◌≡◌, ◌≢◌, ◌≤◌, ◌<◌, ◌⊎◌, ℕ, ◌+◌, Bool, true, false, ◌&&◌, ◌||◌, nat_eq, nat_lt, Option, Some, None, List, [], ◌∷◌, ◌++◌, length, take, map, get_or, slice_get, is_some, is_none, if◌then◌else◌}
+use Rattle.std.specs.Prelude.{◌≡◌, ◌≢◌, ◌<◌, ◌⊎◌, ℕ, ◌+◌, Bool, true, false, ◌&&◌, ◌||◌, nat_eq, nat_lt, Option, Some, None, List, [], ◌∷◌, ◌++◌, length, take, get_or, slice_get, is_some, if◌then◌else◌}
 use Rattle.std.specs.Str.{bytes_eq}
 use Rattle.c_types.specs.declared.type_form.TypeForm.{TypeForm}
 use Rattle.c_types.specs.declared.type_form.TypeForm.TheVariants as form
@@ -7,7 +7,7 @@ use Rattle.c_types.specs.declared.type_form.Member.{Member}
 use Rattle.c_types.specs.declared.type_form.MemberPlace.{MemberPlace}
 use Rattle.c_types.specs.declared.type_fault.TypeFault.{TypeFault}
 use Rattle.c_types.specs.declared.type_fault.TypeFault.TheVariants as fault
-use Rattle.c_types.specs.CType.{Basic, Void, Char, SignedChar, UnsignedChar, Short, UnsignedShort, Int, Unsigned, Long, UnsignedLong, CType, Plain, Array, Kind, Pointer, Function, Structure, Union, Enumeration, Parameters, Open, Listed, CTypes, NoType, And, basic, qualify, unqualified, depth}
+use Rattle.c_types.specs.CType.{Void, Char, SignedChar, UnsignedChar, Short, UnsignedShort, Int, Unsigned, Long, UnsignedLong, CType, Plain, Array, Pointer, Function, Structure, Union, Enumeration, Parameters, Open, Listed, CTypes, NoType, And, basic, qualify, unqualified, depth}
 use Rattle.c_types.specs.declared.extent.Extent.{Extent}
 use Rattle.c_types.specs.declared.room.Spot.{Spot}
 use Rattle.c_types.specs.Layout.{Field, MemberType, Tag, start, structure_extent, spots, fields, known, extent}

@@ -1,5 +1,5 @@
-use Rattle.std.proofs.Common.{◌≡◌, ◌++◌, ◌∷◌, [], List, ℕ, true, sym, ap, subst, ◌∙◌}
-use Rattle.std.specs.Prelude.{◌≢◌, None, Option, Vec, is_some}
+use Rattle.std.proofs.Common.{◌≡◌, ◌++◌, [], List, ℕ, true, sym, ap, subst, ◌∙◌}
+use Rattle.std.specs.Prelude.{None, Vec, is_some}
 use Rattle.std.specs.Map.{lookup}
 use Rattle.std.specs.Str.{bytes_eq}
 use Rattle.std.specs.declared.alloc.Global.{Global}

@@ -1,4 +1,4 @@
-use Rattle.std.proofs.Common.{◌≤◌, arith}
+use Rattle.std.proofs.Common.{arith}
 use Rattle.c_types.proofs.Sizes.{or_zero_bound}
 use Rattle.c_types.proofs.room.Room.after.Goals as goal
 

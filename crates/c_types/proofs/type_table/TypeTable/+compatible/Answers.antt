@@ -1,12 +1,11 @@
-use Rattle.std.proofs.Common.{◌≡◌, ℕ, ◌+◌, ◌*◌, ◌<◌, ◌≤◌, Bool, true, false, List, length, drop, get_or, refl, sym, ap, ◌∙◌, subst, eq-eqb, ne_eqb, arith}
-use Rattle.std.specs.Prelude.{◌&&◌, nat_eq, Some, Option}
+use Rattle.std.proofs.Common.{◌≡◌, ℕ, ◌+◌, ◌*◌, ◌<◌, ◌≤◌, true, false, List, length, drop, get_or, sym, ap, ◌∙◌, subst, eq-eqb, ne_eqb, arith}
+use Rattle.std.specs.Prelude.{◌&&◌, nat_eq, Option}
 use Rattle.std.proofs.lemmas.Option.{get_or_from_slice_get}
-use Rattle.c_types.specs.declared.type_form.TypeForm.{TypeForm}
 use Rattle.c_types.specs.declared.type_form.TypeForm.TheVariants as form
-use Rattle.c_types.specs.CType.{CType, Plain, Array, Pointer, Function, kind_of, qualify, unqualified, weight, parameters_weight, all_weight}
+use Rattle.c_types.specs.CType.{CType, Plain, Pointer, Function, kind_of, qualify, unqualified, weight, parameters_weight, all_weight}
 use Rattle.c_types.specs.Compatible.{all_compatible, compatible, kind_compatible, lengths_fit, parameters_compatible}
 use Rattle.c_types.specs.Readings.{is_array}
-use Rattle.c_types.specs.Table.{AreBelow, AreSomeBelow, IsOver, form_at, formed, is_qualified, is_tagged, number_at, parameters_in, type_at, type_in, types, types_in}
+use Rattle.c_types.specs.Table.{AreBelow, AreSomeBelow, IsOver, form_at, formed, number_at, parameters_in, type_at, type_in, types, types_in}
 use Rattle.c_types.proofs.Alike.{all_end, all_step, and_false, compatible_same, functions, numbers_differ, pointers, tagged_rest, under_arrays, under_kinds, weight_among, weight_qualify, weight_under}
 use Rattle.c_types.proofs.Bare.{bare_at, formed_beyond, means_at}
 use Rattle.c_types.proofs.Below.{below_at, some_below_more}

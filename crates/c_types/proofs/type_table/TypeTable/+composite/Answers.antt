@@ -1,9 +1,8 @@
-use Rattle.std.proofs.Common.{◌≡◌, ℕ, ◌+◌, ◌*◌, ◌<◌, ◌≤◌, ◌++◌, ◌∷◌, [], Bool, true, false, List, length, drop, get_or, refl, sym, ap, ◌∙◌, subst, arith}
-use Rattle.std.specs.Prelude.{Some, Option}
+use Rattle.std.proofs.Common.{◌≡◌, ℕ, ◌+◌, ◌*◌, ◌<◌, ◌≤◌, ◌++◌, ◌∷◌, [], true, List, length, drop, get_or, refl, sym, ap, ◌∙◌, subst, arith}
 use Rattle.std.proofs.lemmas.Result.{IfOk-weaker}
-use Rattle.c_types.specs.CType.{CType, CTypes, Parameters, Plain, Array, Pointer, Function, qualify, unqualified, weight, parameters_weight, all_weight}
+use Rattle.c_types.specs.CType.{CType, Parameters, Plain, Pointer, Function, qualify, unqualified, weight, parameters_weight}
 use Rattle.c_types.specs.Composite.{all_composite, composite, parameters_composite}
-use Rattle.c_types.specs.Facts.{Grows, first_composite, function_of, items_of, more_of}
+use Rattle.c_types.specs.Facts.{first_composite, function_of, items_of}
 use Rattle.c_types.specs.Table.{AreBelow, parameters_in, type_at, type_in, types, types_in}
 use Rattle.c_types.proofs.Alike.{weight_among, weight_bare, weight_qualify, weight_under}
 use Rattle.c_types.proofs.Below.{below_at}

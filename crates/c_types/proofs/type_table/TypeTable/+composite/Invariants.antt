@@ -1,4 +1,4 @@
-use Rattle.std.proofs.Common.{◌≡◌, ◌+◌, ◌*◌, ◌<◌, true, length, drop}
+use Rattle.std.proofs.Common.{◌≡◌, ◌+◌, ◌*◌, true, length, drop}
 use Rattle.c_types.specs.CType.{weight, parameters_weight, all_weight}
 use Rattle.c_types.specs.Composite.{all_composite}
 use Rattle.c_types.specs.Facts.{Grows, function_of, items_of}

@@ -1,6 +1,5 @@
-use Rattle.std.proofs.Common.{◌≡◌, ◌<◌, inl, length, sym, ap, refl, subst, ◌∙◌}
-use Rattle.std.specs.Prelude.{Some, slice_get}
-use Rattle.c_types.specs.Table.{Adds, Extends, formed, tagged, type_at, types}
+use Rattle.std.proofs.Common.{inl, refl, ◌∙◌}
+use Rattle.c_types.specs.Table.{tagged, types}
 use Rattle.c_types.proofs.Placed.{basic_formed, basic_untagged, extends_itself}
 use Rattle.c_types.proofs.type_table.TypeTable.add.Goals as goal
 

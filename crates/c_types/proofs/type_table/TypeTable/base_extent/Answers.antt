@@ -1,10 +1,9 @@
-use Rattle.std.proofs.Common.{◌≡◌, ◌<◌, length, sym, ap, subst, ◌∙◌}
+use Rattle.std.proofs.Common.{◌≡◌, sym, ap, subst, ◌∙◌}
 use Rattle.std.specs.Prelude.{None}
 use Rattle.std.specs.Option.{option_map}
 use Rattle.c_types.specs.declared.definition.Definition.{Definition}
 use Rattle.c_types.specs.Layout.{known, extent_by}
 use Rattle.c_types.specs.Table.{Table, basic_forms, type_in, types_of, tags, type_at, extent_at, members_among}
-use Rattle.c_types.specs.Keeps.{completed_in}
 use Rattle.c_types.proofs.Insides.{table_of}
 use Rattle.c_types.proofs.Defined.{found, members_found, AreOpen, open_all, defined_extent, own_extent}
 use Rattle.c_types.proofs.type_table.TypeTable.base_extent.Goals as goal

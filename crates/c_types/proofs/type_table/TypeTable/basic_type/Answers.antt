@@ -1,4 +1,4 @@
-use Rattle.std.proofs.Common.{◌≡◌, ◌<◌, ◌++◌, length, subst, arith}
+use Rattle.std.proofs.Common.{◌≡◌, ◌<◌, length, subst, arith}
 use Rattle.std.specs.Prelude.{false, slice_get}
 use Rattle.c_types.specs.Keeps.{forms_in}
 use Rattle.c_types.specs.Table.{Table, basic_forms, form_at, is_qualified, type_at, type_in, types_of}

@@ -1,4 +1,4 @@
-use Rattle.std.proofs.Common.{◌≡◌, ap, ◌∙◌}
+use Rattle.std.proofs.Common.{ap, ◌∙◌}
 use Rattle.c_types.specs.CType.{qualify}
 use Rattle.c_types.specs.Compatible.{compatible}
 use Rattle.c_types.specs.Table.{type_at}

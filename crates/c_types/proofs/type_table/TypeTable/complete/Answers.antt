@@ -1,11 +1,10 @@
-use Rattle.std.proofs.Common.{◌≡◌, ◌<◌, ◌∷◌, ◌++◌, [], List, ℕ, length, refl, sym, ap, subst, ◌∙◌}
+use Rattle.std.proofs.Common.{◌≡◌, ◌∷◌, ◌++◌, [], List, ℕ, length, sym, ap, subst, ◌∙◌}
 use Rattle.std.specs.Prelude.{None}
 use Rattle.indexmap.proofs.CallerLemmas.{insert_entry-new}
 use Rattle.c_types.specs.declared.definition.Definition.{Definition}
 use Rattle.c_types.specs.declared.type_form.Member.{Member}
-use Rattle.c_types.specs.Layout.{structure_extent}
-use Rattle.c_types.specs.Table.{Table, Completed, AreMembersBelow, Extends, IsOpen, fields_at, form_at, is_union, members_among, members_refusal, tags}
-use Rattle.c_types.specs.Keeps.{Keeps, IsDefinition, completed_in}
+use Rattle.c_types.specs.Table.{Table, Completed, AreMembersBelow, Extends, IsOpen, fields_at, form_at, is_union, members_refusal, tags}
+use Rattle.c_types.specs.Keeps.{Keeps, IsDefinition}
 use Rattle.c_types.specs.Facts.{IsLaid}
 use Rattle.c_types.proofs.Insides.{table_of}
 use Rattle.c_types.proofs.Stays.{tags_completed, with}

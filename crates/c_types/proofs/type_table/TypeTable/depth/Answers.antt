@@ -1,4 +1,4 @@
-use Rattle.std.proofs.Common.{◌≡◌, sym}
+use Rattle.std.proofs.Common.{sym}
 use Rattle.c_types.proofs.Insides.{basic_depth}
 use Rattle.c_types.proofs.type_table.TypeTable.depth.Goals as goal
 

@@ -1,7 +1,7 @@
-use Rattle.std.proofs.Common.{◌≡◌, ◌<◌, ◌≤◌, ◌+◌, ◌-◌, ◌++◌, length, sym, subst, true≢false, arith}
+use Rattle.std.proofs.Common.{◌≡◌, ◌<◌, ◌+◌, ◌-◌, ◌++◌, length, sym, subst, true≢false, arith}
 use Rattle.std.specs.Prelude.{slice_get, Some}
 use Rattle.c_types.specs.Table.{Table, IsOver}
-use Rattle.c_types.specs.Keeps.{IsFact, forms_in, completed_in}
+use Rattle.c_types.specs.Keeps.{IsFact, forms_in}
 use Rattle.c_types.proofs.Insides.{form_of_entry, length-forms, table_of}
 use Rattle.c_types.proofs.type_table.TypeTable.entry.Goals as goal
 

@@ -1,4 +1,4 @@
-use Rattle.std.proofs.Common.{◌≡◌, sym, ap, ◌∙◌}
+use Rattle.std.proofs.Common.{sym, ap, ◌∙◌}
 use Rattle.c_types.specs.Layout.{known, extent_by}
 use Rattle.c_types.specs.Table.{tags, type_at}
 use Rattle.c_types.proofs.Known.{extent_qualify}

@@ -1,7 +1,7 @@
-use Rattle.std.proofs.Common.{◌≡◌, ◌<◌, ◌++◌, length, refl, sym, subst, ◌∙◌}
+use Rattle.std.proofs.Common.{◌≡◌, ◌<◌, length, refl, sym, subst, ◌∙◌}
 use Rattle.std.specs.Prelude.{slice_get, Some}
 use Rattle.std.proofs.lemmas.Option.{slice_get_read}
-use Rattle.c_types.specs.Table.{Table, basic_forms, formed, types, number_at, type_at}
+use Rattle.c_types.specs.Table.{Table, formed, types, number_at, type_at}
 use Rattle.c_types.specs.Keeps.{forms_in}
 use Rattle.c_types.proofs.Insides.{before, basic_over, table_of, type_by_form}
 use Rattle.c_types.proofs.type_table.TypeTable.form.Goals as goal

@@ -1,4 +1,4 @@
-use Rattle.std.proofs.Common.{◌≡◌, ◌<◌, ◌+◌, ◌∷◌, List, Bool, ℕ, true, length, drop, get_or, sym, ap, subst, ◌∙◌, arith}
+use Rattle.std.proofs.Common.{◌≡◌, ◌<◌, ◌+◌, ◌∷◌, List, Bool, ℕ, true, length, drop, get_or, sym, ap, subst, ◌∙◌}
 use Rattle.std.specs.Prelude.{◌≢◌}
 use Rattle.std.proofs.lemmas.List.{drop_more}
 use Rattle.c_types.specs.declared.extent.Extent.{Extent}
@@ -6,7 +6,7 @@ use Rattle.c_types.specs.declared.layout.Laying.{Laying}
 use Rattle.c_types.specs.declared.type_fault.TypeFault.TheVariants as fault
 use Rattle.c_types.specs.declared.type_form.Member.{Member}
 use Rattle.c_types.specs.Layout.{structure_extent}
-use Rattle.c_types.specs.Table.{Table, AreMembersBelow, extent_at, fields_at, is_above}
+use Rattle.c_types.specs.Table.{Table, extent_at, fields_at, is_above}
 use Rattle.c_types.proofs.Below.{member_below}
 use Rattle.c_types.proofs.Laid.{IsLaying, handed_on, none_laid, one_laid, too_large}
 use Rattle.c_types.proofs.type_table.TypeTable.lay.Goals as goal

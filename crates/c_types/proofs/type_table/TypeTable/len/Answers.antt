@@ -1,4 +1,4 @@
-use Rattle.std.proofs.Common.{◌≡◌, ◌+◌, length, sym, subst, arith}
+use Rattle.std.proofs.Common.{◌≡◌, ◌+◌, length, subst, arith}
 use Rattle.c_types.specs.Table.{Table}
 use Rattle.c_types.proofs.Insides.{length-forms}
 use Rattle.c_types.proofs.type_table.TypeTable.len.Goals as goal

@@ -1,7 +1,7 @@
-use Rattle.std.proofs.Common.{◌≡◌, ◌<◌, length, sym, ap, subst, ◌∙◌, arith}
+use Rattle.std.proofs.Common.{◌<◌, length, sym, ap, subst, ◌∙◌, arith}
 use Rattle.std.proofs.lemmas.Option.{slice_get-get_or}
 use Rattle.c_types.specs.declared.type_form.TypeForm.TheVariants as form
-use Rattle.c_types.specs.Table.{Table, IsOver, form_at, type_at, place_of_member}
+use Rattle.c_types.specs.Table.{Table, IsOver, form_at, place_of_member}
 use Rattle.c_types.specs.Keeps.{IsDefinition, completed_in}
 use Rattle.c_types.proofs.Insides.{table_of}
 use Rattle.c_types.proofs.Defined.{AreOpen, open_all, found}

@@ -1,7 +1,6 @@
 use Rattle.std.proofs.Common.{◌≡◌, [], sym, ap, subst, ◌∙◌}
 use Rattle.std.specs.Option.{option_map}
 use Rattle.c_types.specs.declared.definition.Definition.{Definition}
-use Rattle.c_types.specs.declared.type_form.Member.{Member}
 use Rattle.c_types.specs.Table.{Table, list_or_none, members_at}
 use Rattle.c_types.proofs.Defined.{members_found}
 use Rattle.c_types.proofs.type_table.TypeTable.members.Goals as goal

@@ -1,10 +1,10 @@
-use Rattle.std.proofs.Common.{◌≡◌, ◌+◌, ◌<◌, ◌++◌, ◌∷◌, [], List, length, inl, inr, sym, ap, refl, subst, ◌∙◌, arith}
-use Rattle.std.specs.Prelude.{Some, slice_get, false}
+use Rattle.std.proofs.Common.{◌≡◌, ◌+◌, ◌<◌, ◌∷◌, [], List, length, inl, inr, sym, ap, refl, subst, ◌∙◌, arith}
+use Rattle.std.specs.Prelude.{Some, slice_get}
 use Rattle.std.proofs.lemmas.List.{length-append}
 use Rattle.indexmap.proofs.CallerLemmas.{insert_entry-new}
 use Rattle.c_types.specs.declared.form_key.FormKey.{FormKey}
 use Rattle.c_types.specs.declared.type_table.Formed.{Formed}
-use Rattle.c_types.specs.Table.{Table, Adds, Extends, IsNew, IsOver, formed, is_tagged, tagged, type_at, types}
+use Rattle.c_types.specs.Table.{Table, Extends, IsNew, IsOver, formed, tagged, type_at, types}
 use Rattle.c_types.specs.Keeps.{IsKeyOf, Keeps}
 use Rattle.c_types.specs.Facts.{IsFactOf}
 use Rattle.c_types.proofs.Insides.{length-forms, table_of}

@@ -1,4 +1,4 @@
-use Rattle.std.proofs.Common.{◌≡◌, sym, ap, ◌∙◌}
+use Rattle.std.proofs.Common.{sym, ap, ◌∙◌}
 use Rattle.c_types.specs.CType.{qualify}
 use Rattle.c_types.specs.Table.{type_at}
 use Rattle.c_types.proofs.Bits.{qualify_none}

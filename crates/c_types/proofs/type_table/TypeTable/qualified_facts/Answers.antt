@@ -1,9 +1,7 @@
-use Rattle.std.proofs.Common.{◌≡◌, ◌<◌, ◌≤◌, length, refl, sym, ap, subst, ◌∙◌, true≢false, arith}
-use Rattle.std.specs.Prelude.{None}
-use Rattle.c_types.specs.declared.extent.Extent.{Extent}
+use Rattle.std.proofs.Common.{sym, ap, subst, ◌∙◌, true≢false, arith}
 use Rattle.c_types.specs.Bounds.{IsBounded}
 use Rattle.c_types.specs.CType.{qualify, depth}
-use Rattle.c_types.specs.Layout.{extent_by, known, no_object}
+use Rattle.c_types.specs.Layout.{extent_by, known}
 use Rattle.c_types.specs.Table.{excess, extent_at, tags, type_at}
 use Rattle.c_types.proofs.Bits.{depth_qualify, qualify_twice}
 use Rattle.c_types.proofs.Fresh.{no_object_bounded}

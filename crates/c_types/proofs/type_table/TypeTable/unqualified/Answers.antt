@@ -1,6 +1,5 @@
-use Rattle.std.proofs.Common.{◌≡◌, sym, refl, subst}
+use Rattle.std.proofs.Common.{sym}
 use Rattle.c_types.specs.Table.{type_at}
-use Rattle.c_types.specs.CType.{qualify}
 use Rattle.c_types.proofs.Bits.{qualify_none}
 use Rattle.c_types.proofs.type_table.TypeTable.unqualified.Goals as goal
 
