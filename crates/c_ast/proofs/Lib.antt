@@ -18,3 +18,6 @@ pub mod UnitLayers
 pub mod Tallest
 pub mod ValueHeights
 pub mod UnitValueHeights
+pub mod ShownValues
+pub mod SpelledTexts
+pub mod UnitShownValues

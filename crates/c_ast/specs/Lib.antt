@@ -18,3 +18,7 @@ pub mod ValueHeights
 pub mod UnitValueHeights
 pub mod Examples
 pub mod Pieces
+pub mod Printed
+pub mod TreeTexts
+pub mod ValueTexts
+pub mod UnitValueTexts

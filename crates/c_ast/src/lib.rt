@@ -7,12 +7,16 @@ mod keyword;
 mod laws;
 mod operator;
 mod pieces;
+mod print_expr;
+mod print_unit;
 mod sign;
 mod specifier;
+mod spelled_by;
 mod spelling;
 mod statement;
 #[cfg(test)]
 mod tests;
+mod token_text;
 mod tree_height;
 mod unit;
 mod unit_height;
@@ -29,6 +33,7 @@ pub use operator::{
     AssignOperator, BinaryOperator, MemberOperator, PostfixOperator, PrefixOperator,
 };
 pub use pieces::{one_declaration, one_declarator, one_expression, one_statement, one_type};
+pub use print_unit::print;
 pub use sign::{sign_number, sign_text};
 pub use specifier::{BasicType, Qualifier, RecordKind, Storage};
 pub use statement::{

@@ -81,3 +81,45 @@ fn heights(rt: HostRuntime) -> Result<(), Fail> {
     assert_eq!(rt; height(&returning(rt.alloc(), e)?), 501);
     Ok(())
 }
+
+/// `"a\n"[i], 7u` as an expression.
+fn indexed_literal(alloc: Global) -> Result<Expr, Memory> {
+    let mut texts = Items::new(alloc);
+    texts.push(Bytes::copied(alloc, b"a\n")?)?;
+    let literal = Expr {
+        line: 1,
+        form: ExprForm::Text(texts),
+    };
+    let index = Expr {
+        line: 1,
+        form: ExprForm::Name(Bytes::copied(alloc, b"i")?),
+    };
+    let mut parts = Items::new(alloc);
+    parts.push(Expr {
+        line: 1,
+        form: ExprForm::Index(Box::new(alloc, literal)?, Box::new(alloc, index)?),
+    })?;
+    parts.push(Expr {
+        line: 1,
+        form: ExprForm::Integer {
+            value: 7,
+            kind: IntKind::Unsigned,
+        },
+    })?;
+    Ok(Expr {
+        line: 1,
+        form: ExprForm::Comma(parts),
+    })
+}
+
+#[test]
+fn prints(rt: HostRuntime) -> Result<(), Fail> {
+    let unit = returning(rt.alloc(), indexed_literal(rt.alloc())?)?;
+    let text = print(rt.alloc(), &unit)?;
+    assert_eq!(rt;
+        text.as_slice(),
+        b"main ( ) { return \"a\\012\" [ i ] , 7u ; }".as_slice()
+    );
+    assert_eq!(rt; height(&unit), 7);
+    Ok(())
+}

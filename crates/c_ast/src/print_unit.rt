@@ -1,0 +1,310 @@
+//! Declarations, statements and units as texts.
+ghost use Rattle.std.specs.Prelude.{◌≡◌, ◌<◌, ◌++◌, drop, flat_map, OnOk, IfOk};
+ghost use Rattle.c_ast.specs.Printed.{printed};
+ghost use Rattle.c_ast.specs.TreeTexts.{listed, sign_text, word_text};
+ghost use Rattle.c_ast.specs.ValueTexts.{shown_if_any, expr_shown, specifiers_shown};
+ghost use Rattle.c_ast.specs.UnitValueTexts.{initialiser_shown, shown_initialiser, init_shown, declaration_shown, statement_shown, shown_else, block_shown, external_shown};
+ghost use Rattle.c_ast.specs.UnitViews.{unit_of};
+
+use crate::expr::{Expr, Specifiers};
+use crate::print_expr::{push_declarator, push_end, push_expr, push_maybe, push_specifiers};
+use crate::statement::{
+    Block, Declaration, InitDeclarator, Initialiser, InitialiserForm, Statement, StatementForm,
+};
+use crate::token_text::{push_keyword, push_name, push_sign};
+use crate::unit::{External, ExternalForm, Unit};
+use lcc_base::{Bytes, Memory};
+use std::alloc::Global;
+
+/// Adds an initialiser.
+#[cycle(initialisers)]
+#[tactic(auto, using(std::proofs::lemmas::Grind::common_steps, crate::proofs::UnitShownValues::initialiser_forms))]
+fn push_initialiser(out: &mut Bytes, initialiser: &Initialiser) -> Result<(), Memory>
+    ensures { OnOk result (out.new ≡ out.old ++ initialiser_shown initialiser.now) }
+{
+    match &initialiser.form {
+        InitialiserForm::Expr(e) => push_expr(out, e),
+        InitialiserForm::List { items, comma } => {
+            push_sign(out, 4)?;
+            push_initialisers(out, items.as_slice())?;
+            push_end(out, *comma)
+        }
+    }
+}
+
+/// Adds initialisers with commas between.
+#[cycle(initialisers)]
+fn push_initialisers(out: &mut Bytes, items: &[Initialiser]) -> Result<(), Memory>
+    ensures { OnOk result (out.new ≡ out.old ++ listed initialiser_shown items.now) }
+{
+    let Some((first, rest)) = items.split_first() else {
+        return Ok(());
+    };
+    push_initialiser(out, first)?;
+    for item in rest {
+        push_sign(out, 45)?;
+        push_initialiser(out, item)?;
+    }
+    Ok(())
+}
+
+/// Adds a declarator and its initialiser, if it has one.
+#[tactic(auto, using(std::proofs::lemmas::Grind::common_steps, crate::proofs::UnitShownValues::init_parts))]
+fn push_init(out: &mut Bytes, init: &InitDeclarator) -> Result<(), Memory>
+    ensures { OnOk result (out.new ≡ out.old ++ init_shown init.now) }
+{
+    push_declarator(out, &init.declarator)?;
+    push_maybe_initialiser(out, &init.initialiser)
+}
+
+/// Adds a `=` and an initialiser, if there is one.
+fn push_maybe_initialiser(out: &mut Bytes, initialiser: &Option<Initialiser>) -> Result<(), Memory>
+    ensures { OnOk result (out.new ≡ out.old ++ shown_initialiser initialiser.now) }
+{
+    match initialiser {
+        Some(initialiser) => {
+            push_sign(out, 34)?;
+            push_initialiser(out, initialiser)
+        }
+        None => Ok(()),
+    }
+}
+
+/// Adds declarators and their initialisers with commas between.
+fn push_inits(out: &mut Bytes, inits: &[InitDeclarator]) -> Result<(), Memory>
+    ensures { OnOk result (out.new ≡ out.old ++ listed init_shown inits.now) }
+{
+    let Some((first, rest)) = inits.split_first() else {
+        return Ok(());
+    };
+    push_init(out, first)?;
+    for init in rest {
+        push_sign(out, 45)?;
+        push_init(out, init)?;
+    }
+    Ok(())
+}
+
+/// Adds a declaration.
+#[tactic(auto, using(std::proofs::lemmas::Grind::common_steps, crate::proofs::UnitShownValues::declaration_parts))]
+fn push_declaration(out: &mut Bytes, declaration: &Declaration) -> Result<(), Memory>
+    ensures { OnOk result (out.new ≡ out.old ++ declaration_shown declaration.now) }
+{
+    push_specifiers(out, &declaration.specifiers)?;
+    push_inits(out, declaration.declarators.as_slice())?;
+    push_sign(out, 32)
+}
+
+/// Adds declarations.
+fn push_declarations(out: &mut Bytes, declarations: &[Declaration]) -> Result<(), Memory>
+    ensures { OnOk result (out.new ≡ out.old ++ flat_map declaration_shown declarations.now) }
+{
+    for declaration in declarations {
+        push_declaration(out, declaration)?;
+    }
+    Ok(())
+}
+
+/// Adds a keyword, and an expression in parentheses.
+fn push_test(out: &mut Bytes, word: u8, e: &Expr) -> Result<(), Memory>
+    requires { word < 32 }
+    ensures { OnOk result (out.new ≡ out.old ++ (word_text word ++ sign_text 2 ++ expr_shown e.now ++ sign_text 3)) }
+{
+    push_keyword(out, word)?;
+    push_sign(out, 2)?;
+    push_expr(out, e)?;
+    push_sign(out, 3)
+}
+
+/// Adds a statement.
+#[cycle(statements)]
+#[tactic(auto, using(std::proofs::lemmas::Grind::common_steps, crate::proofs::UnitShownValues::statement_forms))]
+fn push_statement(out: &mut Bytes, statement: &Statement) -> Result<(), Memory>
+    ensures { OnOk result (out.new ≡ out.old ++ statement_shown statement.now) }
+{
+    match &statement.form {
+        StatementForm::Label(name, s) => {
+            push_name(out, name)?;
+            push_sign(out, 31)?;
+            push_statement(out, s)
+        }
+        StatementForm::Case(e, s) => {
+            push_keyword(out, 2)?;
+            push_expr(out, e)?;
+            push_sign(out, 31)?;
+            push_statement(out, s)
+        }
+        StatementForm::Default(s) => {
+            push_keyword(out, 6)?;
+            push_sign(out, 31)?;
+            push_statement(out, s)
+        }
+        StatementForm::Expression(e) => {
+            push_maybe(out, e)?;
+            push_sign(out, 32)
+        }
+        StatementForm::Block(block) => push_block(out, block),
+        StatementForm::If(e, s, otherwise) => {
+            push_test(out, 15, e)?;
+            push_statement(out, s)?;
+            push_else(out, otherwise)
+        }
+        StatementForm::Switch(e, s) => {
+            push_test(out, 25, e)?;
+            push_statement(out, s)
+        }
+        StatementForm::While(e, s) => {
+            push_test(out, 31, e)?;
+            push_statement(out, s)
+        }
+        StatementForm::Do(s, e) => {
+            push_keyword(out, 7)?;
+            push_statement(out, s)?;
+            push_test(out, 31, e)?;
+            push_sign(out, 32)
+        }
+        StatementForm::For(a, b, c, s) => {
+            push_for(out, a, b, c)?;
+            push_statement(out, s)
+        }
+        StatementForm::Goto(name) => {
+            push_keyword(out, 14)?;
+            push_name(out, name)?;
+            push_sign(out, 32)
+        }
+        StatementForm::Continue => {
+            push_keyword(out, 5)?;
+            push_sign(out, 32)
+        }
+        StatementForm::Break => {
+            push_keyword(out, 1)?;
+            push_sign(out, 32)
+        }
+        StatementForm::Return(e) => {
+            push_keyword(out, 19)?;
+            push_maybe(out, e)?;
+            push_sign(out, 32)
+        }
+    }
+}
+
+/// Adds `else` and a statement, if there is one.
+#[cycle(statements)]
+fn push_else(out: &mut Bytes, otherwise: &Option<Box<Statement>>) -> Result<(), Memory>
+    ensures { OnOk result (out.new ≡ out.old ++ shown_else otherwise.now) }
+{
+    match otherwise {
+        Some(statement) => {
+            push_keyword(out, 9)?;
+            push_statement(out, statement)
+        }
+        None => Ok(()),
+    }
+}
+
+/// Adds `for` and its three expressions in parentheses.
+fn push_for(
+    out: &mut Bytes,
+    first: &Option<Expr>,
+    test: &Option<Expr>,
+    step: &Option<Expr>,
+) -> Result<(), Memory>
+    ensures { OnOk result (out.new ≡ out.old ++ (word_text 13 ++ sign_text 2 ++ shown_if_any expr_shown first.now ++ sign_text 32 ++ shown_if_any expr_shown test.now ++ sign_text 32 ++ shown_if_any expr_shown step.now ++ sign_text 3)) }
+{
+    push_keyword(out, 13)?;
+    push_sign(out, 2)?;
+    push_maybe(out, first)?;
+    push_sign(out, 32)?;
+    push_maybe(out, test)?;
+    push_sign(out, 32)?;
+    push_maybe(out, step)?;
+    push_sign(out, 3)
+}
+
+/// Adds statements.
+#[cycle(statements)]
+fn push_statements(out: &mut Bytes, statements: &[Statement]) -> Result<(), Memory>
+    ensures { OnOk result (out.new ≡ out.old ++ flat_map statement_shown statements.now) }
+{
+    for statement in statements {
+        push_statement(out, statement)?;
+    }
+    Ok(())
+}
+
+/// Adds a block.
+#[cycle(statements)]
+#[tactic(auto, using(std::proofs::lemmas::Grind::common_steps, crate::proofs::UnitShownValues::block_parts))]
+fn push_block(out: &mut Bytes, block: &Block) -> Result<(), Memory>
+    ensures { OnOk result (out.new ≡ out.old ++ block_shown block.now) }
+{
+    push_sign(out, 4)?;
+    push_declarations(out, block.declarations.as_slice())?;
+    push_statements(out, block.statements.as_slice())?;
+    push_sign(out, 5)
+}
+
+/// Adds specifiers, if there are any.
+fn push_maybe_specifiers(out: &mut Bytes, specifiers: &Option<Specifiers>) -> Result<(), Memory>
+    ensures { OnOk result (out.new ≡ out.old ++ shown_if_any specifiers_shown specifiers.now) }
+{
+    match specifiers {
+        Some(specifiers) => push_specifiers(out, specifiers),
+        None => Ok(()),
+    }
+}
+
+/// Adds an external declaration.
+#[tactic(auto, using(std::proofs::lemmas::Grind::common_steps, crate::proofs::UnitShownValues::external_forms))]
+fn push_external(out: &mut Bytes, external: &External) -> Result<(), Memory>
+    ensures { OnOk result (out.new ≡ out.old ++ external_shown external.now) }
+{
+    match &external.form {
+        ExternalForm::Function {
+            specifiers,
+            declarator,
+            parameters,
+            body,
+        } => {
+            push_maybe_specifiers(out, specifiers)?;
+            push_declarator(out, declarator)?;
+            push_declarations(out, parameters.as_slice())?;
+            push_block(out, body)
+        }
+        ExternalForm::Declaration(declaration) => push_declaration(out, declaration),
+        ExternalForm::Empty => push_sign(out, 32),
+    }
+}
+
+/// Adds external declarations.
+fn push_externals(out: &mut Bytes, externals: &[External]) -> Result<(), Memory>
+    ensures { OnOk result (out.new ≡ out.old ++ flat_map external_shown externals.now) }
+{
+    for external in externals {
+        push_external(out, external)?;
+    }
+    Ok(())
+}
+
+/// All but the first byte.
+fn without_first(text: Bytes) -> Bytes
+    ensures { result ≡ drop 1 text }
+{
+    let mut bytes = text.into_vec();
+    if !bytes.is_empty() {
+        bytes.remove(0);
+    }
+    Bytes::from(bytes)
+}
+
+/// The unit as a text: its tokens with one blank between. An integer constant is decimal, with the
+/// suffix of its type; a character that is not printable, a quote or a backslash is an octal escape
+/// of three digits. `Memory` comes where an allocation is refused.
+#[tactic(auto, using(std::proofs::lemmas::Grind::common_steps, crate::proofs::UnitShownValues::unit_printed_is))]
+pub fn print(alloc: Global, unit: &Unit) -> Result<Bytes, Memory>
+    ensures { IfOk result (λ text. text ≡ printed (unit_of unit.now)) }
+{
+    let mut out = Bytes::new(alloc);
+    push_externals(&mut out, unit.externals.as_slice())?;
+    Ok(without_first(out))
+}
