@@ -1,5 +1,5 @@
 -- The trees of values, one layer at a time.
-use Rattle.std.proofs.Common.{◌≡◌, ℕ, Bool, Option, Some, None, List, map, refl, sym, ap, ◌∙◌}
+use Rattle.std.proofs.Common.{◌≡◌, ℕ, Option, Some, None, map, refl, sym, ap, ◌∙◌}
 use Rattle.c_ast.specs.declared.expr.DeclaratorCore.{DeclaratorCore-F, fold-roll-DeclaratorCore}
 use Rattle.c_ast.specs.declared.expr.DeclaratorCore.TheVariants as declarator_core
 use Rattle.c_ast.specs.declared.expr.ExprForm.{ExprForm-F, fold-roll-ExprForm}

@@ -1,5 +1,5 @@
 -- The trees of initialisers and statements as values, one layer at a time.
-use Rattle.std.proofs.Common.{◌≡◌, ℕ, Option, Some, None, List, map, refl, sym, ap, ◌∙◌}
+use Rattle.std.proofs.Common.{◌≡◌, ℕ, Some, None, map, sym, ap, ◌∙◌}
 use Rattle.c_ast.specs.declared.statement.InitialiserForm.{InitialiserForm-F, fold-roll-InitialiserForm}
 use Rattle.c_ast.specs.declared.statement.InitialiserForm.TheVariants as initialiser_form
 use Rattle.c_ast.specs.declared.statement.Initialiser.{Initialiser, out-Initialiser, fold_out-Initialiser}

@@ -1,7 +1,6 @@
 -- The heights of declarations and statements as values, one layer at a time.
 use Rattle.std.proofs.Common.{◌≡◌, ℕ, ◌+◌, max, Option, Some, None, List, [], ◌∷◌, map, refl, sym, ap, ◌∙◌}
 use Rattle.std.proofs.Math.Nat.{max-zero}
-use Rattle.c_ast.specs.declared.expr.Expr.{Expr}
 use Rattle.c_ast.specs.declared.expr.Specifiers.{Specifiers}
 use Rattle.c_ast.specs.declared.statement.InitialiserForm.{InitialiserForm, InitialiserForm-F, fold_out-InitialiserForm}
 use Rattle.c_ast.specs.declared.statement.InitialiserForm.TheVariants as initialiser_form

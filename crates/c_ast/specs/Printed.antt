@@ -1,7 +1,7 @@
 -- The text of tokens: each token's own, with one blank between. Integer constants are decimal with the suffix of their type;
 -- a character stands for itself where it may, and is an octal escape of three digits elsewhere.
 -- Source: C89 3.1.
-use Rattle.std.specs.Prelude.{◌+◌, ◌/◌, ◌%◌, ◌==◌, ◌&&◌, not, nat_le, if◌then◌else◌, ℕ, ℤ, Bool, Option, Some, None, List, [], ◌∷◌, ◌++◌, flat_map, codes, decimal, slice_get}
+use Rattle.std.specs.Prelude.{◌+◌, ◌/◌, ◌%◌, ◌==◌, ◌&&◌, not, nat_le, if◌then◌else◌, ℕ, Bool, Option, Some, None, List, [], ◌∷◌, ◌++◌, flat_map, codes, decimal, slice_get}
 use Rattle.std.specs.Int.{cast_unsigned, w32}
 use Rattle.c_ast.specs.declared.class.IntKind.{IntKind}
 use Rattle.c_ast.specs.declared.class.IntKind.TheVariants.{Int, Unsigned, Long, UnsignedLong}

@@ -1,5 +1,5 @@
 -- The texts of values: those of the trees that they are.
-use Rattle.std.specs.Prelude.{ℕ, Option, Some, None, List, [], ◌∷◌, ◌++◌}
+use Rattle.std.specs.Prelude.{ℕ, Option, Some, None, List, [], ◌++◌}
 use Rattle.c_ast.specs.declared.expr.Expr.{Expr}
 use Rattle.c_ast.specs.declared.expr.TypeName.{TypeName}
 use Rattle.c_ast.specs.declared.expr.Specifiers.{Specifiers}
