@@ -16,6 +16,8 @@ fn tokens(rt: HostRuntime) -> Result<(), Fail> {
     parser.pass();
     assert_eq!(rt; parser.token(), Some(second));
     parser.pass();
+    let last = parser.token().expect(&rt, "a token");
+    assert_eq!(rt; last.class, Class::Sign(32));
     assert_eq!(rt; parser.after(), None);
     parser.pass();
     assert_eq!(rt; parser.token(), None);
