@@ -1,7 +1,37 @@
+//! The keywords by their numbers. Source: C89 3.1.1.
 ghost use Rattle.std.specs.Prelude.{◌≡◌, ◌<◌, slice_get, Some};
 ghost use Rattle.c_ast.specs.Keywords.{keywords, keyword_of};
 
 use crate::spelling::number_among;
+
+/// The number of `break`.
+pub const BREAK: u8 = 1;
+/// The number of `case`.
+pub const CASE: u8 = 2;
+/// The number of `continue`.
+pub const CONTINUE: u8 = 5;
+/// The number of `default`.
+pub const DEFAULT: u8 = 6;
+/// The number of `do`.
+pub const DO: u8 = 7;
+/// The number of `else`.
+pub const ELSE: u8 = 9;
+/// The number of `enum`.
+pub const ENUM: u8 = 10;
+/// The number of `for`.
+pub const FOR: u8 = 13;
+/// The number of `goto`.
+pub const GOTO: u8 = 14;
+/// The number of `if`.
+pub const IF: u8 = 15;
+/// The number of `return`.
+pub const RETURN: u8 = 19;
+/// The number of `sizeof`.
+pub const SIZEOF: u8 = 22;
+/// The number of `switch`.
+pub const SWITCH: u8 = 25;
+/// The number of `while`.
+pub const WHILE: u8 = 31;
 
 /// How the keyword of this number is spelled. Source: C89 3.1.1.
 pub fn keyword_text(number: u8) -> &'static [u8]

@@ -3,13 +3,13 @@
 
 mod class;
 mod expr;
-mod keyword;
+pub mod keyword;
 mod laws;
 mod operator;
 mod pieces;
 mod print_expr;
 mod print_unit;
-mod sign;
+pub mod sign;
 mod specifier;
 mod spelled_by;
 mod spelling;

@@ -15,6 +15,7 @@ use crate::spelled_by::{
 use crate::token_text::{
     push_character_constant, push_integer, push_keyword, push_name, push_sign, push_text,
 };
+use crate::{keyword, sign};
 use lcc_base::{Bytes, Items, Memory};
 
 /// Adds an expression.
@@ -29,21 +30,21 @@ pub(crate) fn push_expr(out: &mut Bytes, e: &Expr) -> Result<(), Memory>
         ExprForm::Character(value) => push_character_constant(out, *value),
         ExprForm::Text(texts) => push_texts(out, texts.as_slice()),
         ExprForm::Enclosed(a) => {
-            push_sign(out, 2)?;
+            push_sign(out, sign::OPEN)?;
             push_expr(out, a)?;
-            push_sign(out, 3)
+            push_sign(out, sign::CLOSE)
         }
         ExprForm::Index(a, i) => {
             push_expr(out, a)?;
-            push_sign(out, 0)?;
+            push_sign(out, sign::OPEN_BRACKET)?;
             push_expr(out, i)?;
-            push_sign(out, 1)
+            push_sign(out, sign::CLOSE_BRACKET)
         }
         ExprForm::Call(f, arguments) => {
             push_expr(out, f)?;
-            push_sign(out, 2)?;
+            push_sign(out, sign::OPEN)?;
             push_sequence(out, arguments.as_slice())?;
-            push_sign(out, 3)
+            push_sign(out, sign::CLOSE)
         }
         ExprForm::Member(operator, a, name) => {
             push_expr(out, a)?;
@@ -59,11 +60,11 @@ pub(crate) fn push_expr(out: &mut Bytes, e: &Expr) -> Result<(), Memory>
             push_expr(out, a)
         }
         ExprForm::SizeofExpr(a) => {
-            push_keyword(out, 22)?;
+            push_keyword(out, keyword::SIZEOF)?;
             push_expr(out, a)
         }
         ExprForm::SizeofType(name) => {
-            push_keyword(out, 22)?;
+            push_keyword(out, keyword::SIZEOF)?;
             push_enclosed_type(out, name)
         }
         ExprForm::Cast(name, a) => {
@@ -77,9 +78,9 @@ pub(crate) fn push_expr(out: &mut Bytes, e: &Expr) -> Result<(), Memory>
         }
         ExprForm::Conditional(a, b, c) => {
             push_expr(out, a)?;
-            push_sign(out, 30)?;
+            push_sign(out, sign::QUESTION)?;
             push_expr(out, b)?;
-            push_sign(out, 31)?;
+            push_sign(out, sign::COLON)?;
             push_expr(out, c)
         }
         ExprForm::Assign(operator, a, b) => {
@@ -101,7 +102,7 @@ fn push_sequence(out: &mut Bytes, parts: &[Expr]) -> Result<(), Memory>
     };
     push_expr(out, first)?;
     for part in rest {
-        push_sign(out, 45)?;
+        push_sign(out, sign::COMMA)?;
         push_expr(out, part)?;
     }
     Ok(())
@@ -149,10 +150,10 @@ fn push_texts(out: &mut Bytes, texts: &[Bytes]) -> Result<(), Memory>
 fn push_enclosed_type(out: &mut Bytes, name: &TypeName) -> Result<(), Memory>
     ensures { OnOk result (out.new ≡ out.old ++ (sign_text 2 ++ type_name_shown name.now ++ sign_text 3)) }
 {
-    push_sign(out, 2)?;
+    push_sign(out, sign::OPEN)?;
     push_specifiers(out, &name.specifiers)?;
     push_maybe_declarator(out, &name.declarator)?;
-    push_sign(out, 3)
+    push_sign(out, sign::CLOSE)
 }
 
 /// Adds specifiers.
@@ -188,9 +189,9 @@ fn push_specifier(out: &mut Bytes, specifier: &Specifier) -> Result<(), Memory>
         SpecifierForm::Record { kind, tag, members } => {
             push_keyword(out, record_word(*kind))?;
             push_tag(out, tag)?;
-            push_sign(out, 4)?;
+            push_sign(out, sign::OPEN_BRACE)?;
             push_members(out, members.as_slice())?;
-            push_sign(out, 5)
+            push_sign(out, sign::CLOSE_BRACE)
         }
         SpecifierForm::RecordTag { kind, tag } => {
             push_keyword(out, record_word(*kind))?;
@@ -201,14 +202,14 @@ fn push_specifier(out: &mut Bytes, specifier: &Specifier) -> Result<(), Memory>
             enumerators,
             comma,
         } => {
-            push_keyword(out, 10)?;
+            push_keyword(out, keyword::ENUM)?;
             push_tag(out, tag)?;
-            push_sign(out, 4)?;
+            push_sign(out, sign::OPEN_BRACE)?;
             push_enumerators(out, enumerators.as_slice())?;
             push_end(out, *comma)
         }
         SpecifierForm::EnumTag(tag) => {
-            push_keyword(out, 10)?;
+            push_keyword(out, keyword::ENUM)?;
             push_name(out, tag)
         }
         SpecifierForm::Named(name) => push_name(out, name),
@@ -230,10 +231,10 @@ pub(crate) fn push_end(out: &mut Bytes, comma: bool) -> Result<(), Memory>
     ensures { OnOk result (out.new ≡ out.old ++ end_text comma) }
 {
     if !comma {
-        return push_sign(out, 5);
+        return push_sign(out, sign::CLOSE_BRACE);
     }
-    push_sign(out, 45)?;
-    push_sign(out, 5)
+    push_sign(out, sign::COMMA)?;
+    push_sign(out, sign::CLOSE_BRACE)
 }
 
 /// Adds lines of members.
@@ -255,7 +256,7 @@ fn push_member(out: &mut Bytes, member: &Member) -> Result<(), Memory>
 {
     push_specifiers(out, &member.specifiers)?;
     push_fields(out, member.declarators.as_slice())?;
-    push_sign(out, 32)
+    push_sign(out, sign::SEMICOLON)
 }
 
 /// Adds members with commas between.
@@ -268,7 +269,7 @@ fn push_fields(out: &mut Bytes, fields: &[MemberDeclarator]) -> Result<(), Memor
     };
     push_field(out, first)?;
     for field in rest {
-        push_sign(out, 45)?;
+        push_sign(out, sign::COMMA)?;
         push_field(out, field)?;
     }
     Ok(())
@@ -281,7 +282,7 @@ fn push_field(out: &mut Bytes, field: &MemberDeclarator) -> Result<(), Memory>
     ensures { OnOk result (out.new ≡ out.old ++ field_shown field.now) }
 {
     push_maybe_declarator(out, &field.declarator)?;
-    push_behind(out, 31, &field.width)
+    push_behind(out, sign::COLON, &field.width)
 }
 
 /// Adds enumerators with commas between.
@@ -294,7 +295,7 @@ fn push_enumerators(out: &mut Bytes, enumerators: &[Enumerator]) -> Result<(), M
     };
     push_enumerator(out, first)?;
     for enumerator in rest {
-        push_sign(out, 45)?;
+        push_sign(out, sign::COMMA)?;
         push_enumerator(out, enumerator)?;
     }
     Ok(())
@@ -307,7 +308,7 @@ fn push_enumerator(out: &mut Bytes, enumerator: &Enumerator) -> Result<(), Memor
     ensures { OnOk result (out.new ≡ out.old ++ enumerator_shown enumerator.now) }
 {
     push_name(out, &enumerator.name)?;
-    push_behind(out, 34, &enumerator.value)
+    push_behind(out, sign::EQUALS, &enumerator.value)
 }
 
 /// Adds a declarator, if there is one.
@@ -346,7 +347,7 @@ fn push_pointers(out: &mut Bytes, pointers: &[Items<Qualifier>]) -> Result<(), M
 fn push_pointer(out: &mut Bytes, qualifiers: &[Qualifier]) -> Result<(), Memory>
     ensures { OnOk result (out.new ≡ out.old ++ pointer_text qualifiers.now) }
 {
-    push_sign(out, 11)?;
+    push_sign(out, sign::STAR)?;
     for qualifier in qualifiers {
         push_keyword(out, qualifier_word(*qualifier))?;
     }
@@ -362,9 +363,9 @@ fn push_core(out: &mut Bytes, core: &DeclaratorCore) -> Result<(), Memory>
     match core {
         DeclaratorCore::Declared(name) => push_name(out, name),
         DeclaratorCore::Parentheses(inner) => {
-            push_sign(out, 2)?;
+            push_sign(out, sign::OPEN)?;
             push_declarator(out, inner)?;
-            push_sign(out, 3)
+            push_sign(out, sign::CLOSE)
         }
         DeclaratorCore::Omitted => Ok(()),
     }
@@ -389,23 +390,23 @@ fn push_suffix(out: &mut Bytes, suffix: &Suffix) -> Result<(), Memory>
 {
     match &suffix.form {
         SuffixForm::Array(size) => {
-            push_sign(out, 0)?;
+            push_sign(out, sign::OPEN_BRACKET)?;
             push_maybe(out, size)?;
-            push_sign(out, 1)
+            push_sign(out, sign::CLOSE_BRACKET)
         }
         SuffixForm::Parameters { parameters, more } => {
-            push_sign(out, 2)?;
+            push_sign(out, sign::OPEN)?;
             push_parameters(out, parameters.as_slice())?;
             push_dots(out, *more)
         }
         SuffixForm::Names(names) => {
-            push_sign(out, 2)?;
+            push_sign(out, sign::OPEN)?;
             push_names(out, names.as_slice())?;
-            push_sign(out, 3)
+            push_sign(out, sign::CLOSE)
         }
         SuffixForm::Empty => {
-            push_sign(out, 2)?;
-            push_sign(out, 3)
+            push_sign(out, sign::OPEN)?;
+            push_sign(out, sign::CLOSE)
         }
     }
 }
@@ -419,7 +420,7 @@ fn push_names(out: &mut Bytes, names: &[Bytes]) -> Result<(), Memory>
     };
     push_name(out, first)?;
     for name in rest {
-        push_sign(out, 45)?;
+        push_sign(out, sign::COMMA)?;
         push_name(out, name)?;
     }
     Ok(())
@@ -430,11 +431,11 @@ fn push_dots(out: &mut Bytes, more: bool) -> Result<(), Memory>
     ensures { OnOk result (out.new ≡ out.old ++ dots_text more) }
 {
     if !more {
-        return push_sign(out, 3);
+        return push_sign(out, sign::CLOSE);
     }
-    push_sign(out, 45)?;
-    push_sign(out, 33)?;
-    push_sign(out, 3)
+    push_sign(out, sign::COMMA)?;
+    push_sign(out, sign::DOTS)?;
+    push_sign(out, sign::CLOSE)
 }
 
 /// Adds parameters with commas between.
@@ -447,7 +448,7 @@ fn push_parameters(out: &mut Bytes, parameters: &[Parameter]) -> Result<(), Memo
     };
     push_parameter(out, first)?;
     for parameter in rest {
-        push_sign(out, 45)?;
+        push_sign(out, sign::COMMA)?;
         push_parameter(out, parameter)?;
     }
     Ok(())

@@ -1,7 +1,7 @@
 //! Declarations, statements and units as texts.
 ghost use Rattle.std.specs.Prelude.{◌≡◌, ◌<◌, ◌++◌, drop, flat_map, OnOk, IfOk};
 ghost use Rattle.c_ast.specs.Printed.{printed};
-ghost use Rattle.c_ast.specs.TreeTexts.{listed, sign_text, word_text};
+ghost use Rattle.c_ast.specs.TreeTexts.{listed, name_text, sign_text, word_text};
 ghost use Rattle.c_ast.specs.ValueTexts.{shown_if_any, expr_shown, specifiers_shown};
 ghost use Rattle.c_ast.specs.UnitValueTexts.{initialiser_shown, shown_initialiser, init_shown, declaration_shown, statement_shown, shown_else, block_shown, external_shown};
 ghost use Rattle.c_ast.specs.UnitViews.{unit_of};
@@ -13,6 +13,7 @@ use crate::statement::{
 };
 use crate::token_text::{push_keyword, push_name, push_sign};
 use crate::unit::{External, ExternalForm, Unit};
+use crate::{keyword, sign};
 use lcc_base::{Bytes, Memory};
 use std::alloc::Global;
 
@@ -25,7 +26,7 @@ fn push_initialiser(out: &mut Bytes, initialiser: &Initialiser) -> Result<(), Me
     match &initialiser.form {
         InitialiserForm::Expr(e) => push_expr(out, e),
         InitialiserForm::List { items, comma } => {
-            push_sign(out, 4)?;
+            push_sign(out, sign::OPEN_BRACE)?;
             push_initialisers(out, items.as_slice())?;
             push_end(out, *comma)
         }
@@ -42,7 +43,7 @@ fn push_initialisers(out: &mut Bytes, items: &[Initialiser]) -> Result<(), Memor
     };
     push_initialiser(out, first)?;
     for item in rest {
-        push_sign(out, 45)?;
+        push_sign(out, sign::COMMA)?;
         push_initialiser(out, item)?;
     }
     Ok(())
@@ -63,7 +64,7 @@ fn push_maybe_initialiser(out: &mut Bytes, initialiser: &Option<Initialiser>) ->
 {
     match initialiser {
         Some(initialiser) => {
-            push_sign(out, 34)?;
+            push_sign(out, sign::EQUALS)?;
             push_initialiser(out, initialiser)
         }
         None => Ok(()),
@@ -79,7 +80,7 @@ fn push_inits(out: &mut Bytes, inits: &[InitDeclarator]) -> Result<(), Memory>
     };
     push_init(out, first)?;
     for init in rest {
-        push_sign(out, 45)?;
+        push_sign(out, sign::COMMA)?;
         push_init(out, init)?;
     }
     Ok(())
@@ -92,7 +93,7 @@ fn push_declaration(out: &mut Bytes, declaration: &Declaration) -> Result<(), Me
 {
     push_specifiers(out, &declaration.specifiers)?;
     push_inits(out, declaration.declarators.as_slice())?;
-    push_sign(out, 32)
+    push_sign(out, sign::SEMICOLON)
 }
 
 /// Adds declarations.
@@ -111,9 +112,36 @@ fn push_test(out: &mut Bytes, word: u8, e: &Expr) -> Result<(), Memory>
     ensures { OnOk result (out.new ≡ out.old ++ (word_text word ++ sign_text 2 ++ expr_shown e.now ++ sign_text 3)) }
 {
     push_keyword(out, word)?;
-    push_sign(out, 2)?;
+    push_sign(out, sign::OPEN)?;
     push_expr(out, e)?;
-    push_sign(out, 3)
+    push_sign(out, sign::CLOSE)
+}
+
+/// Adds `goto`, a label and a semicolon.
+fn push_goto(out: &mut Bytes, label: &Bytes) -> Result<(), Memory>
+    ensures { OnOk result (out.new ≡ out.old ++ (word_text 14 ++ name_text label ++ sign_text 32)) }
+{
+    push_keyword(out, keyword::GOTO)?;
+    push_name(out, label)?;
+    push_sign(out, sign::SEMICOLON)
+}
+
+/// Adds a keyword and a semicolon.
+fn push_alone(out: &mut Bytes, word: u8) -> Result<(), Memory>
+    requires { word < 32 }
+    ensures { OnOk result (out.new ≡ out.old ++ (word_text word ++ sign_text 32)) }
+{
+    push_keyword(out, word)?;
+    push_sign(out, sign::SEMICOLON)
+}
+
+/// Adds `return`, an expression if there is one, and a semicolon.
+fn push_return(out: &mut Bytes, e: &Option<Expr>) -> Result<(), Memory>
+    ensures { OnOk result (out.new ≡ out.old ++ (word_text 19 ++ shown_if_any expr_shown e.now ++ sign_text 32)) }
+{
+    push_keyword(out, keyword::RETURN)?;
+    push_maybe(out, e)?;
+    push_sign(out, sign::SEMICOLON)
 }
 
 /// Adds a statement.
@@ -125,66 +153,52 @@ fn push_statement(out: &mut Bytes, statement: &Statement) -> Result<(), Memory>
     match &statement.form {
         StatementForm::Label(name, s) => {
             push_name(out, name)?;
-            push_sign(out, 31)?;
+            push_sign(out, sign::COLON)?;
             push_statement(out, s)
         }
         StatementForm::Case(e, s) => {
-            push_keyword(out, 2)?;
+            push_keyword(out, keyword::CASE)?;
             push_expr(out, e)?;
-            push_sign(out, 31)?;
+            push_sign(out, sign::COLON)?;
             push_statement(out, s)
         }
         StatementForm::Default(s) => {
-            push_keyword(out, 6)?;
-            push_sign(out, 31)?;
+            push_keyword(out, keyword::DEFAULT)?;
+            push_sign(out, sign::COLON)?;
             push_statement(out, s)
         }
         StatementForm::Expression(e) => {
             push_maybe(out, e)?;
-            push_sign(out, 32)
+            push_sign(out, sign::SEMICOLON)
         }
         StatementForm::Block(block) => push_block(out, block),
         StatementForm::If(e, s, otherwise) => {
-            push_test(out, 15, e)?;
+            push_test(out, keyword::IF, e)?;
             push_statement(out, s)?;
             push_else(out, otherwise)
         }
         StatementForm::Switch(e, s) => {
-            push_test(out, 25, e)?;
+            push_test(out, keyword::SWITCH, e)?;
             push_statement(out, s)
         }
         StatementForm::While(e, s) => {
-            push_test(out, 31, e)?;
+            push_test(out, keyword::WHILE, e)?;
             push_statement(out, s)
         }
         StatementForm::Do(s, e) => {
-            push_keyword(out, 7)?;
+            push_keyword(out, keyword::DO)?;
             push_statement(out, s)?;
-            push_test(out, 31, e)?;
-            push_sign(out, 32)
+            push_test(out, keyword::WHILE, e)?;
+            push_sign(out, sign::SEMICOLON)
         }
         StatementForm::For(a, b, c, s) => {
             push_for(out, a, b, c)?;
             push_statement(out, s)
         }
-        StatementForm::Goto(name) => {
-            push_keyword(out, 14)?;
-            push_name(out, name)?;
-            push_sign(out, 32)
-        }
-        StatementForm::Continue => {
-            push_keyword(out, 5)?;
-            push_sign(out, 32)
-        }
-        StatementForm::Break => {
-            push_keyword(out, 1)?;
-            push_sign(out, 32)
-        }
-        StatementForm::Return(e) => {
-            push_keyword(out, 19)?;
-            push_maybe(out, e)?;
-            push_sign(out, 32)
-        }
+        StatementForm::Goto(name) => push_goto(out, name),
+        StatementForm::Continue => push_alone(out, keyword::CONTINUE),
+        StatementForm::Break => push_alone(out, keyword::BREAK),
+        StatementForm::Return(e) => push_return(out, e),
     }
 }
 
@@ -195,7 +209,7 @@ fn push_else(out: &mut Bytes, otherwise: &Option<Box<Statement>>) -> Result<(), 
 {
     match otherwise {
         Some(statement) => {
-            push_keyword(out, 9)?;
+            push_keyword(out, keyword::ELSE)?;
             push_statement(out, statement)
         }
         None => Ok(()),
@@ -211,14 +225,14 @@ fn push_for(
 ) -> Result<(), Memory>
     ensures { OnOk result (out.new ≡ out.old ++ (word_text 13 ++ sign_text 2 ++ shown_if_any expr_shown first.now ++ sign_text 32 ++ shown_if_any expr_shown test.now ++ sign_text 32 ++ shown_if_any expr_shown step.now ++ sign_text 3)) }
 {
-    push_keyword(out, 13)?;
-    push_sign(out, 2)?;
+    push_keyword(out, keyword::FOR)?;
+    push_sign(out, sign::OPEN)?;
     push_maybe(out, first)?;
-    push_sign(out, 32)?;
+    push_sign(out, sign::SEMICOLON)?;
     push_maybe(out, test)?;
-    push_sign(out, 32)?;
+    push_sign(out, sign::SEMICOLON)?;
     push_maybe(out, step)?;
-    push_sign(out, 3)
+    push_sign(out, sign::CLOSE)
 }
 
 /// Adds statements.
@@ -238,10 +252,10 @@ fn push_statements(out: &mut Bytes, statements: &[Statement]) -> Result<(), Memo
 fn push_block(out: &mut Bytes, block: &Block) -> Result<(), Memory>
     ensures { OnOk result (out.new ≡ out.old ++ block_shown block.now) }
 {
-    push_sign(out, 4)?;
+    push_sign(out, sign::OPEN_BRACE)?;
     push_declarations(out, block.declarations.as_slice())?;
     push_statements(out, block.statements.as_slice())?;
-    push_sign(out, 5)
+    push_sign(out, sign::CLOSE_BRACE)
 }
 
 /// Adds specifiers, if there are any.
@@ -272,7 +286,7 @@ fn push_external(out: &mut Bytes, external: &External) -> Result<(), Memory>
             push_block(out, body)
         }
         ExternalForm::Declaration(declaration) => push_declaration(out, declaration),
-        ExternalForm::Empty => push_sign(out, 32),
+        ExternalForm::Empty => push_sign(out, sign::SEMICOLON),
     }
 }
 

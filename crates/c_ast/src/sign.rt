@@ -1,7 +1,35 @@
+//! The operators and punctuators that are no words, by their numbers. Source: C89 3.1.5 and 3.1.6.
 ghost use Rattle.std.specs.Prelude.{◌≡◌, ◌<◌, slice_get, Some};
 ghost use Rattle.c_ast.specs.Signs.{signs, sign_of};
 
 use crate::spelling::number_among;
+
+/// The number of `[`.
+pub const OPEN_BRACKET: u8 = 0;
+/// The number of `]`.
+pub const CLOSE_BRACKET: u8 = 1;
+/// The number of `(`.
+pub const OPEN: u8 = 2;
+/// The number of `)`.
+pub const CLOSE: u8 = 3;
+/// The number of `{`.
+pub const OPEN_BRACE: u8 = 4;
+/// The number of `}`.
+pub const CLOSE_BRACE: u8 = 5;
+/// The number of `*`.
+pub const STAR: u8 = 11;
+/// The number of `?`.
+pub const QUESTION: u8 = 30;
+/// The number of `:`.
+pub const COLON: u8 = 31;
+/// The number of `;`.
+pub const SEMICOLON: u8 = 32;
+/// The number of `...`.
+pub const DOTS: u8 = 33;
+/// The number of `=`.
+pub const EQUALS: u8 = 34;
+/// The number of `,`.
+pub const COMMA: u8 = 45;
 
 /// How the sign of this number is spelled. Source: C89 3.1.5 and 3.1.6.
 pub fn sign_text(number: u8) -> &'static [u8]
