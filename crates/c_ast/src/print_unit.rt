@@ -119,7 +119,7 @@ fn push_test(out: &mut Bytes, word: u8, e: &Expr) -> Result<(), Memory>
 
 /// Adds `goto`, a label and a semicolon.
 fn push_goto(out: &mut Bytes, label: &Bytes) -> Result<(), Memory>
-    ensures { OnOk result (out.new ≡ out.old ++ (word_text 14 ++ name_text label ++ sign_text 32)) }
+    ensures { OnOk result (out.new ≡ out.old ++ (word_text 14 ++ name_text label.now ++ sign_text 32)) }
 {
     push_keyword(out, keyword::GOTO)?;
     push_name(out, label)?;
