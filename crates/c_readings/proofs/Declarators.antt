@@ -1,0 +1,10 @@
+-- Readers of declarators are exact.
+use Rattle.std.proofs.Common.{ℕ, suc, Bool}
+use Rattle.c_ast.specs.ExprMarks as marks
+use Rattle.c_ast.specs.Levels.{FitsParameter}
+use Rattle.c_ast.specs.Heights.{declarator_height, parameter_height}
+use Rattle.c_readings.specs.Readers.{Readers, parameter, declarator_above}
+use Rattle.c_readings.specs.Exact.{Exact, AreExact, FitsFree, nothing_more}
+
+pub declarator_above_exact : (R : Readers) → AreExact R → Exact marks.parameter FitsParameter nothing_more parameter_height R.limit 1 (parameter R) → (free outer : Bool) → Exact (marks.declarator free outer) (FitsFree free) nothing_more declarator_height (suc R.limit) 0 (declarator_above R free outer)
+declarator_above_exact R e p free outer = ?

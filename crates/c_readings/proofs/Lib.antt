@@ -1,0 +1,5 @@
+mod Lists
+mod Types
+mod Declarators
+mod Expressions
+mod Rounds

@@ -1,0 +1,5 @@
+pub mod Reading
+pub mod Links
+pub mod Words
+pub mod Readers
+pub mod Exact
