@@ -13,6 +13,7 @@ pub mod Heights
 pub mod Spell
 pub mod Reach
 pub mod Views
+pub mod Layers
 pub mod UnitViews
 pub mod ValueHeights
 pub mod UnitValueHeights

@@ -1,4 +1,4 @@
--- The trees of values, one layer at a time.
+-- The trees of values, one layer at a time, as lemmas for all that build or read such values.
 use Rattle.std.proofs.Common.{◌≡◌, ℕ, Option, Some, None, map, refl, sym, ap, ◌∙◌}
 use Rattle.c_ast.specs.declared.expr.DeclaratorCore.{DeclaratorCore-F, fold-roll-DeclaratorCore}
 use Rattle.c_ast.specs.declared.expr.DeclaratorCore.TheVariants as declarator_core
