@@ -1,3 +1,4 @@
+mod Steps
 mod Lists
 mod Types
 mod Declarators
