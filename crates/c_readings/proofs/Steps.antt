@@ -142,6 +142,11 @@ pub bind_finds : {A B : Type 0} (o : Read A) (x : A) (m r : List Mark) (k : A �
 bind_finds None x m r k z f g = absurd f
 bind_finds (Some p) x m r k z f g = subst (λ y. Finds (k y p.1) z r) (sym f.0) (g p.1 f.1)
 
+-- the same, where the rest rests on what was read
+pub read_finds : {A B : Type 0} (o : Read A) (x : A) (m r : List Mark) (k : A → State → Read B) (z : B) → Finds o x m → ((t : State) → o ≡ Some (x, t) → RunsOn m t → Finds (k x t) z r) → Finds (bind o k) z r
+read_finds None x m r k z f g = absurd f
+read_finds (Some p) x m r k z f g = subst (λ y. Finds (k y p.1) z r) (sym f.0) (g p.1 (ap (λ y. Some (y, p.1)) f.0) f.1)
+
 -- what was found was read
 pub found_read : {A : Type 0} (o : Read A) (x : A) (m : List Mark) → Finds o x m → (t : State) × (o ≡ Some (x, t)) × RunsOn m t
 found_read None x m f = absurd f
