@@ -3,7 +3,7 @@ use Rattle.std.proofs.Common.{◌≡◌, ◌≤◌, ℕ, zero, suc, Bool, refl, 
 use Rattle.c_readings.specs.Readers.{Readers, readers, no_readers, above, type_name, parameter}
 use Rattle.c_readings.specs.Exact.{Exact, AreExact, TypesAreExact}
 use Rattle.c_readings.proofs.Types.{types_exact, parameter_exact, member_above_exact}
-use Rattle.c_readings.proofs.Declarators.{declarator_above_exact}
+use Rattle.c_readings.proofs.Declarators.{declarator_above_exact, declarator_above_no_longer}
 use Rattle.c_readings.proofs.Expressions.{piece_above_exact, whole_above_exact}
 
 above_exact : (R : Readers) → AreExact R → AreExact (above R)
@@ -11,6 +11,7 @@ above_exact R e = record {
   piece = λ level h k. piece_above_exact R e (types_exact R e).type_name level h k;
   whole = whole_above_exact R e (types_exact R e).type_name;
   declarator = λ free outer. declarator_above_exact R e (parameter_exact R e) free outer;
+  no_longer = declarator_above_no_longer R e;
   member = member_above_exact R e;
 }
 

@@ -54,11 +54,17 @@ abbrev pub FitsFree : Bool → DeclaratorTree → Type 0
 FitsFree true d = FitsDeclarator d
 FitsFree false d = (is_named d ≡ true) × FitsDeclarator d
 
--- the readers up to a limit are exact
+-- nothing where nothing is left
+abbrev pub where_left : {A : Type 0} → List Placed → Read A → Read A
+where_left [] o = None
+where_left (t ∷ ts) o = o
+
+-- the readers up to a limit are exact, that of declarators where a token is left
 pub record AreExact (R : Readers) : Type 0 where
   pub piece : (level : ℕ) → 1 ≤ level → level ≤ 15 → Exact marks.expr (FitsAt level) (goes_on level) height R.limit 1 (R.piece level)
   pub whole : Exact marks.expr Parts goes_on_whole height R.limit 1 R.whole
-  pub declarator : (free outer : Bool) → Exact (marks.declarator free outer) (FitsFree free) nothing_more declarator_height R.limit 0 (R.declarator free outer)
+  pub declarator : (free outer : Bool) → Exact (marks.declarator free outer) (FitsFree free) nothing_more declarator_height R.limit 0 (λ s. where_left s.rest (R.declarator free outer s))
+  pub no_longer : (free outer : Bool) (s : State) (x : DeclaratorTree) (t : State) → R.declarator free outer s ≡ Some (x, t) → length t.rest ≤ length s.rest
   pub member : Exact marks.member FitsMember nothing_more member_height R.limit 1 R.member
 
 -- and so are those of specifiers and of type names
