@@ -1,5 +1,7 @@
 mod Steps
 mod Lists
+mod Operators
+mod Firsts
 mod Types
 mod Declarators
 mod Expressions

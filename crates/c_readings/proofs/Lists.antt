@@ -2,9 +2,11 @@
 use Rattle.std.proofs.Common.{◌≡◌, ◌≤◌, ◌+◌, ◌↔◌, ℕ, zero, suc, Bool, true, false, Some, None, List, [], ◌∷◌, length, refl, sym, subst, ap, ◌∙◌, arith}
 use Rattle.c_ast.specs.Lexemes.{Lexeme, Sign, Placed}
 use Rattle.c_ast.specs.Marks.{Mark, Tok, IsSign, Runs, next, first_is, is_sign, lexemes}
+use Rattle.c_ast.specs.Levels.{IsSome}
+use Rattle.c_readings.specs.Readers.{some_commas}
 use Rattle.c_readings.specs.Reading.{State, Read, gives, bind, answer, tail, beyond, many, all_of, commas}
-use Rattle.c_readings.specs.Exact.{RunsOn, Finds, Ends, Stops, IsPiece, Exact}
-use Rattle.c_readings.proofs.Steps.{Yields, yields, read_so, bind_yields, if_yields, Takes, past, sign_taken, taken_used, iff_same, iff_then, token_iff, bind_finds, read_finds, if_finds_yes, if_finds_no, sign_next, beyond_runs}
+use Rattle.c_readings.specs.Exact.{RunsOn, Finds, Ends, Stops, IsPiece, Exact, nothing_more}
+use Rattle.c_readings.proofs.Steps.{Yields, yields, read_so, exact_yields, nothing_stops, bind_yields, if_yields, Takes, past, sign_taken, taken_used, iff_same, iff_then, token_iff, bind_finds, read_finds, if_finds_yes, if_finds_no, sign_next, beyond_runs}
 
 -- ---- what is said of each item, and of the last
 
@@ -170,3 +172,69 @@ listed_finds f Fits goes_on high limit least item go r e c d goes stops s xs q h
 pub commas_finds : {A : Type 0} (f : A → List Mark → List Mark) (Fits : A → Type 0) (goes_on : A → Lexeme → Bool) (high : A → ℕ) (limit least : ℕ) (item : State → Read A) (r : List Mark) → Exact f Fits goes_on high limit least item → ((x : A) → goes_on x (Sign 45) ≡ false) → ((s : State) → RunsOn r s → answer (IsSign 45) s ≡ false) → (s : State) (xs : List A) → Fitting Fits goes_on high limit r xs → RunsOn (listed f xs r) s → Finds (commas item s) xs r
 commas_finds f Fits goes_on high limit least item r e d stops s xs q h =
     listed_finds f Fits goes_on high limit least item (λ b t. answer (IsSign 45) t) r e (λ b s a. a) d (λ b s x m p k. sign_next 45 (f x m) s k) (λ b s k. stops s k) s xs q h
+
+-- ---- at least one item, with commas between
+
+abbrev pub begun : {A : Type 0} → (A → List Mark → List Mark) → List A → List Mark → List Mark
+begun f [] r = r
+begun f (x ∷ xs) r = f x (listed f xs r)
+
+pub record IsBegun {A : Type 0} (f : A → List Mark → List Mark) (Fits : A → Type 0) (goes_on : A → Lexeme → Bool) (high : A → ℕ) (limit least : ℕ) (s : State) (xs : List A) (t : State) : Type 0 where
+  pub some : IsSome xs
+  pub kept : Every (Fit Fits high limit) xs
+  pub ends : Last (λ x. EndsAt goes_on x t) xs
+  pub stopped : answer (IsSign 45) t ≡ false
+  pub used : length t.rest + least ≤ length s.rest
+  pub runs : (r : List Mark) → RunsOn (begun f xs r) s ↔ RunsOn r t
+
+begin_used : {A : Type 0} (xs : List A) (ss ts us : List Placed) (least : ℕ) → length ts + least ≤ length ss → length us + length xs ≤ length ts → length us + least ≤ length ss
+begin_used xs ss ts us least h k = omega arith
+
+begin : {A : Type 0} (f : A → List Mark → List Mark) (Fits : A → Type 0) (goes_on : A → Lexeme → Bool) (high : A → ℕ) (limit least : ℕ) (s : State) (x : A) (t : State) (xs : List A) (u : State) → IsPiece f Fits goes_on high limit least s x t → IsListed f Fits goes_on high limit (λ b v. answer (IsSign 45) v) t xs u → IsBegun f Fits goes_on high limit least s (x ∷ xs) u
+begin f Fits goes_on high limit least s x t xs u h k = record {
+  some = tt;
+  kept = ((h.fits, h.low), k.kept);
+  ends = ends_before (EndsAt goes_on) x xs t u h.ends k.none k.ends;
+  stopped = k.stopped.1;
+  used = begin_used xs s.rest t.rest u.rest least h.used k.used;
+  runs = λ r. iff_then (h.runs (listed f xs r)) (k.runs r);
+}
+
+pub some_commas_yields : {A : Type 0} (f : A → List Mark → List Mark) (Fits : A → Type 0) (goes_on : A → Lexeme → Bool) (high : A → ℕ) (limit least : ℕ) (item : State → Read A) → Exact f Fits goes_on high limit least item → (s : State) → Yields (some_commas item s) (IsBegun f Fits goes_on high limit least s)
+some_commas_yields f Fits goes_on high limit least item e s =
+    bind_yields (item s) _ (IsPiece f Fits goes_on high limit least s) _ (exact_yields f Fits goes_on high limit least item e s) (λ x t h.
+    bind_yields (commas item t) _ (IsListed f Fits goes_on high limit (λ b v. answer (IsSign 45) v) t) _ (commas_yields f Fits goes_on high limit least item e t) (λ xs u k.
+    begin f Fits goes_on high limit least s x t xs u h k))
+
+pub some_commas_finds : {A : Type 0} (f : A → List Mark → List Mark) (Fits : A → Type 0) (goes_on : A → Lexeme → Bool) (high : A → ℕ) (limit least : ℕ) (item : State → Read A) (r : List Mark) → Exact f Fits goes_on high limit least item → ((x : A) → goes_on x (Sign 45) ≡ false) → ((s : State) → RunsOn r s → answer (IsSign 45) s ≡ false) → (s : State) (x : A) (xs : List A) → Fitting Fits goes_on high limit r (x ∷ xs) → RunsOn (f x (listed f xs r)) s → Finds (some_commas item s) (x ∷ xs) r
+some_commas_finds f Fits goes_on high limit least item r e d stops s x xs q h =
+    bind_finds (item s) x (listed f xs r) r _ (x ∷ xs) (e.found s x (listed f xs r) q.0.0.0 q.0.0.1 (stops_in_list f goes_on r x xs (d x) q.1) h) (λ t g.
+    bind_finds (commas item t) xs r r _ (x ∷ xs) (commas_finds f Fits goes_on high limit least item r e d stops t xs (fitting_behind Fits goes_on high limit r x xs q) g) (λ u i. (refl, i)))
+
+-- where nothing goes on from any item, a list stops at each token
+pub last_stops : {A : Type 0} (goes_on : A → Lexeme → Bool) (r : List Mark) (xs : List A) → ((x : A) → Stops goes_on x r) → Last (λ x. Stops goes_on x r) xs
+last_stops goes_on r [] h = tt
+last_stops goes_on r (x ∷ xs) h = last_behind (λ y. Stops goes_on y r) x xs (h x) (last_stops goes_on r xs h)
+
+-- ---- one item after another, up to a sign
+
+row_item : {A : Type 0} (f : A → List Mark → List Mark) (Fits : A → Type 0) (goes_on : A → Lexeme → Bool) (high : A → ℕ) (limit : ℕ) (b : Bool) (s : State) (x : A) (t : State) → IsPiece f Fits goes_on high limit 1 s x t → IsItem (λ (b : Bool). row f) (Fit Fits high limit) (EndsAt goes_on) (λ b x. b) b s x t
+row_item f Fits goes_on high limit b s x t h = record { kept = (h.fits, h.low); ends = h.ends; used = h.used; runs = λ xs r. h.runs (row f xs r) }
+
+abbrev pub IsRow : {A : Type 0} → (A → List Mark → List Mark) → (A → Type 0) → (A → Lexeme → Bool) → (A → ℕ) → ℕ → (Bool → State → Bool) → State → List A → State → Type 0
+IsRow f Fits goes_on high limit go s xs t = IsList (λ (b : Bool). row f) (Fit Fits high limit) (EndsAt goes_on) go true s xs t
+
+pub row_yields : {A : Type 0} (f : A → List Mark → List Mark) (Fits : A → Type 0) (goes_on : A → Lexeme → Bool) (high : A → ℕ) (limit : ℕ) (item : State → Read A) (go : Bool → State → Bool) → Exact f Fits goes_on high limit 1 item → (s : State) → Yields (all_of go (λ b t. item t) (λ b x. b) true s) (IsRow f Fits goes_on high limit go s)
+row_yields f Fits goes_on high limit item go e s =
+    many_yields (λ (b : Bool). row f) (Fit Fits high limit) (EndsAt goes_on) go (λ b t. item t) (λ b x. b)
+    (λ b s r h. iff_same)
+    (λ b s a. yields (item s) _ (λ x t k. row_item f Fits goes_on high limit b s x t (e.piece s x t k)))
+    (length s.rest + 1) true s
+
+pub row_finds : {A : Type 0} (f : A → List Mark → List Mark) (Fits : A → Type 0) (high : A → ℕ) (limit : ℕ) (item : State → Read A) (go : Bool → State → Bool) (r : List Mark) → Exact f Fits nothing_more high limit 1 item → ((b : Bool) (s : State) (x : A) (m : List Mark) → Fits x → RunsOn (f x m) s → go b s ≡ true) → ((b : Bool) (s : State) → RunsOn r s → go b s ≡ false) → (s : State) (xs : List A) → Every (Fit Fits high limit) xs → RunsOn (row f xs r) s → Finds (all_of go (λ b t. item t) (λ b x. b) true s) xs r
+row_finds f Fits high limit item go r e goes stops s xs q h =
+    many_finds (λ (b : Bool) ys. row f ys r) (Every (Fit Fits high limit)) r go (λ b t. item t) (λ b x. b)
+    (λ b s k. (stops b s k, k))
+    (λ b s x ys p k. (goes b s x (row f ys r) p.0.0 k, p.1, e.found s x (row f ys r) p.0.0 p.0.1 (nothing_stops x (row f ys r)) k))
+    (λ b s x t a k. (e.piece s x t k).used)
+    (length s.rest + 1) true s xs (omega arith) q h

@@ -6,7 +6,7 @@ use Rattle.c_ast.specs.InForce.{InForce, put, is_typedef, opened, closed, closed
 use Rattle.c_ast.specs.Marks.{Test, IsSign, Mark, Tok, Plain, Typed, Here, Ask, Put, Open, Close, Keep, Reopen, Forget, Runs, holds, lexemes, next_line, next, first_is, is_sign}
 use Rattle.c_ast.specs.ExprMarks.{put_then, closed_then}
 use Rattle.c_readings.specs.Reading.{State, Read, gives, bind, answer, ask, line_of, here, tail, beyond, on_first, with_first, one_sign, name_then, one_name, put_state, open_state, close_state}
-use Rattle.c_readings.specs.Exact.{RunsOn, Finds}
+use Rattle.c_readings.specs.Exact.{RunsOn, Finds, Ends, Stops, IsPiece, Exact, nothing_more}
 
 -- ---- what was read is so
 
@@ -32,6 +32,24 @@ bind_some (Some p) k y u e = (p.0, p.1, refl, e)
 pub if_yields : {B : Type 0} (b : Bool) (p q : Read B) (Q : B → State → Type 0) → (b ≡ true → Yields p Q) → (b ≡ false → Yields q Q) → Yields (if b then p else q) Q
 if_yields true p q Q f g = f refl
 if_yields false p q Q f g = g refl
+
+pub both_yield : {A : Type 0} (o : Read A) (P Q : A → State → Type 0) → Yields o P → Yields o Q → Yields o (λ x t. P x t × Q x t)
+both_yield None P Q h k = tt
+both_yield (Some p) P Q h k = (h, k)
+
+-- an exact reader yields pieces
+pub exact_yields : {A : Type 0} (spelled : A → List Mark → List Mark) (Fits : A → Type 0) (goes_on : A → Lexeme → Bool) (high : A → ℕ) (limit least : ℕ) (read : State → Read A) → Exact spelled Fits goes_on high limit least read → (s : State) → Yields (read s) (IsPiece spelled Fits goes_on high limit least s)
+exact_yields spelled Fits goes_on high limit least read e s = yields (read s) _ (λ x t h. e.piece s x t h)
+
+pub exact_by : {A : Type 0} (spelled : A → List Mark → List Mark) (Fits : A → Type 0) (goes_on : A → Lexeme → Bool) (high : A → ℕ) (limit least : ℕ) (read : State → Read A) → ((s : State) → Yields (read s) (IsPiece spelled Fits goes_on high limit least s)) → ((s : State) (x : A) (r : List Mark) → Fits x → high x ≤ limit → Stops goes_on x r → RunsOn (spelled x r) s → Finds (read s) x r) → Exact spelled Fits goes_on high limit least read
+exact_by spelled Fits goes_on high limit least read y f = record { piece = λ s x t h. read_so (read s) _ x t (y s) h; found = f }
+
+pub nothing_ends : {A : Type 0} (x : A) (ts : List Placed) → Ends nothing_more x ts
+nothing_ends x [] = tt
+nothing_ends x (t ∷ ts) = refl
+
+pub nothing_stops : {A : Type 0} (x : A) (r : List Mark) → Stops nothing_more x r
+nothing_stops x r = λ l e. refl
 
 -- the token l is next, and us stand behind it
 abbrev pub Takes : List Placed → Lexeme → List Placed → Type 0
