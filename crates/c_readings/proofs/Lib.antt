@@ -2,6 +2,7 @@ mod Steps
 mod Lists
 mod Operators
 mod Firsts
+mod Records
 mod Types
 mod Declarators
 mod Expressions

@@ -7,6 +7,7 @@ use Rattle.c_readings.specs.Readers.{Readers, parameter, member_above}
 use Rattle.c_readings.specs.Exact.{Exact, AreExact, TypesAreExact, nothing_more}
 use Rattle.c_readings.proofs.Steps.{Yields}
 use Rattle.c_readings.proofs.Lists.{IsList}
+use Rattle.c_readings.proofs.Records.{piece_behind_exact, members_exact}
 
 pub types_exact : (R : Readers) → AreExact R → TypesAreExact R
 types_exact R e = ?
