@@ -3,6 +3,8 @@ mod Lists
 mod Operators
 mod Firsts
 mod Records
+mod Enumerations
+mod Tags
 mod Types
 mod Declarators
 mod Expressions

@@ -33,6 +33,10 @@ pub if_yields : {B : Type 0} (b : Bool) (p q : Read B) (Q : B → State → Type
 if_yields true p q Q f g = f refl
 if_yields false p q Q f g = g refl
 
+pub yields_also : {A : Type 0} (o : Read A) (P Q : A → State → Type 0) → Yields o P → ((x : A) (t : State) → P x t → Q x t) → Yields o Q
+yields_also None P Q h g = tt
+yields_also (Some p) P Q h g = g p.0 p.1 h
+
 pub both_yield : {A : Type 0} (o : Read A) (P Q : A → State → Type 0) → Yields o P → Yields o Q → Yields o (λ x t. P x t × Q x t)
 both_yield None P Q h k = tt
 both_yield (Some p) P Q h k = (h, k)

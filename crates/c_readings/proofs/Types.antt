@@ -8,6 +8,8 @@ use Rattle.c_readings.specs.Exact.{Exact, AreExact, TypesAreExact, nothing_more}
 use Rattle.c_readings.proofs.Steps.{Yields}
 use Rattle.c_readings.proofs.Lists.{IsList}
 use Rattle.c_readings.proofs.Records.{piece_behind_exact, members_exact}
+use Rattle.c_readings.proofs.Enumerations.{enumerator_exact, enumerators_exact}
+use Rattle.c_readings.proofs.Tags.{tagged_yields}
 
 pub types_exact : (R : Readers) → AreExact R → TypesAreExact R
 types_exact R e = ?
