@@ -5,6 +5,7 @@ mod Firsts
 mod Records
 mod Enumerations
 mod Tags
+mod Specifiers
 mod Types
 mod Declarators
 mod Expressions
