@@ -116,7 +116,7 @@ pub not_first : (starts is : Lexeme → Bool) (ls : List Lexeme) → ((l : Lexem
 not_first starts is [] g h = refl
 not_first starts is (l ∷ ls) g h = g l h
 
-same_number : (j k : ℕ) → (j == k) ≡ true → j ≡ k
+pub same_number : (j k : ℕ) → (j == k) ≡ true → j ≡ k
 same_number j k h = grind (arith, nat_tests)
 
 other_sign : (names : InForce) (k : ℕ) → starts_expr names (Sign k) ≡ false → (l : Lexeme) → starts_expr names l ≡ true → is_sign k l ≡ false

@@ -7,6 +7,13 @@ mod Enumerations
 mod Tags
 mod Specifiers
 mod Types
+mod Pointers
+mod ParameterLists
+mod Suffixes
 mod Declarators
+mod Links
+mod Arguments
+mod Heads
+mod Chains
 mod Expressions
 mod Rounds

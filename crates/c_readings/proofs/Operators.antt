@@ -140,7 +140,7 @@ made_below (Operate op) n h l = (op_level op).1
 made_below Question n h l = omega arith
 made_below (Assign op) n h l = omega arith
 
-needed_some : (k : LinkKind) → 3 ≤ needed k
+pub needed_some : (k : LinkKind) → 3 ≤ needed k
 needed_some Index = omega arith
 needed_some Call = omega arith
 needed_some (Select op) = omega arith
@@ -249,13 +249,16 @@ mutual
   none_last NoExprs t other h o = o
   none_last (Exprs e es) t other h o = none_last es t _ h (or_none _ _ (not_linked t 1 (rank e) h) (none_behind e t h))
 
+pub goes_none : (e : ExprTree) (level : ℕ) (t : Lexeme) → link_of t ≡ None → goes_on level e t ≡ false
+goes_none e level t h = or_none _ _ (not_linked t level (rank e) h) (none_behind e t h)
+
 -- what is next is no operator
 abbrev pub Closer : List Mark → Type 0
 Closer r = (t : Lexeme) → next r ≡ Some t → link_of t ≡ None
 
 -- no operator is next
 pub stops : (e : ExprTree) (level : ℕ) (r : List Mark) → Closer r → Stops (goes_on level) e r
-stops e level r c t h = or_none _ _ (not_linked t level (rank e) (c t h)) (none_behind e t (c t h))
+stops e level r c t h = goes_none e level t (c t h)
 
 pub stops_whole : (e : ExprTree) (r : List Mark) → Closer r → ((t : Lexeme) → next r ≡ Some t → is_sign 45 t ≡ false) → Stops goes_on_whole e r
 stops_whole e r c d t h = or_none _ _ (d t h) (stops e 1 r c t h)

@@ -1,22 +1,76 @@
 -- Readers up to each limit are exact.
-use Rattle.std.proofs.Common.{◌≡◌, ◌≤◌, ℕ, zero, suc, Bool, refl, sym, subst, ap, ◌∙◌}
-use Rattle.c_readings.specs.Readers.{Readers, readers, no_readers, above, type_name, parameter}
-use Rattle.c_readings.specs.Exact.{Exact, AreExact, TypesAreExact}
+use Rattle.std.proofs.Common.{◌≡◌, ◌≤◌, ℕ, zero, suc, Bool, None, List, [], ◌∷◌, refl, sym, subst, ap, ◌∙◌, arith}
+use Rattle.c_ast.specs.Lexemes.{Lexeme, Placed}
+use Rattle.c_ast.specs.Marks.{Mark}
+use Rattle.c_ast.specs.Trees.{ExprTree, Variable, IntegerConstant, CharacterConstant, Literal, Enclosed, Subscript, Called, Selected, Stepped, Prefixed, SizedExpr, SizedType, Converted, Combined, Chosen, Assigned, Sequence, MemberTree, Members, DeclaratorTree, Declarator}
+use Rattle.c_ast.specs.ExprMarks as marks
+use Rattle.c_ast.specs.Levels.{Parts, FitsMember}
+use Rattle.c_ast.specs.Heights.{height, declarator_height, member_height}
+use Rattle.c_ast.specs.Reach.{goes_on, goes_on_whole}
+use Rattle.c_readings.specs.Reading.{State, Read}
+use Rattle.c_readings.specs.Readers.{Readers, readers, no_readers, above}
+use Rattle.c_readings.specs.Exact.{Exact, AreExact, FitsAt, FitsFree, nothing_more, where_left}
 use Rattle.c_readings.proofs.Types.{types_exact, parameter_exact, member_above_exact}
 use Rattle.c_readings.proofs.Declarators.{declarator_above_exact, declarator_above_no_longer}
 use Rattle.c_readings.proofs.Expressions.{piece_above_exact, whole_above_exact}
+
+-- ---- no tree is of height 0
+
+height_some : (e : ExprTree) → 1 ≤ height e
+height_some (Variable l n) = omega arith
+height_some (IntegerConstant l v k) = omega arith
+height_some (CharacterConstant l v) = omega arith
+height_some (Literal l bs) = omega arith
+height_some (Enclosed l e) = omega arith
+height_some (Subscript l a i) = omega arith
+height_some (Called l f es) = omega arith
+height_some (Selected l op a n) = omega arith
+height_some (Stepped l op a) = omega arith
+height_some (Prefixed l op a) = omega arith
+height_some (SizedExpr l a) = omega arith
+height_some (SizedType l t) = omega arith
+height_some (Converted l t a) = omega arith
+height_some (Combined l op a b) = omega arith
+height_some (Chosen l a b c) = omega arith
+height_some (Assigned l op a b) = omega arith
+height_some (Sequence l es) = omega arith
+
+declarator_height_some : (d : DeclaratorTree) → 1 ≤ declarator_height d
+declarator_height_some (Declarator l ps c ss) = omega arith
+
+member_height_some : (m : MemberTree) → 1 ≤ member_height m
+member_height_some (Members l s fs) = omega arith
+
+none_left : {A : Type 0} (ts : List Placed) → where_left {A = A} ts None ≡ None
+none_left [] = refl
+none_left (t ∷ ts) = refl
+
+-- what reads nothing is exact where each tree is higher than the limit
+nothing_exact : {A : Type 0} (spelled : A → List Mark → List Mark) (Fits : A → Type 0) (goes_on : A → Lexeme → Bool) (high : A → ℕ) (least : ℕ) (read : State → Read A) → ((x : A) → 1 ≤ high x) → ((s : State) → read s ≡ None) → Exact spelled Fits goes_on high 0 least read
+nothing_exact spelled Fits goes_on high least read some none = record {
+  piece = λ s x t h. let e = none s in absurd cc;
+  found = λ s x r f l g h. let k = some x in absurd (omega arith);
+}
+
+none_exact : AreExact no_readers
+none_exact = record {
+  piece = λ level h k. nothing_exact marks.expr (FitsAt level) (goes_on level) height 1 (no_readers.piece level) height_some (λ s. refl);
+  whole = nothing_exact marks.expr Parts goes_on_whole height 1 no_readers.whole height_some (λ s. refl);
+  declarator = λ free outer. nothing_exact (marks.declarator free outer) (FitsFree free) nothing_more declarator_height 0 (λ s. where_left s.rest None) declarator_height_some (λ s. none_left s.rest);
+  no_longer = λ free outer s x t h. absurd cc;
+  member = nothing_exact marks.member FitsMember nothing_more member_height 1 no_readers.member member_height_some (λ s. refl);
+}
+
+-- ---- one node more
 
 above_exact : (R : Readers) → AreExact R → AreExact (above R)
 above_exact R e = record {
   piece = λ level h k. piece_above_exact R e (types_exact R e).type_name level h k;
   whole = whole_above_exact R e (types_exact R e).type_name;
   declarator = λ free outer. declarator_above_exact R e (parameter_exact R e) free outer;
-  no_longer = declarator_above_no_longer R e;
+  no_longer = declarator_above_no_longer R e (parameter_exact R e);
   member = member_above_exact R e;
 }
-
-none_exact : AreExact no_readers
-none_exact = ?
 
 pub no_limit : readers zero ≡ no_readers
 unfolding readers

@@ -1,6 +1,5 @@
 -- Readers of specifiers are exact.
 use Rattle.std.proofs.Common.{◌≡◌, ◌≤◌, ◌+◌, ◌==◌, ◌↔◌, ◌||◌, if◌then◌else◌, ℕ, Bool, true, false, max, Option, Some, None, List, [], ◌∷◌, length, refl, sym, ap, ◌∙◌, subst, arith}
-use Rattle.std.proofs.lemmas.Bool.Decides.{nat_tests}
 use Rattle.c_ast.specs.declared.specifier.Storage.{Storage}
 use Rattle.c_ast.specs.declared.specifier.Storage.TheVariants as storage
 use Rattle.c_ast.specs.declared.specifier.Qualifier.{Qualifier}
@@ -23,7 +22,7 @@ use Rattle.c_readings.specs.Words.{Word, StorageWord, QualifierWord, BasicWord, 
 use Rattle.c_readings.specs.Reading.{State, Read, gives, answer, here, beyond, tail, bind, many, all_of, with_first}
 use Rattle.c_readings.specs.Readers.{Readers, members, enumerators, record_of, enumeration_of, word_by, specifier_by, specifier, more_specifiers, some_specifiers, specifiers, tag}
 use Rattle.c_readings.specs.Exact.{RunsOn, Finds, IsPiece, Exact, AreExact, nothing_more}
-use Rattle.c_readings.proofs.Steps.{Yields, yields, read_so, yields_also, bind_yields, exact_yields, exact_by, nothing_ends, Takes, past, first_yields, taken_used, iff_same, iff_then, iff_path, here_iff, token_iff, typed_iff, asked_iff, bind_finds, here_is, here_finds, first_finds, typed_finds, first_is_at}
+use Rattle.c_readings.proofs.Steps.{same_number, Yields, yields, read_so, yields_also, bind_yields, exact_yields, exact_by, nothing_ends, Takes, past, first_yields, taken_used, iff_same, iff_then, iff_path, here_iff, token_iff, typed_iff, asked_iff, bind_finds, here_is, here_finds, first_finds, typed_finds, first_is_at}
 use Rattle.c_readings.proofs.Lists.{Every, Last, Fit, EndsAt, IsItem, IsList, many_yields, many_finds}
 use Rattle.c_readings.proofs.Firsts.{no_two}
 use Rattle.c_readings.proofs.Records.{FitsSomeMembers, members_exact}
@@ -64,9 +63,6 @@ word_known EnumWord = refl
 abbrev Numbered : ℕ → Option Word → Type 0
 Numbered k None = Unit {0}
 Numbered k (Some w) = k ≡ number_of w
-
-same_number : (j k : ℕ) → (j == k) ≡ true → j ≡ k
-same_number j k h = grind (arith, nat_tests)
 
 number_if : (b : Bool) (k j : ℕ) (w : Word) (o : Option Word) → (b ≡ true → k ≡ j) → j ≡ number_of w → Numbered k o → Numbered k (if b then Some w else o)
 number_if true k j w o f e h = f refl ∙ e

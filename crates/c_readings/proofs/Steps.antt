@@ -81,7 +81,7 @@ name_then_yields f (Text b) s Q h = tt
 pub name_yields : {B : Type 0} (s : State) (f : List ℕ → State → Read B) (Q : B → State → Type 0) → ((n : List ℕ) (us : List Placed) → Takes s.rest (Name n) us → Yields (f n (past s us)) Q) → Yields (one_name s f) Q
 name_yields s f Q h = first_yields s (name_then f) Q (λ l us k. name_then_yields f l (past s us) Q (λ n e. h n us (subst (λ m. Takes s.rest m us) e k)))
 
-same_number : (j k : ℕ) → (j == k) ≡ true → j ≡ k
+pub same_number : (j k : ℕ) → (j == k) ≡ true → j ≡ k
 same_number j k h = grind (arith, nat_tests)
 
 sign_is : (k : ℕ) (l : Lexeme) → is_sign k l ≡ true → l ≡ Sign k
