@@ -139,7 +139,7 @@ kind_taken level n (t ∷ ts) k h = (t.lexeme, (t.line, refl), kind_is level n t
 
 -- what is given where the chain ends, or goes on by one link
 chained_yields : (R : Readers) → AreExact R → (level : ℕ) (s : State) (a : ExprTree) (t : State) (go : ExprTree → State → Read ExprTree) → Begun R level s a t → ((x : ExprTree) (u : State) → Begun R level s x u → Yields (go x u) (Ended R level s)) → (o : Option LinkKind) → kind_on level (rank a) t.rest ≡ o → Yields (chained R (here s) a o t go) (Ended R level s)
-chained_yields R e level s a t go b g None h = record { fits = b.fits; low = b.low; ends = ends_both level a t.rest h b.ends; used = b.used; runs = b.runs; }
+chained_yields R e level s a t go b g None h = record { fits = b.fits; low = b.low; ends = ends_both level a t.rest h b.ends; used = b.used; runs = b.runs }
 chained_yields R e level s a t go b g (Some k) h =
     let w = kind_taken level (rank a) t.rest k h in
     if_yields (nat_le (height a) R.limit) (bind (link R k (beyond t)) (λ m u. go (linked (here s) a m) u)) None (Ended R level s) (λ low.

@@ -84,9 +84,9 @@ module _ (R : Readers) (e : AreExact R) where
         ends = nothing_ends (Inner d) (tail t.rest);
         used = omega arith;
         runs = λ r.
-          asked_then_iff free true (Tok (Sign 2) ∷ marks.declarator free outer d (Tok (Sign 3) ∷ r)) s a
-          (token_iff (Sign 2) (marks.declarator free outer d (Tok (Sign 3) ∷ r)) s us k
-          (iff_then (h.runs (Tok (Sign 3) ∷ r)) (token_iff (Sign 3) r t (tail t.rest) j iff_same)));
+            asked_then_iff free true (Tok (Sign 2) ∷ marks.declarator free outer d (Tok (Sign 3) ∷ r)) s a
+            (token_iff (Sign 2) (marks.declarator free outer d (Tok (Sign 3) ∷ r)) s us k
+            (iff_then (h.runs (Tok (Sign 3) ∷ r)) (token_iff (Sign 3) r t (tail t.rest) j iff_same)));
       }
 
   core_by_yields : (free outer : Bool) (l : Lexeme) (s : State) (us : List Placed) → (free ≡ true → answer IsCore s ≡ true) → Takes s.rest l us → Yields (core_by R free outer l (past s us)) (IsCoreAt free outer s)
@@ -167,17 +167,19 @@ module _ (R : Readers) (e : AreExact R) (p : Exact marks.parameter FitsParameter
       let b = h.used in
       let d = k.used in
       let i = h.low in
-      let j = k.low in
-      (omega arith, λ w. record {
-        fits = fits_so free (here s) ps c ss h.fits k.fits;
-        low = omega arith;
-        ends = nothing_ends (Declarator (here s) ps c ss) u.rest;
-        used = omega arith;
-        runs = λ r.
-          here_iff (marks.pointers_then ps (marks.core free outer c (marks.suffixes own ss r))) s w
-          (iff_then (pointers_run s (marks.core free outer c (marks.suffixes own ss r)))
-          (iff_then (h.runs (marks.suffixes own ss r)) (k.runs r)));
-      })))
+      let j = k.low in (
+        omega arith,
+        λ w. record {
+          fits = fits_so free (here s) ps c ss h.fits k.fits;
+          low = omega arith;
+          ends = nothing_ends (Declarator (here s) ps c ss) u.rest;
+          used = omega arith;
+          runs = λ r.
+              here_iff (marks.pointers_then ps (marks.core free outer c (marks.suffixes own ss r))) s w
+              (iff_then (pointers_run s (marks.core free outer c (marks.suffixes own ss r)))
+              (iff_then (h.runs (marks.suffixes own ss r)) (k.runs r)));
+        },
+      )))
 
   above_found : (free outer : Bool) (x : DeclaratorTree) (r : List Mark) (s : State) → FitsFree free x → declarator_height x ≤ suc R.limit → RunsOn (marks.declarator free outer x r) s → Finds (where_left s.rest (declarator_above R free outer s)) x r
   unfolding declarator_above

@@ -126,9 +126,9 @@ whole_yields R e n s =
     bind_yields (piece_above R 1 s) (λ a t. ask (IsSign 45) t (if nat_le (height a) R.limit then bind (commas (R.piece 1) t) (λ es u. gives (Sequence (here s) (exprs_of (a ∷ es))) u) else None) (gives a t)) _ (Whole R s) (piece_yields R e n 1 (omega arith) s) (λ a t p.
     if_yields (answer (IsSign 45) t) (if nat_le (height a) R.limit then bind (commas (R.piece 1) t) (λ es u. gives (Sequence (here s) (exprs_of (a ∷ es))) u) else None) (gives a t) (Whole R s)
     (λ c. if_yields (nat_le (height a) R.limit) (bind (commas (R.piece 1) t) (λ es u. gives (Sequence (here s) (exprs_of (a ∷ es))) u)) None (Whole R s)
-      (λ low. bind_yields (commas (R.piece 1) t) (λ es u. gives (Sequence (here s) (exprs_of (a ∷ es))) u) _ (Whole R s) (behind_commas_yields R e t) (λ xs u k. sequence_is R s a t xs u p c (le_known (height a) R.limit low) k))
-      (λ low. tt))
-    (λ c. record { fits = p.fits.1; low = p.low; ends = ends_whole a t.rest c p.ends; used = p.used; runs = p.runs; }))
+    (λ low. bind_yields (commas (R.piece 1) t) (λ es u. gives (Sequence (here s) (exprs_of (a ∷ es))) u) _ (Whole R s) (behind_commas_yields R e t) (λ xs u k. sequence_is R s a t xs u p c (le_known (height a) R.limit low) k))
+    (λ low. tt))
+    (λ c. record { fits = p.fits.1; low = p.low; ends = ends_whole a t.rest c p.ends; used = p.used; runs = p.runs }))
 
 whole_single : (R : Readers) → AreExact R → TypeNames R → (x : ExprTree) (r : List Mark) (s : State) → 1 ≤ rank x → Parts x → height x ≤ suc R.limit → Stops goes_on_whole x r → RunsOn (marks.expr x r) s → Finds (whole_above R s) x r
 unfolding whole_above

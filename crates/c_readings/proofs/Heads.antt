@@ -134,7 +134,7 @@ head_by_yields R e n level s h (Name v) us k = if_yields (is_typedef s.names v) 
     variable_is : is_typedef s.names v ≡ false → Begun R level s (Variable (here s) v) (past s us)
     variable_is a =
         let c = taken_used s.rest us (Name v) k in
-        record { fits = (h, tt); low = omega arith; ends = ends_never behind (Variable (here s) v) us (λ l. refl); used = omega arith; runs = λ r. here_iff (Plain v ∷ r) s (omega arith) (plain_iff v r s us a k iff_same); }
+        record { fits = (h, tt); low = omega arith; ends = ends_never behind (Variable (here s) v) us (λ l. refl); used = omega arith; runs = λ r. here_iff (Plain v ∷ r) s (omega arith) (plain_iff v r s us a k iff_same) }
 head_by_yields R e n level s h (Integer v i) us k = begun R level s (IntegerConstant (here s) v i) (Integer v i) us (past s us) (λ r. r) k (h, tt) (omega arith) (ends_never behind (IntegerConstant (here s) v i) us (λ l. refl)) (omega arith) (λ r. refl) (λ r. iff_same)
 head_by_yields R e n level s h (Character v) us k = begun R level s (CharacterConstant (here s) v) (Character v) us (past s us) (λ r. r) k (h, tt) (omega arith) (ends_never behind (CharacterConstant (here s) v) us (λ l. refl)) (omega arith) (λ r. refl) (λ r. iff_same)
 head_by_yields R e n level s h (Text b) us k =

@@ -199,9 +199,9 @@ module _ (R : Readers) (e : Exact marks.parameter FitsParameter nothing_more par
         ends = nothing_ends {A = ParameterTrees × Bool} (parameters_of (p ∷ ps), more) v.rest;
         used = omega arith;
         runs = λ r.
-          iff_then (h.runs (marks.more_parameters (parameters_of ps) more r))
-          (iff_then (iff_path (marks.more_parameters (parameters_of ps) more r) (listed marks.parameter ps (marks.dots_then more r)) t (more_listed ps more r))
-          (iff_then (k.runs (marks.dots_then more r)) (g r)));
+            iff_then (h.runs (marks.more_parameters (parameters_of ps) more r))
+            (iff_then (iff_path (marks.more_parameters (parameters_of ps) more r) (listed marks.parameter ps (marks.dots_then more r)) t (more_listed ps more r))
+            (iff_then (k.runs (marks.dots_then more r)) (g r)));
       }
 
   parameters_yields : (s : State) → Yields (parameters R s) (IsParameters s)

@@ -31,9 +31,9 @@ module _ (R : Readers) (e : AreExact R) (p : Exact marks.parameter FitsParameter
         ends = nothing_ends (ArraySuffix (here s) NoExpr) (tail (tail s.rest));
         used = omega arith;
         runs = λ r.
-          here_iff (Tok (Sign 0) ∷ Tok (Sign 1) ∷ r) s (omega arith)
-          (token_iff (Sign 0) (Tok (Sign 1) ∷ r) s (tail s.rest) k
-          (token_iff (Sign 1) r (beyond s) (tail (tail s.rest)) j iff_same));
+            here_iff (Tok (Sign 0) ∷ Tok (Sign 1) ∷ r) s (omega arith)
+            (token_iff (Sign 0) (Tok (Sign 1) ∷ r) s (tail s.rest) k
+            (token_iff (Sign 1) r (beyond s) (tail (tail s.rest)) j iff_same));
       }
 
   one_size : (own : Bool) (s : State) (i : ExprTree) (t : State) → Takes s.rest (Sign 0) (tail s.rest) → IsPiece marks.expr (FitsAt 2) (goes_on 2) height R.limit 1 (beyond s) i t → Takes t.rest (Sign 1) (tail t.rest) → IsSuffixAt own s (ArraySuffix (here s) (AnExpr i)) (beyond t)
@@ -46,9 +46,9 @@ module _ (R : Readers) (e : AreExact R) (p : Exact marks.parameter FitsParameter
         ends = nothing_ends (ArraySuffix (here s) (AnExpr i)) (tail t.rest);
         used = omega arith;
         runs = λ r.
-          here_iff (Tok (Sign 0) ∷ marks.expr i (Tok (Sign 1) ∷ r)) s (omega arith)
-          (token_iff (Sign 0) (marks.expr i (Tok (Sign 1) ∷ r)) s (tail s.rest) k
-          (iff_then (h.runs (Tok (Sign 1) ∷ r)) (token_iff (Sign 1) r t (tail t.rest) j iff_same)));
+            here_iff (Tok (Sign 0) ∷ marks.expr i (Tok (Sign 1) ∷ r)) s (omega arith)
+            (token_iff (Sign 0) (marks.expr i (Tok (Sign 1) ∷ r)) s (tail s.rest) k
+            (iff_then (h.runs (Tok (Sign 1) ∷ r)) (token_iff (Sign 1) r t (tail t.rest) j iff_same)));
       }
 
   pub size_yields : (own : Bool) (s : State) → Takes s.rest (Sign 0) (tail s.rest) → Yields (size R (here s) (beyond s)) (IsSuffixAt own s)
@@ -78,9 +78,9 @@ module _ (R : Readers) (e : AreExact R) (p : Exact marks.parameter FitsParameter
         ends = nothing_ends (NoParameters (here s)) (close_state own t).rest;
         used = omega arith;
         runs = λ r.
-          here_iff (Tok (Sign 2) ∷ Open ∷ Tok (Sign 3) ∷ marks.closed_then own r) s (omega arith)
-          (token_iff (Sign 2) (Open ∷ Tok (Sign 3) ∷ marks.closed_then own r) s (tail s.rest) k
-          (token_iff (Sign 3) (marks.closed_then own r) (open_state (beyond s)) (tail (tail s.rest)) j (close_iff own r t)));
+            here_iff (Tok (Sign 2) ∷ Open ∷ Tok (Sign 3) ∷ marks.closed_then own r) s (omega arith)
+            (token_iff (Sign 2) (Open ∷ Tok (Sign 3) ∷ marks.closed_then own r) s (tail s.rest) k
+            (token_iff (Sign 3) (marks.closed_then own r) (open_state (beyond s)) (tail (tail s.rest)) j (close_iff own r t)));
       }
 
   some_names : (own : Bool) (s : State) (ns : List (List ℕ)) (t : State) → Takes s.rest (Sign 2) (tail s.rest) → IsNames (open_state (beyond s)) ns t → IsClosedAt own s (NameList (here s) ns) t
@@ -93,9 +93,9 @@ module _ (R : Readers) (e : AreExact R) (p : Exact marks.parameter FitsParameter
         ends = nothing_ends (NameList (here s) ns) (close_state own t).rest;
         used = omega arith;
         runs = λ r.
-          here_iff (Tok (Sign 2) ∷ Open ∷ marks.names_then ns (marks.closed_then own r)) s (omega arith)
-          (token_iff (Sign 2) (Open ∷ marks.names_then ns (marks.closed_then own r)) s (tail s.rest) k
-          (iff_then (h.runs (marks.closed_then own r)) (close_iff own r t)));
+            here_iff (Tok (Sign 2) ∷ Open ∷ marks.names_then ns (marks.closed_then own r)) s (omega arith)
+            (token_iff (Sign 2) (Open ∷ marks.names_then ns (marks.closed_then own r)) s (tail s.rest) k
+            (iff_then (h.runs (marks.closed_then own r)) (close_iff own r t)));
       }
 
   some_parameters : (own : Bool) (s : State) (ps : ParameterTrees × Bool) (t : State) → Takes s.rest (Sign 2) (tail s.rest) → IsParameters R p (open_state (beyond s)) ps t → IsClosedAt own s (Prototype (here s) ps.0 ps.1) t
@@ -108,9 +108,9 @@ module _ (R : Readers) (e : AreExact R) (p : Exact marks.parameter FitsParameter
         ends = nothing_ends (Prototype (here s) ps.0 ps.1) (close_state own t).rest;
         used = omega arith;
         runs = λ r.
-          here_iff (Tok (Sign 2) ∷ Open ∷ marks.parameters ps.0 ps.1 (marks.closed_then own r)) s (omega arith)
-          (token_iff (Sign 2) (Open ∷ marks.parameters ps.0 ps.1 (marks.closed_then own r)) s (tail s.rest) k
-          (iff_then (h.runs (marks.closed_then own r)) (close_iff own r t)));
+            here_iff (Tok (Sign 2) ∷ Open ∷ marks.parameters ps.0 ps.1 (marks.closed_then own r)) s (omega arith)
+            (token_iff (Sign 2) (Open ∷ marks.parameters ps.0 ps.1 (marks.closed_then own r)) s (tail s.rest) k
+            (iff_then (h.runs (marks.closed_then own r)) (close_iff own r t)));
       }
 
   list_yields : (own : Bool) (s : State) → Takes s.rest (Sign 2) (tail s.rest) → Yields (parameter_list R (here s) (open_state (beyond s))) (IsClosedAt own s)
