@@ -11,16 +11,12 @@ use Rattle.c_ast.specs.Trees.{DeclaratorTree, Declarator, CoreTree, Named, Inner
 use Rattle.c_readings.specs.Reading.{State, Read, gives, answer, here, tail, beyond, with_first}
 use Rattle.c_readings.specs.Readers.{Readers, parameter, pointers_on, core_by, core, suffixes, declarator_behind, declarator_above}
 use Rattle.c_readings.specs.Exact.{RunsOn, Finds, IsPiece, Exact, AreExact, FitsFree, nothing_more, where_left}
-use Rattle.c_readings.proofs.Steps.{same_number, Yields, yields, exact_by, nothing_ends, nothing_stops, read_so, bind_yields, if_yields, first_yields, sign_yields, Takes, past, taken_used, iff_same, iff_then, here_iff, token_iff, asked_iff, bind_finds, if_finds_yes, if_finds_no, first_finds, here_finds, sign_finds}
+use Rattle.c_readings.proofs.Steps.{same_number, Yields, yields, exact_by, nothing_ends, nothing_stops, read_so, bind_yields, if_yields, first_yields, sign_yields, Takes, past, taken_used, iff_same, iff_then, here_iff, token_iff, asked_iff, bind_finds, if_finds_yes, if_finds_no, first_finds, here_finds, sign_finds, is_left}
 use Rattle.c_readings.proofs.Pointers.{pointers_run, pointers_used, pointers_read}
 use Rattle.c_readings.proofs.ParameterLists.{not_it}
 use Rattle.c_readings.proofs.Suffixes.{suffixes_exact}
 
 -- ---- where a token is left
-
-left_same : {A : Type 0} (ts : List Placed) (o : Read A) → 1 ≤ length ts → where_left ts o ≡ o
-left_same [] o h = absurd (omega arith)
-left_same (t ∷ ts) o h = refl
 
 left_yields : {A : Type 0} (ts : List Placed) (o : Read A) (Q : A → State → Type 0) → (1 ≤ length ts → Yields o Q) → Yields (where_left ts o) Q
 left_yields [] o Q h = tt
@@ -72,7 +68,7 @@ module _ (R : Readers) (e : AreExact R) where
   inner_yields free outer s =
       yields (R.declarator free outer s) _ (λ d t k w.
       let n = e.no_longer free outer s d t k in
-      (e.declarator free outer).piece s d t (left_same s.rest (R.declarator free outer s) (omega arith) ∙ k))
+      (e.declarator free outer).piece s d t (is_left s.rest (R.declarator free outer s) (omega arith) ∙ k))
 
   inner_piece : (free outer : Bool) (s : State) (us : List Placed) (d : DeclaratorTree) (t : State) → (free ≡ true → answer IsCore s ≡ true) → Takes s.rest (Sign 2) us → IsInner free outer (past s us) d t → Takes t.rest (Sign 3) (tail t.rest) → IsCoreAt free outer s (Inner d) (beyond t)
   inner_piece free outer s us d t a k h j =

@@ -1,19 +1,18 @@
 -- Readers of enumerators are exact.
-use Rattle.std.proofs.Common.{◌≡◌, ◌≤◌, ◌+◌, ◌↔◌, ◌&&◌, ℕ, suc, Bool, true, false, max, not, Option, Some, None, List, [], ◌∷◌, length, refl, sym, ap, ◌∙◌, subst, arith}
+use Rattle.std.proofs.Common.{◌≡◌, ◌≤◌, ◌+◌, ◌↔◌, ℕ, Bool, true, false, List, [], ◌∷◌, length, refl, sym, ap, subst, arith}
 use Rattle.c_ast.specs.Lexemes.{Lexeme, Name, Sign, Placed}
-use Rattle.c_ast.specs.InForce.{InForce, put}
-use Rattle.c_ast.specs.Marks.{Mark, Tok, Here, Ask, Put, IsSign, Runs, next, first_is, is_sign, lexemes}
+use Rattle.c_ast.specs.InForce.{put}
+use Rattle.c_ast.specs.Marks.{Mark, Tok, Put, IsSign, is_sign}
 use Rattle.c_ast.specs.ExprMarks as marks
 use Rattle.c_ast.specs.Trees.{MaybeExpr, NoExpr, AnExpr, EnumeratorTree, Enumerator, EnumeratorTrees, NoEnumerators, Enumerators}
 use Rattle.c_ast.specs.Views.{enumerators_of}
-use Rattle.c_ast.specs.Levels.{IsSome, FitsEnumerator, FitsEnumerators, OneEnumerator}
-use Rattle.c_ast.specs.Heights.{maybe_height, enumerator_height, enumerators_height}
-use Rattle.c_ast.specs.Reach.{goes_on, link_of}
-use Rattle.c_readings.specs.Reading.{State, Read, gives, answer, ask, here, beyond, tail, bind, all_of, one_sign, one_name, name_then}
+use Rattle.c_ast.specs.Levels.{FitsEnumerator, FitsEnumerators, OneEnumerator}
+use Rattle.c_ast.specs.Heights.{enumerator_height, enumerators_height}
+use Rattle.c_readings.specs.Reading.{State, Read, gives, answer, ask, here, beyond, tail, bind, all_of, one_sign, name_then}
 use Rattle.c_readings.specs.Readers.{Readers, piece_behind, enumerator, enumerators, goes_on_without}
-use Rattle.c_readings.specs.Exact.{RunsOn, Finds, Ends, Stops, IsPiece, Exact, AreExact, nothing_more}
-use Rattle.c_readings.proofs.Steps.{Yields, yields, bind_yields, if_yields, exact_yields, exact_by, nothing_ends, nothing_stops, Takes, past, name_yields, sign_taken, sign_yields, taken_used, iff_same, iff_then, iff_path, here_iff, token_iff, asked_iff, bind_finds, if_finds_yes, asked_yes, asked_no, here_is, first_finds, sign_finds, sign_next, beyond_runs, first_is_at}
-use Rattle.c_readings.proofs.Lists.{Every, Last, Fit, IsListed, listed, listed_yields, listed_finds, last_stops}
+use Rattle.c_readings.specs.Exact.{RunsOn, Finds, Stops, IsPiece, Exact, AreExact, nothing_more}
+use Rattle.c_readings.proofs.Steps.{Yields, bind_yields, if_yields, exact_yields, exact_by, nothing_ends, Takes, past, name_yields, sign_taken, sign_yields, taken_used, iff_same, iff_then, iff_path, here_iff, token_iff, bind_finds, asked_yes, asked_no, here_is, first_finds, sign_finds, sign_next, beyond_runs, first_is_at, taken_left}
+use Rattle.c_readings.proofs.Lists.{Every, Fit, IsListed, listed, listed_yields, listed_finds, last_stops, without_comma, without_yes, without_no_comma, without_sign}
 use Rattle.c_readings.proofs.Operators.{Closer, closer, stops}
 use Rattle.c_readings.proofs.Records.{maybe_goes_on, maybe_stops, IsBehind, piece_behind_exact}
 
@@ -29,19 +28,13 @@ IsEnumerator R s x t = IsPiece marks.enumerator FitsEnumerator enumerator_goes_o
 abbrev declared : List ℕ → State → State
 declared n u = record { names = put u.names n false; rest = u.rest }
 
-enumerator_used : (ss ts us : List Placed) (n : List ℕ) → Takes ss (Name n) ts → length us + 0 ≤ length ts → length us + 1 ≤ length ss
-enumerator_used ss ts us n h k = let u = taken_used ss ts (Name n) h in omega arith
-
-name_left : (ss ts : List Placed) (n : List ℕ) → Takes ss (Name n) ts → 1 ≤ length ss
-name_left ss ts n h = let u = taken_used ss ts (Name n) h in omega arith
-
 enumerator_by : (R : Readers) (s : State) (n : List ℕ) (us : List Placed) (v : MaybeExpr) (u : State) → Takes s.rest (Name n) us → IsBehind R 34 (past s us) v u → IsEnumerator R s (Enumerator (here s) n v) (declared n u)
 enumerator_by R s n us v u h k = record {
   fits = k.fits;
   low = k.low;
   ends = k.ends;
-  used = enumerator_used s.rest us u.rest n h k.used;
-  runs = λ r. here_iff (Tok (Name n) ∷ marks.expr_behind 34 v (Put n false ∷ r)) s (name_left s.rest us n h) (token_iff (Name n) (marks.expr_behind 34 v (Put n false ∷ r)) s us h (k.runs (Put n false ∷ r)));
+  used = let a = taken_used s.rest us (Name n) h in let b = k.used in omega arith;
+  runs = λ r. here_iff (Tok (Name n) ∷ marks.expr_behind 34 v (Put n false ∷ r)) s (taken_left s.rest us (Name n) h) (token_iff (Name n) (marks.expr_behind 34 v (Put n false ∷ r)) s us h (k.runs (Put n false ∷ r)));
 }
 
 enumerator_yields : (R : Readers) → AreExact R → (s : State) → Yields (enumerator R s) (IsEnumerator R s)
@@ -70,27 +63,10 @@ enumerator_stops (Enumerator l n v) r c = maybe_stops v r c
 
 -- ---- lists that may end with a comma
 
--- where the list goes on, a comma is next, and no such sign behind it
-pub goes_comma : (a b : Bool) → (a && b) ≡ true → a ≡ true
-goes_comma true b h = refl
-goes_comma false b h = absurd cc
-
-pub both_true : (a b : Bool) → a ≡ true → b ≡ true → (a && b) ≡ true
-both_true true b h k = k
-both_true false b h k = absurd cc
-
-pub first_false : (a b : Bool) → a ≡ false → (a && b) ≡ false
-first_false true b h = absurd cc
-first_false false b h = refl
-
-pub second_false : (a b : Bool) → b ≡ false → (a && b) ≡ false
-second_false true b h = h
-second_false false b h = refl
-
 -- behind a list comes its end, so it doesn't go on
 end_stops : (comma : Bool) (r : List Mark) (s : State) → RunsOn (marks.end_then comma r) s → goes_on_without 5 s ≡ false
-end_stops true r s h = second_false _ _ (ap not (sign_next 5 r (beyond s) (beyond_runs (Sign 45) (Tok (Sign 5) ∷ r) s h)))
-end_stops false r s h = first_false _ _ (first_is_at (is_sign 45) (Sign 5) r s h)
+end_stops true r s h = without_sign 5 s (sign_next 45 (Tok (Sign 5) ∷ r) s h) (sign_next 5 r (beyond s) (beyond_runs (Sign 45) (Tok (Sign 5) ∷ r) s h))
+end_stops false r s h = without_no_comma 5 s (first_is_at (is_sign 45) (Sign 5) r s h)
 
 end_closes : (comma : Bool) (r : List Mark) → Closer (marks.end_then comma r)
 end_closes true r = closer (Sign 45) (Tok (Sign 5) ∷ r) refl
@@ -104,20 +80,14 @@ pub record IsEnd (comma : Bool) (s t : State) : Type 0 where
   pub used : length t.rest + 1 ≤ length s.rest
   pub runs : (r : List Mark) → RunsOn (marks.end_then comma r) s ↔ RunsOn r t
 
-one_used : (ss ts : List Placed) (l : Lexeme) → Takes ss l ts → length ts + 1 ≤ length ss
-one_used ss ts l h = let u = taken_used ss ts l h in omega arith
-
-two_used : (ss ts us : List Placed) (l m : Lexeme) → Takes ss l ts → Takes ts m us → length us + 1 ≤ length ss
-two_used ss ts us l m h k = let u = taken_used ss ts l h in let v = taken_used ts us m k in omega arith
-
 comma_end : (s : State) → Takes s.rest (Sign 45) (tail s.rest) → Takes (tail s.rest) (Sign 5) (tail (tail s.rest)) → IsEnd true s (beyond (beyond s))
 comma_end s h k = record {
-  used = two_used s.rest (tail s.rest) (tail (tail s.rest)) (Sign 45) (Sign 5) h k;
+  used = let u = taken_used s.rest (tail s.rest) (Sign 45) h in let v = taken_used (tail s.rest) (tail (tail s.rest)) (Sign 5) k in omega arith;
   runs = λ r. token_iff (Sign 45) (Tok (Sign 5) ∷ r) s (tail s.rest) h (token_iff (Sign 5) r (beyond s) (tail (tail s.rest)) k iff_same);
 }
 
 lone_end : (s : State) → Takes s.rest (Sign 5) (tail s.rest) → IsEnd false s (beyond s)
-lone_end s h = record { used = one_used s.rest (tail s.rest) (Sign 5) h; runs = λ r. token_iff (Sign 5) r s (tail s.rest) h iff_same }
+lone_end s h = record { used = let u = taken_used s.rest (tail s.rest) (Sign 5) h in omega arith; runs = λ r. token_iff (Sign 5) r s (tail s.rest) h iff_same }
 
 end_yields : {X : Type 0} (x : X) (s : State) (Q : X × Bool → State → Type 0) → ((comma : Bool) (t : State) → IsEnd comma s t → Q (x, comma) t) → Yields (end_by x s) Q
 end_yields x s Q h =
@@ -170,9 +140,6 @@ enumerators_are_fit n (Enumerators x xs) f l = ((f.0, omega arith), enumerators_
 abbrev pub more_enumerators : State → Bool
 more_enumerators s = goes_on_without 5 s
 
-all_used : (es : List EnumeratorTree) (ss ts us vs : List Placed) → length ts + 1 ≤ length ss → length us + length es ≤ length ts → length vs + 1 ≤ length us → length vs + 1 ≤ length ss
-all_used es ss ts us vs h k i = omega arith
-
 enumerators_by : (R : Readers) (s : State) (e : EnumeratorTree) (t : State) (es : List EnumeratorTree) (u : State) (comma : Bool) (v : State) → IsEnumerator R s e t → IsListed marks.enumerator FitsEnumerator enumerator_goes_on enumerator_height R.limit (λ b w. more_enumerators w) t es u → IsEnd comma u v → AreEnumerators R s (enumerators_of (e ∷ es), comma) v
 enumerators_by R s e t es u comma v h k i =
     let f = enumerators_fit R.limit es k.kept in
@@ -182,7 +149,7 @@ enumerators_by R s e t es u comma v h k i =
       fits = (tt, (h.fits, f.0));
       low = omega arith;
       ends = nothing_ends {A = EnumeratorTrees × Bool} (enumerators_of (e ∷ es), comma) v.rest;
-      used = all_used es s.rest t.rest u.rest v.rest h.used k.used i.used;
+      used = let a = h.used in let b = k.used in let c = i.used in omega arith;
       runs = λ r. iff_then (iff_path (marks.enumerator e (marks.more_enumerators (enumerators_of es) comma r)) (marks.enumerator e (listed marks.enumerator es (marks.end_then comma r))) s (ap (marks.enumerator e) (more_enumerators_listed es comma r))) (iff_then (h.runs (listed marks.enumerator es (marks.end_then comma r))) (iff_then (k.runs (marks.end_then comma r)) (i.runs r)));
     }
 
@@ -190,7 +157,7 @@ enumerators_yields : (R : Readers) → AreExact R → (s : State) → Yields (en
 unfolding enumerators
 enumerators_yields R a s =
     bind_yields (enumerator R s) _ _ _ (enumerator_yields R a s) (λ e t h.
-    bind_yields (all_of (λ b u. more_enumerators u) (λ b u. enumerator R (beyond u)) (λ b x. b) true t) _ _ _ (listed_yields marks.enumerator FitsEnumerator enumerator_goes_on enumerator_height R.limit 1 (enumerator R) (λ b u. more_enumerators u) (enumerator_exact R a) (λ b u i. goes_comma _ _ i) t) (λ es u k.
+    bind_yields (all_of (λ b u. more_enumerators u) (λ b u. enumerator R (beyond u)) (λ b x. b) true t) _ _ _ (listed_yields marks.enumerator FitsEnumerator enumerator_goes_on enumerator_height R.limit 1 (enumerator R) (λ b u. more_enumerators u) (enumerator_exact R a) (λ b u i. without_comma 5 u i) t) (λ es u k.
     end_yields (enumerators_of (e ∷ es)) u (AreEnumerators R s) (λ comma v i. enumerators_by R s e t es u comma v h k i)))
 
 -- an enumerator begins with no sign
@@ -198,7 +165,7 @@ enumerator_no_brace : (x : EnumeratorTree) (m : List Mark) (s : State) → RunsO
 enumerator_no_brace (Enumerator l n v) m s h = first_is_at (is_sign 5) (Name n) (marks.expr_behind 34 v (Put n false ∷ m)) s h.1
 
 goes_to_enumerator : (s : State) (x : EnumeratorTree) (m : List Mark) → RunsOn (Tok (Sign 45) ∷ marks.enumerator x m) s → more_enumerators s ≡ true
-goes_to_enumerator s x m h = both_true _ _ (sign_next 45 (marks.enumerator x m) s h) (ap not (enumerator_no_brace x m (beyond s) (beyond_runs (Sign 45) (marks.enumerator x m) s h)))
+goes_to_enumerator s x m h = without_yes 5 s (sign_next 45 (marks.enumerator x m) s h) (enumerator_no_brace x m (beyond s) (beyond_runs (Sign 45) (marks.enumerator x m) s h))
 
 more_close : (es : List EnumeratorTree) (comma : Bool) (r : List Mark) → Closer (listed marks.enumerator es (marks.end_then comma r))
 more_close [] comma r = end_closes comma r
@@ -209,7 +176,7 @@ unfolding enumerators
 enumerators_found R a s e es comma r k h =
     let end : List Mark = marks.end_then comma r in
     bind_finds (enumerator R s) e (listed marks.enumerator es end) r _ (enumerators_of (e ∷ es), comma) (enumerator_found R a s e (listed marks.enumerator es end) k.0.0 k.0.1 (enumerator_stops e (listed marks.enumerator es end) (more_close es comma r)) (subst (λ m. RunsOn (marks.enumerator e m) s) (more_enumerators_listed es comma r) h)) (λ t g.
-    bind_finds (all_of (λ b u. more_enumerators u) (λ b u. enumerator R (beyond u)) (λ b x. b) true t) es end r _ (enumerators_of (e ∷ es), comma) (listed_finds marks.enumerator FitsEnumerator enumerator_goes_on enumerator_height R.limit 1 (enumerator R) (λ b u. more_enumerators u) end (enumerator_exact R a) (λ b u i. goes_comma _ _ i) comma_no_enumerator (λ b u x m f i. goes_to_enumerator u x m i) (λ b u i. end_stops comma r u i) t es (k.1, last_stops enumerator_goes_on end es (λ x. enumerator_stops x end (end_closes comma r))) g) (λ u i.
+    bind_finds (all_of (λ b u. more_enumerators u) (λ b u. enumerator R (beyond u)) (λ b x. b) true t) es end r _ (enumerators_of (e ∷ es), comma) (listed_finds marks.enumerator FitsEnumerator enumerator_goes_on enumerator_height R.limit 1 (enumerator R) (λ b u. more_enumerators u) end (enumerator_exact R a) (λ b u i. without_comma 5 u i) comma_no_enumerator (λ b u x m f i. goes_to_enumerator u x m i) (λ b u i. end_stops comma r u i) t es (k.1, last_stops enumerator_goes_on end es (λ x. enumerator_stops x end (end_closes comma r))) g) (λ u i.
     end_found (enumerators_of (e ∷ es)) comma r u i))
 
 enumerators_all_found : (R : Readers) → AreExact R → (s : State) (es : EnumeratorTrees) (comma : Bool) (r : List Mark) → OneEnumerator es → FitsEnumerators es → enumerators_height es ≤ R.limit → RunsOn (marks.enumerators es comma r) s → Finds (enumerators R s) (es, comma) r

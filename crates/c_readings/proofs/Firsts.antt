@@ -1,18 +1,17 @@
 -- The first token of an expression, and what it isn't.
-use Rattle.std.proofs.Common.{◌≡◌, ◌==◌, ◌&&◌, ◌||◌, not, ℕ, Bool, true, false, nat_le, Some, List, [], ◌∷◌, refl, sym, ap, ◌∙◌, subst, arith}
-use Rattle.std.proofs.lemmas.Bool.Decides.{nat_tests}
+use Rattle.std.proofs.Common.{◌≡◌, ◌==◌, ◌&&◌, ◌||◌, not, ℕ, Bool, true, false, nat_le, Some, List, [], ◌∷◌, refl, sym, ap, ◌∙◌, subst}
 use Rattle.c_ast.specs.declared.operator.PrefixOperator.{PrefixOperator}
 use Rattle.c_ast.specs.declared.operator.PrefixOperator.TheVariants as prefix
 use Rattle.c_ast.specs.Lexemes.{Lexeme, Name, Keyword, Integer, Character, Text, Sign}
 use Rattle.c_ast.specs.InForce.{InForce, is_typedef}
 use Rattle.c_ast.specs.Operators.{prefix_sign, binary_sign, assign_sign, postfix_sign, member_sign}
-use Rattle.c_ast.specs.Marks.{Mark, Tok, Ask, IsSized, first_is, is_sign, is_specifier, lexemes, next_line}
+use Rattle.c_ast.specs.Marks.{Mark, Tok, Ask, IsSized, first_is, is_sign, is_specifier, lexemes, next_line, IsSpecifier}
 use Rattle.c_ast.specs.ExprMarks as marks
 use Rattle.c_ast.specs.Levels.{IsSome, Parts, TwoExprs, AllAssign}
-use Rattle.c_ast.specs.Trees.{ExprTree, Variable, IntegerConstant, CharacterConstant, Literal, Enclosed, Subscript, Called, Selected, Stepped, Prefixed, SizedExpr, SizedType, Converted, Combined, Chosen, Assigned, Sequence, ExprTrees, NoExprs, Exprs}
-use Rattle.c_readings.specs.Reading.{State}
+use Rattle.c_ast.specs.Trees.{ExprTree, Variable, IntegerConstant, CharacterConstant, Literal, Enclosed, Subscript, Called, Selected, Stepped, Prefixed, SizedExpr, SizedType, Converted, Combined, Chosen, Assigned, Sequence, ExprTrees, NoExprs, Exprs, SpecifiersTree, Specified}
+use Rattle.c_readings.specs.Reading.{State, answer}
 use Rattle.c_readings.specs.Exact.{RunsOn}
-use Rattle.c_readings.proofs.Steps.{first_is_at, first_is_plain}
+use Rattle.c_readings.proofs.Steps.{first_is_at, first_is_plain, same_number}
 
 -- the token begins an expression
 abbrev pub starts_expr : InForce → Lexeme → Bool
@@ -116,9 +115,6 @@ pub not_first : (starts is : Lexeme → Bool) (ls : List Lexeme) → ((l : Lexem
 not_first starts is [] g h = refl
 not_first starts is (l ∷ ls) g h = g l h
 
-pub same_number : (j k : ℕ) → (j == k) ≡ true → j ≡ k
-same_number j k h = grind (arith, nat_tests)
-
 other_sign : (names : InForce) (k : ℕ) → starts_expr names (Sign k) ≡ false → (l : Lexeme) → starts_expr names l ≡ true → is_sign k l ≡ false
 other_sign names k f (Name n) h = refl
 other_sign names k f (Keyword j) h = refl
@@ -146,3 +142,20 @@ no_sign k e r s g f h = not_first (starts_expr s.names) (is_sign k) (lexemes s.r
 -- nor with a specifier
 pub no_type : (e : ExprTree) (r : List Mark) (s : State) → Parts e → RunsOn (marks.expr e r) s → first_is (is_specifier s.names false) (lexemes s.rest) ≡ false
 no_type e r s f h = not_first (starts_expr s.names) (is_specifier s.names false) (lexemes s.rest) (no_specifier s.names) (expr_first e r s f h)
+
+-- ---- specifiers
+
+specifier_other : (names : InForce) (typed : Bool) (k : ℕ) (l : Lexeme) → is_specifier names typed l ≡ true → is_sign k l ≡ false
+specifier_other names typed k (Name n) h = refl
+specifier_other names typed k (Keyword j) h = refl
+specifier_other names typed k (Integer v j) h = refl
+specifier_other names typed k (Character v) h = refl
+specifier_other names typed k (Text b) h = refl
+specifier_other names typed k (Sign j) h = absurd cc
+
+-- a specifier is no sign
+pub specifier_no_sign : (names : InForce) (typed : Bool) (k : ℕ) (ls : List Lexeme) → first_is (is_specifier names typed) ls ≡ true → first_is (is_sign k) ls ≡ false
+specifier_no_sign names typed k ls h = not_first (is_specifier names typed) (is_sign k) ls (specifier_other names typed k) h
+
+pub specifiers_next : (x : SpecifiersTree) (r : List Mark) (s : State) → RunsOn (marks.specifiers x r) s → answer (IsSpecifier false) s ≡ true
+specifiers_next (Specified l ss) r s h = h.1.0

@@ -16,9 +16,9 @@ use Rattle.c_readings.specs.Words.{prefix_of}
 use Rattle.c_readings.specs.Reading.{State, Read, gives, bind, answer, ask, here, tail, beyond, on_first, with_first, one_sign}
 use Rattle.c_readings.specs.Readers.{Readers, type_name, text_or, texts_on, prefixed_by, enclosed, cast, sized, signed_by, head_by, head}
 use Rattle.c_readings.specs.Exact.{RunsOn, Finds, Ends, Stops, Exact, AreExact, FitsAt, nothing_more}
-use Rattle.c_readings.proofs.Steps.{Yields, yields, bind_yields, if_yields, first_yields, sign_yields, Takes, past, sign_taken, taken_used, iff_same, iff_then, iff_path, here_iff, token_iff, plain_iff, asked_iff, bind_finds, if_finds_yes, if_finds_no, asked_yes, asked_no, first_finds, here_finds, sign_finds, beyond_runs}
+use Rattle.c_readings.proofs.Steps.{Yields, yields, bind_yields, if_yields, first_yields, sign_yields, Takes, past, sign_taken, taken_used, iff_same, iff_then, iff_path, here_iff, token_iff, plain_iff, asked_iff, bind_finds, if_finds_yes, if_finds_no, asked_yes, asked_no, first_finds, here_finds, sign_finds, beyond_runs, same_number}
 use Rattle.c_readings.proofs.Operators.{operand_levels, prefix_known, stops_whole_at}
-use Rattle.c_readings.proofs.Firsts.{same_number, no_type}
+use Rattle.c_readings.proofs.Firsts.{no_type}
 use Rattle.c_readings.proofs.Links.{by_one, ends_never, ends_like, le_known, known_le, Begun}
 
 -- a type's name is read exactly

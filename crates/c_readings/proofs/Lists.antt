@@ -1,12 +1,12 @@
 -- Lists of items that are read one after another.
-use Rattle.std.proofs.Common.{◌≡◌, ◌≤◌, ◌+◌, ◌↔◌, ℕ, zero, suc, Bool, true, false, Some, None, List, [], ◌∷◌, length, refl, sym, subst, ap, ◌∙◌, arith}
+use Rattle.std.proofs.Common.{◌≡◌, ◌≤◌, ◌+◌, ◌↔◌, ◌&&◌, not, ℕ, zero, suc, Bool, true, false, Some, List, [], ◌∷◌, length, refl, sym, subst, ap, arith}
 use Rattle.c_ast.specs.Lexemes.{Lexeme, Sign, Placed}
-use Rattle.c_ast.specs.Marks.{Mark, Tok, IsSign, Runs, next, first_is, is_sign, lexemes}
+use Rattle.c_ast.specs.Marks.{Mark, Tok, IsSign, next, first_is, is_sign, lexemes}
 use Rattle.c_ast.specs.Levels.{IsSome}
-use Rattle.c_readings.specs.Readers.{some_commas}
-use Rattle.c_readings.specs.Reading.{State, Read, gives, bind, answer, tail, beyond, many, all_of, commas}
+use Rattle.c_readings.specs.Readers.{some_commas, goes_on_without}
+use Rattle.c_readings.specs.Reading.{State, Read, answer, tail, beyond, many, all_of, commas}
 use Rattle.c_readings.specs.Exact.{RunsOn, Finds, Ends, Stops, IsPiece, Exact, nothing_more}
-use Rattle.c_readings.proofs.Steps.{Yields, yields, read_so, exact_yields, nothing_stops, bind_yields, if_yields, Takes, past, sign_taken, taken_used, iff_same, iff_then, token_iff, bind_finds, read_finds, if_finds_yes, if_finds_no, sign_next, beyond_runs}
+use Rattle.c_readings.proofs.Steps.{Yields, yields, exact_yields, nothing_stops, bind_yields, if_yields, sign_taken, taken_used, iff_same, iff_then, token_iff, bind_finds, read_finds, if_finds_yes, if_finds_no, sign_next, beyond_runs, some_same}
 
 -- ---- what is said of each item, and of the last
 
@@ -118,9 +118,6 @@ EndsAt goes_on x t = Ends goes_on x t.rest
 -- some items, with commas between
 abbrev pub IsListed : {A : Type 0} → (A → List Mark → List Mark) → (A → Type 0) → (A → Lexeme → Bool) → (A → ℕ) → ℕ → (Bool → State → Bool) → State → List A → State → Type 0
 IsListed f Fits goes_on high limit go s xs t = IsList (λ (b : Bool). listed f) (Fit Fits high limit) (EndsAt goes_on) go true s xs t
-
-some_same : {A : Type 0} (a b : A) → Some a ≡ Some b → a ≡ b
-some_same a b e = cc
 
 comma_used : (ss ts : List Placed) (least : ℕ) → first_is (is_sign 45) (lexemes ss) ≡ true → length ts + least ≤ length (tail ss) → length ts + 1 ≤ length ss
 comma_used ss ts least a h = let u = taken_used ss (tail ss) (Sign 45) (sign_taken 45 ss a) in omega arith
@@ -238,3 +235,22 @@ row_finds f Fits high limit item go r e goes stops s xs q h =
     (λ b s x ys p k. (goes b s x (row f ys r) p.0.0 k, p.1, e.found s x (row f ys r) p.0.0 p.0.1 (nothing_stops x (row f ys r)) k))
     (λ b s x t a k. (e.piece s x t k).used)
     (length s.rest + 1) true s xs (omega arith) q h
+
+-- ---- lists that a sign behind a comma ends
+
+and_first : (a b : Bool) → (a && b) ≡ true → a ≡ true
+and_first true b h = refl
+and_first false b h = h
+
+pub without_comma : (k : ℕ) (s : State) → goes_on_without k s ≡ true → answer (IsSign 45) s ≡ true
+without_comma k s h = and_first (answer (IsSign 45) s) _ h
+
+-- behind a comma the list goes on, unless this sign is next there
+pub without_yes : (k : ℕ) (s : State) → answer (IsSign 45) s ≡ true → answer (IsSign k) (beyond s) ≡ false → goes_on_without k s ≡ true
+without_yes k s h g = subst (λ a. (a && not (answer (IsSign k) (beyond s))) ≡ true) (sym h) (ap not g)
+
+pub without_no_comma : (k : ℕ) (s : State) → answer (IsSign 45) s ≡ false → goes_on_without k s ≡ false
+without_no_comma k s h = ap (λ a. a && not (answer (IsSign k) (beyond s))) h
+
+pub without_sign : (k : ℕ) (s : State) → answer (IsSign 45) s ≡ true → answer (IsSign k) (beyond s) ≡ true → goes_on_without k s ≡ false
+without_sign k s h g = subst (λ a. (a && not (answer (IsSign k) (beyond s))) ≡ false) (sym h) (ap not g)

@@ -1,5 +1,5 @@
 -- Readers of the lists behind a declared name are exact: names, parameters, and sizes.
-use Rattle.std.proofs.Common.{◌≡◌, ◌≤◌, ◌+◌, ◌↔◌, ◌&&◌, not, ℕ, Bool, true, false, List, [], ◌∷◌, length, refl, sym, ap, ◌∙◌, subst, arith}
+use Rattle.std.proofs.Common.{◌≡◌, ◌≤◌, ◌+◌, ◌↔◌, not, ℕ, Bool, true, false, List, [], ◌∷◌, length, refl, sym, ap, ◌∙◌, subst, arith}
 use Rattle.c_ast.specs.Lexemes.{Lexeme, Name, Keyword, Integer, Character, Text, Sign, Placed}
 use Rattle.c_ast.specs.InForce.{InForce, is_typedef}
 use Rattle.c_ast.specs.Marks.{Mark, Tok, Plain, Put, IsSpecifier, IsSign, first_is, is_sign, is_specifier, lexemes}
@@ -7,13 +7,13 @@ use Rattle.c_ast.specs.ExprMarks as marks
 use Rattle.c_ast.specs.Levels.{IsSome, OneParameter, FitsParameters, FitsParameter}
 use Rattle.c_ast.specs.Heights.{parameter_height, parameters_height}
 use Rattle.c_ast.specs.Views.{parameters_of}
-use Rattle.c_ast.specs.Trees.{Specified, ParameterTree, Parameter, ParameterTrees, NoParameter, Parameters}
+use Rattle.c_ast.specs.Trees.{ParameterTree, Parameter, ParameterTrees, NoParameter, Parameters}
 use Rattle.c_readings.specs.Reading.{State, Read, gives, answer, ask, tail, beyond, one_sign, name_then, all_of}
 use Rattle.c_readings.specs.Readers.{Readers, is_plain, some_commas, parameter_name, name_list, parameter, goes_on_without, parameters}
 use Rattle.c_readings.specs.Exact.{RunsOn, Finds, IsPiece, Exact, nothing_more}
 use Rattle.c_readings.proofs.Steps.{Yields, exact_yields, exact_by, nothing_ends, nothing_stops, bind_yields, if_yields, name_yields, sign_yields, Takes, sign_taken, taken_used, iff_same, iff_then, iff_path, token_iff, bind_finds, asked_yes, asked_no, first_finds, sign_finds, sign_next, beyond_runs, first_is_at}
-use Rattle.c_readings.proofs.Lists.{Every, IsListed, listed, Fit, IsBegun, begun, last_stops, listed_yields, listed_finds, some_commas_yields, some_commas_finds}
-use Rattle.c_readings.proofs.Firsts.{not_first}
+use Rattle.c_readings.proofs.Lists.{Every, IsListed, listed, Fit, IsBegun, begun, last_stops, listed_yields, listed_finds, some_commas_yields, some_commas_finds, without_comma, without_yes, without_no_comma, without_sign}
+use Rattle.c_readings.proofs.Firsts.{not_first, specifier_no_sign, specifiers_next}
 
 -- ---- lists of names
 
@@ -93,17 +93,9 @@ names_found s n ns r h =
     (subst (λ v. RunsOn (named n v) s) (more_names ns r) (h.1, h.2, h.3, h.4)))
     (λ u k. sign_finds 3 r r u (λ v. gives (n ∷ ns) v) (n ∷ ns) k (λ i. (refl, i)))
 
--- ---- a specifier is no sign, and a parameter begins with one
+-- ---- a parameter begins with a specifier
 
-specifier_other : (names : InForce) (k : ℕ) (l : Lexeme) → is_specifier names false l ≡ true → is_sign k l ≡ false
-specifier_other names k (Name n) h = refl
-specifier_other names k (Keyword j) h = refl
-specifier_other names k (Integer v j) h = refl
-specifier_other names k (Character v) h = refl
-specifier_other names k (Text b) h = refl
-specifier_other names k (Sign j) h = absurd cc
-
--- nor a name that is no typedef name
+-- which is no name but a typedef name
 not_plain : (names : InForce) (l : Lexeme) → is_specifier names false l ≡ true → is_plain names l ≡ false
 not_plain names (Name n) h = ap not h
 not_plain names (Keyword j) h = refl
@@ -113,10 +105,10 @@ not_plain names (Text b) h = refl
 not_plain names (Sign j) h = refl
 
 parameter_first : (p : ParameterTree) (r : List Mark) (s : State) → RunsOn (marks.parameter p r) s → answer (IsSpecifier false) s ≡ true
-parameter_first (Parameter l (Specified k ss) d) r s h = h.1.1.0
+parameter_first (Parameter l ss d) r s h = specifiers_next ss _ s h.1
 
 pub parameter_no_sign : (k : ℕ) (p : ParameterTree) (r : List Mark) (s : State) → RunsOn (marks.parameter p r) s → answer (IsSign k) s ≡ false
-parameter_no_sign k p r s h = not_first (is_specifier s.names false) (is_sign k) (lexemes s.rest) (specifier_other s.names k) (parameter_first p r s h)
+parameter_no_sign k p r s h = specifier_no_sign s.names false k (lexemes s.rest) (parameter_first p r s h)
 
 pub parameter_not_plain : (p : ParameterTree) (r : List Mark) (s : State) → RunsOn (marks.parameter p r) s → first_is (is_plain s.names) (lexemes s.rest) ≡ false
 parameter_not_plain p r s h = not_first (is_specifier s.names false) (is_plain s.names) (lexemes s.rest) (not_plain s.names) (parameter_first p r s h)
@@ -147,20 +139,6 @@ each_fits limit (p ∷ ps) f l = ((f.0, omega arith), each_fits limit ps f.1 (om
 parameter_list_of : (ps : ParameterTrees) → (xs : List ParameterTree) × (parameters_of xs ≡ ps)
 parameter_list_of NoParameter = ([], refl)
 parameter_list_of (Parameters p ps) = let k = parameter_list_of ps in (p ∷ k.0, ap (λ qs. Parameters p qs) k.1)
-
-and_first : (a b : Bool) → (a && b) ≡ true → a ≡ true
-and_first true b h = refl
-and_first false b h = h
-
--- behind a comma the list goes on, unless this sign is next there
-without_yes : (k : ℕ) (s : State) → answer (IsSign 45) s ≡ true → answer (IsSign k) (beyond s) ≡ false → goes_on_without k s ≡ true
-without_yes k s h g = subst (λ a. (a && not (answer (IsSign k) (beyond s))) ≡ true) (sym h) (ap not g)
-
-without_no_comma : (k : ℕ) (s : State) → answer (IsSign 45) s ≡ false → goes_on_without k s ≡ false
-without_no_comma k s h = ap (λ a. a && not (answer (IsSign k) (beyond s))) h
-
-without_sign : (k : ℕ) (s : State) → answer (IsSign 45) s ≡ true → answer (IsSign k) (beyond s) ≡ true → goes_on_without k s ≡ false
-without_sign k s h g = subst (λ a. (a && not (answer (IsSign k) (beyond s))) ≡ false) (sym h) (ap not g)
 
 -- `, ...` or nothing more, and `)`
 abbrev dots_or_end : ParameterTrees → State → Read (ParameterTrees × Bool)
@@ -209,7 +187,7 @@ module _ (R : Readers) (e : Exact marks.parameter FitsParameter nothing_more par
   parameters_yields s =
       bind_yields (parameter R s) _ (IsPiece marks.parameter FitsParameter nothing_more parameter_height R.limit 1 s) (IsParameters s) (exact_yields marks.parameter FitsParameter nothing_more parameter_height R.limit 1 (parameter R) e s) (λ p t h.
       bind_yields (all_of (λ b u. goes_on_without 33 u) (λ b u. parameter R (beyond u)) (λ b x. b) true t) _ (MoreParameters t) (IsParameters s)
-      (listed_yields marks.parameter FitsParameter nothing_more parameter_height R.limit 1 (parameter R) (λ b u. goes_on_without 33 u) e (λ b u a. and_first _ _ a) t) (λ ps u k.
+      (listed_yields marks.parameter FitsParameter nothing_more parameter_height R.limit 1 (parameter R) (λ b u. goes_on_without 33 u) e (λ b u a. without_comma 33 u a) t) (λ ps u k.
       if_yields (answer (IsSign 45) u) _ _ (IsParameters s)
       (λ a. let i = sign_taken 45 u.rest a in
       sign_yields 33 (beyond u) (λ v. one_sign 3 v (λ w. gives (parameters_of (p ∷ ps), true) w)) (IsParameters s) (λ j.
@@ -232,7 +210,7 @@ module _ (R : Readers) (e : Exact marks.parameter FitsParameter nothing_more par
       let z : ParameterTrees × Bool = (parameters_of (p ∷ ps), more) in
       bind_finds (parameter R s) p m r _ z (e.found s p m f.0 (omega arith) (nothing_stops p m) h) (λ t g.
       bind_finds (all_of (λ b u. goes_on_without 33 u) (λ b u. parameter R (beyond u)) (λ b x. b) true t) ps (marks.dots_then more r) r _ z
-      (listed_finds marks.parameter FitsParameter nothing_more parameter_height R.limit 1 (parameter R) (λ b u. goes_on_without 33 u) (marks.dots_then more r) e (λ b u a. and_first _ _ a) (λ x. refl)
+      (listed_finds marks.parameter FitsParameter nothing_more parameter_height R.limit 1 (parameter R) (λ b u. goes_on_without 33 u) (marks.dots_then more r) e (λ b u a. without_comma 33 u a) (λ x. refl)
       (λ b u x n d k. without_yes 33 u (sign_next 45 (marks.parameter x n) u k) (parameter_no_sign 33 x n (beyond u) (beyond_runs (Sign 45) (marks.parameter x n) u k)))
       (λ b u k. dots_stop more r u k) t ps (each_fits R.limit ps f.1 (omega arith), last_stops nothing_more (marks.dots_then more r) ps (λ x. nothing_stops x (marks.dots_then more r))) (subst (λ n. RunsOn n t) (more_listed ps more r) g))
       (λ u k. dots_found (parameters_of (p ∷ ps)) more r u k))

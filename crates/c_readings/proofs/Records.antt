@@ -1,21 +1,20 @@
 -- Readers of members of records are exact.
-use Rattle.std.proofs.Common.{◌≡◌, ◌≤◌, ◌+◌, ◌↔◌, ℕ, suc, Bool, true, false, max, not, Option, Some, None, List, [], ◌∷◌, length, refl, sym, ap, ◌∙◌, subst, arith}
-use Rattle.c_ast.specs.Lexemes.{Lexeme, Name, Keyword, Integer, Character, Text, Sign, Placed}
-use Rattle.c_ast.specs.InForce.{InForce}
-use Rattle.c_ast.specs.Marks.{Mark, Tok, Here, Ask, Put, IsSign, IsSpecifier, IsDeclarator, Runs, next, first_is, is_sign, is_specifier, lexemes}
+use Rattle.std.proofs.Common.{◌≡◌, ◌≤◌, ◌+◌, ℕ, Bool, true, false, not, None, List, [], ◌∷◌, length, refl, sym, ap, ◌∙◌, subst, arith}
+use Rattle.c_ast.specs.Lexemes.{Lexeme, Sign, Placed}
+use Rattle.c_ast.specs.Marks.{Mark, Tok, IsSign, IsDeclarator, is_sign, lexemes}
 use Rattle.c_ast.specs.ExprMarks as marks
-use Rattle.c_ast.specs.Trees.{ExprTree, MaybeExpr, NoExpr, AnExpr, FieldTree, Field, FieldTrees, NoFields, Fields, MemberTree, Members, MemberTrees, NoMembers, MoreMembers, DeclaratorTree, MaybeDeclarator, NoDeclarator, ADeclarator, SpecifiersTree, Specified}
+use Rattle.c_ast.specs.Trees.{ExprTree, MaybeExpr, NoExpr, AnExpr, FieldTree, Field, FieldTrees, NoFields, Fields, MemberTree, Members, MemberTrees, NoMembers, MoreMembers, DeclaratorTree, MaybeDeclarator, NoDeclarator, ADeclarator}
 use Rattle.c_ast.specs.Views.{fields_of, members_of}
 use Rattle.c_ast.specs.Levels.{IsSome, FitsMaybe, FitsNamed, FitsField, FitsFields, OneField, OneOfBoth, FitsMember, FitsMembers, OneMember}
 use Rattle.c_ast.specs.Heights.{maybe_height, maybe_declarator_height, declarator_height, field_height, fields_height, member_height, members_height}
-use Rattle.c_ast.specs.Reach.{goes_on, link_of}
-use Rattle.c_readings.specs.Reading.{State, Read, gives, answer, here, beyond, tail, bind, all_of}
+use Rattle.c_ast.specs.Reach.{goes_on}
+use Rattle.c_readings.specs.Reading.{State, Read, gives, answer, here, beyond, tail, all_of}
 use Rattle.c_readings.specs.Readers.{Readers, piece_behind, maybe_declarator, one_of_both, some_commas, field, fields, members}
-use Rattle.c_readings.specs.Exact.{RunsOn, Finds, Ends, Stops, IsPiece, Exact, AreExact, FitsFree, nothing_more, where_left}
-use Rattle.c_readings.proofs.Steps.{Yields, yields, bind_yields, if_yields, both_yield, exact_yields, exact_by, nothing_ends, nothing_stops, Takes, sign_taken, sign_yields, taken_used, some_left, iff_same, iff_then, iff_path, here_iff, token_iff, asked_iff, bind_finds, if_finds_yes, asked_yes, asked_no, here_is, sign_finds, sign_next, beyond_runs, first_is_at}
-use Rattle.c_readings.proofs.Lists.{Every, Last, Fit, IsBegun, begun, listed, row, IsRow, some_commas_yields, some_commas_finds, last_stops, row_yields, row_finds}
+use Rattle.c_readings.specs.Exact.{RunsOn, Finds, Ends, Stops, IsPiece, Exact, AreExact, FitsFree, nothing_more}
+use Rattle.c_readings.proofs.Steps.{Yields, yields, bind_yields, if_yields, both_yield, exact_yields, exact_by, nothing_ends, nothing_stops, Takes, sign_taken, sign_yields, taken_used, some_left, iff_same, iff_then, iff_path, here_iff, token_iff, asked_iff, bind_finds, if_finds_yes, asked_yes, asked_no, here_is, sign_finds, sign_next, beyond_runs, first_is_at, is_left}
+use Rattle.c_readings.proofs.Lists.{Every, Fit, IsBegun, begun, listed, row, IsRow, some_commas_yields, some_commas_finds, last_stops, row_yields, row_finds}
 use Rattle.c_readings.proofs.Operators.{Closer, closer, stops}
-use Rattle.c_readings.proofs.Firsts.{not_first}
+use Rattle.c_readings.proofs.Firsts.{specifier_no_sign, specifiers_next}
 
 -- ---- an expression behind a sign
 
@@ -38,9 +37,6 @@ an_expr_ends : (e : ExprTree) (ts : List Placed) → Ends (goes_on 2) e ts → E
 an_expr_ends e [] h = tt
 an_expr_ends e (t ∷ ts) h = h
 
-behind_used : (k : ℕ) (ss ts : List Placed) → Takes ss (Sign k) (tail ss) → length ts + 1 ≤ length (tail ss) → length ts + 0 ≤ length ss
-behind_used k ss ts h g = let u = taken_used ss (tail ss) (Sign k) h in omega arith
-
 behind_yields : (R : Readers) → AreExact R → (k : ℕ) (s : State) → Yields (piece_behind R k s) (IsBehind R k s)
 unfolding piece_behind
 behind_yields R e k s =
@@ -49,7 +45,7 @@ behind_yields R e k s =
       fits = h.fits;
       low = h.low;
       ends = an_expr_ends x t.rest h.ends;
-      used = behind_used k s.rest t.rest (sign_taken k s.rest a) h.used;
+      used = let u = taken_used s.rest (tail s.rest) (Sign k) (sign_taken k s.rest a) in let v = h.used in omega arith;
       runs = λ r. token_iff (Sign k) (marks.expr x r) s (tail s.rest) (sign_taken k s.rest a) (h.runs r);
     }))
     (λ a. record { fits = tt; low = omega arith; ends = none_ends s.rest; used = omega arith; runs = λ r. asked_iff (IsSign k) false r s a iff_same })
@@ -77,10 +73,6 @@ MaybeFits free (ADeclarator d) = FitsFree free d
 
 abbrev pub IsMaybe : Readers → Bool → State → MaybeDeclarator → State → Type 0
 IsMaybe R free s d t = IsPiece (marks.maybe_declarator free) (MaybeFits free) nothing_more maybe_declarator_height R.limit 0 s d t
-
-is_left : {A : Type 0} (ts : List Placed) (o : Read A) → 1 ≤ length ts → where_left ts o ≡ o
-is_left [] o h = absurd (omega arith)
-is_left (t ∷ ts) o h = refl
 
 declarator_yields : (R : Readers) → AreExact R → (free : Bool) (s : State) → 1 ≤ length s.rest → Yields (R.declarator free false s) (IsPiece (marks.declarator free false) (FitsFree free) nothing_more declarator_height R.limit 0 s)
 declarator_yields R e free s h = yields (R.declarator free false s) _ (λ x t k. (e.declarator free false).piece s x t (is_left s.rest (R.declarator free false s) h ∙ k))
@@ -246,10 +238,6 @@ fields_are_fit n (Fields x xs) f l = ((f.0, omega arith), fields_are_fit n xs f.
 abbrev pub AreFields : Readers → State → FieldTrees → State → Type 0
 AreFields R s fs t = IsPiece marks.fields FitsSomeFields nothing_more fields_height R.limit 1 s fs t
 
--- `;` ends them
-fields_used : (ss ts : List Placed) → Takes ts (Sign 32) (tail ts) → length ts + 0 ≤ length ss → length (tail ts) + 1 ≤ length ss
-fields_used ss ts h k = let u = taken_used ts (tail ts) (Sign 32) h in omega arith
-
 fields_by : (R : Readers) (s : State) (fs : List FieldTree) (t : State) → IsBegun marks.field FitsField field_goes_on field_height R.limit 0 s fs t → Takes t.rest (Sign 32) (tail t.rest) → AreFields R s (fields_of fs) (beyond t)
 fields_by R s fs t h k =
     let f = fields_fit R.limit fs h.kept in
@@ -257,7 +245,7 @@ fields_by R s fs t h k =
       fits = (some_fields fs h.some, f.0);
       low = f.1;
       ends = nothing_ends (fields_of fs) (tail t.rest);
-      used = fields_used s.rest t.rest k h.used;
+      used = let u = taken_used t.rest (tail t.rest) (Sign 32) k in let v = h.used in omega arith;
       runs = λ r. iff_then (iff_path (marks.fields (fields_of fs) r) (begun marks.field fs (fields_end r)) s (fields_begun fs r)) (iff_then (h.runs (fields_end r)) (token_iff (Sign 32) r t (tail t.rest) k iff_same));
     }
 
@@ -295,21 +283,6 @@ brace_end r = Tok (Sign 5) ∷ r
 abbrev pub no_brace : State → Bool
 no_brace s = not (answer (IsSign 5) s)
 
-specifier_other : (names : InForce) (typed : Bool) (k : ℕ) (l : Lexeme) → is_specifier names typed l ≡ true → is_sign k l ≡ false
-specifier_other names typed k (Name n) h = refl
-specifier_other names typed k (Keyword j) h = refl
-specifier_other names typed k (Integer v j) h = refl
-specifier_other names typed k (Character v) h = refl
-specifier_other names typed k (Text b) h = refl
-specifier_other names typed k (Sign j) h = absurd cc
-
--- a specifier is no sign
-pub specifier_no_sign : (names : InForce) (typed : Bool) (k : ℕ) (ls : List Lexeme) → first_is (is_specifier names typed) ls ≡ true → first_is (is_sign k) ls ≡ false
-specifier_no_sign names typed k ls h = not_first (is_specifier names typed) (is_sign k) ls (specifier_other names typed k) h
-
-pub specifiers_next : (x : SpecifiersTree) (r : List Mark) (s : State) → RunsOn (marks.specifiers x r) s → answer (IsSpecifier false) s ≡ true
-specifiers_next (Specified l ss) r s h = h.1.0
-
 member_no_brace : (x : MemberTree) (r : List Mark) (s : State) → RunsOn (marks.member x r) s → no_brace s ≡ true
 member_no_brace (Members l ss fs) r s h = ap not (specifier_no_sign s.names false 5 (lexemes s.rest) (specifiers_next ss (marks.fields fs r) s h.1))
 
@@ -339,10 +312,6 @@ AreMembers R s ms t = IsPiece marks.members FitsSomeMembers nothing_more members
 abbrev pub IsMember : Readers → State → MemberTree → State → Type 0
 IsMember R s m t = IsPiece marks.member FitsMember nothing_more member_height R.limit 1 s m t
 
--- `}` ends them
-members_used : (ms : List MemberTree) (ss ts us : List Placed) → length ts + 1 ≤ length ss → length us + length ms ≤ length ts → Takes us (Sign 5) (tail us) → length (tail us) + 1 ≤ length ss
-members_used ms ss ts us h k i = let u = taken_used us (tail us) (Sign 5) i in omega arith
-
 members_by : (R : Readers) (s : State) (m : MemberTree) (t : State) (ms : List MemberTree) (u : State) → IsMember R s m t → IsRow marks.member FitsMember nothing_more member_height R.limit (λ b v. no_brace v) t ms u → Takes u.rest (Sign 5) (tail u.rest) → AreMembers R s (members_of (m ∷ ms)) (beyond u)
 members_by R s m t ms u h k i =
     let f = members_fit R.limit ms k.kept in
@@ -352,7 +321,7 @@ members_by R s m t ms u h k i =
       fits = (tt, (h.fits, f.0));
       low = omega arith;
       ends = nothing_ends (members_of (m ∷ ms)) (tail u.rest);
-      used = members_used ms s.rest t.rest u.rest h.used k.used i;
+      used = let a = taken_used u.rest (tail u.rest) (Sign 5) i in let b = h.used in let c = k.used in omega arith;
       runs = λ r. iff_then (iff_path (marks.member m (marks.members (members_of ms) r)) (marks.member m (row marks.member ms (brace_end r))) s (ap (marks.member m) (members_row ms r))) (iff_then (h.runs (row marks.member ms (brace_end r))) (iff_then (k.runs (brace_end r)) (token_iff (Sign 5) r u (tail u.rest) i iff_same)));
     }
 

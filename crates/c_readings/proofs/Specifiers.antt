@@ -1,33 +1,30 @@
 -- Readers of specifiers are exact.
-use Rattle.std.proofs.Common.{◌≡◌, ◌≤◌, ◌+◌, ◌==◌, ◌↔◌, ◌||◌, if◌then◌else◌, ℕ, Bool, true, false, max, Option, Some, None, List, [], ◌∷◌, length, refl, sym, ap, ◌∙◌, subst, arith}
-use Rattle.c_ast.specs.declared.specifier.Storage.{Storage}
+use Rattle.std.proofs.Common.{◌≡◌, ◌≤◌, ◌+◌, ◌==◌, ◌↔◌, ◌||◌, if◌then◌else◌, ℕ, Bool, true, false, Option, Some, None, List, [], ◌∷◌, length, refl, sym, ap, ◌∙◌, subst, arith}
 use Rattle.c_ast.specs.declared.specifier.Storage.TheVariants as storage
-use Rattle.c_ast.specs.declared.specifier.Qualifier.{Qualifier}
 use Rattle.c_ast.specs.declared.specifier.Qualifier.TheVariants as qualifier
-use Rattle.c_ast.specs.declared.specifier.BasicType.{BasicType}
 use Rattle.c_ast.specs.declared.specifier.BasicType.TheVariants as basic
 use Rattle.c_ast.specs.declared.specifier.RecordKind.{RecordKind}
 use Rattle.c_ast.specs.declared.specifier.RecordKind.TheVariants as record_kind
 use Rattle.c_ast.specs.Operators.{storage_word, qualifier_word, basic_word, record_word}
 use Rattle.c_ast.specs.Lexemes.{Lexeme, Name, Keyword, Integer, Character, Text, Sign, Placed}
-use Rattle.c_ast.specs.InForce.{InForce, is_typedef}
-use Rattle.c_ast.specs.Marks.{Mark, Tok, Typed, Here, Ask, IsSign, IsSpecifier, first_is, is_sign, is_specifier, lexemes}
+use Rattle.c_ast.specs.InForce.{is_typedef}
+use Rattle.c_ast.specs.Marks.{Mark, Tok, Typed, Here, Ask, IsSign, IsSpecifier, first_is, is_specifier, lexemes}
 use Rattle.c_ast.specs.ExprMarks as marks
 use Rattle.c_ast.specs.ExprMarks.{says_type}
 use Rattle.c_ast.specs.Trees.{SpecifiersTree, Specified, SpecifierTree, Stored, Qualified, Basic, Record, RecordTag, Enumeration, EnumerationTag, NamedType, SpecifierTrees, NoSpecifiers, Specifiers, MemberTrees, EnumeratorTrees}
 use Rattle.c_ast.specs.Views.{specifier_list_of}
-use Rattle.c_ast.specs.Levels.{IsSome, FitsSpecifiers, FitsSpecifierList, FitsSpecifier}
+use Rattle.c_ast.specs.Levels.{FitsSpecifiers, FitsSpecifierList, FitsSpecifier}
 use Rattle.c_ast.specs.Heights.{specifiers_height, specifier_list_height, specifier_height, members_height}
 use Rattle.c_readings.specs.Words.{Word, StorageWord, QualifierWord, BasicWord, RecordWord, EnumWord, word_of}
-use Rattle.c_readings.specs.Reading.{State, Read, gives, answer, here, beyond, tail, bind, many, all_of, with_first}
-use Rattle.c_readings.specs.Readers.{Readers, members, enumerators, record_of, enumeration_of, word_by, specifier_by, specifier, more_specifiers, some_specifiers, specifiers, tag}
+use Rattle.c_readings.specs.Reading.{State, answer, here, with_first}
+use Rattle.c_readings.specs.Readers.{Readers, members, enumerators, record_of, enumeration_of, word_by, specifier_by, specifier, more_specifiers, some_specifiers, specifiers}
 use Rattle.c_readings.specs.Exact.{RunsOn, Finds, IsPiece, Exact, AreExact, nothing_more}
-use Rattle.c_readings.proofs.Steps.{same_number, Yields, yields, read_so, yields_also, bind_yields, exact_yields, exact_by, nothing_ends, Takes, past, first_yields, taken_used, iff_same, iff_then, iff_path, here_iff, token_iff, typed_iff, asked_iff, bind_finds, here_is, here_finds, first_finds, typed_finds, first_is_at}
-use Rattle.c_readings.proofs.Lists.{Every, Last, Fit, EndsAt, IsItem, IsList, many_yields, many_finds}
+use Rattle.c_readings.proofs.Steps.{same_number, Yields, read_so, yields_also, bind_yields, exact_by, nothing_ends, Takes, past, first_yields, taken_used, iff_same, iff_then, iff_path, here_iff, token_iff, typed_iff, asked_iff, bind_finds, here_is, here_finds, first_finds, typed_finds, taken_left}
+use Rattle.c_readings.proofs.Lists.{Every, Fit, EndsAt, IsItem, IsList, many_yields, many_finds}
 use Rattle.c_readings.proofs.Firsts.{no_two}
 use Rattle.c_readings.proofs.Records.{FitsSomeMembers, members_exact}
 use Rattle.c_readings.proofs.Enumerations.{spelled_with, FitsSomeEnumerators, enumerators_high, enumerators_exact}
-use Rattle.c_readings.proofs.Tags.{tagged, IsTagged, tagged_yields, tagged_found, alone_found}
+use Rattle.c_readings.proofs.Tags.{tagged_yields, tagged_found, alone_found}
 
 -- ---- words
 
@@ -102,22 +99,19 @@ record IsBehindWord (R : Readers) (line : ℕ) (w : Word) (s : State) (x : Speci
   used : length t.rest ≤ length s.rest
   runs : (r : List Mark) → (m : List Mark) × (marks.specifier x r ≡ Here line ∷ Tok (Keyword (number_of w)) ∷ m) × (RunsOn m s ↔ RunsOn r t)
 
-behind_name : (ss us : List Placed) (n : List ℕ) → Takes ss (Name n) us → length us ≤ length ss
-behind_name ss us n h = let u = taken_used ss us (Name n) h in omega arith
-
 record_yields : (R : Readers) → AreExact R → (line : ℕ) (k : RecordKind) (s : State) → Yields (record_of R line k s) (IsBehindWord R line (RecordWord k) s)
 unfolding record_of
 record_yields R e line k s =
     tagged_yields marks.members FitsSomeMembers members_height R.limit (members R) (λ name ms. Record line k name ms) (λ n. RecordTag line k n) (IsBehindWord R line (RecordWord k) s) (members_exact R e) s
     (λ name ms t h. record { fits = h.fits; low = h.low; used = h.used; runs = λ r. (marks.tag_then name (Tok (Sign 4) ∷ marks.members ms r), refl, h.runs r) })
-    (λ n us h a. record { fits = tt; low = omega arith; used = behind_name s.rest us n h; runs = λ r. (Tok (Name n) ∷ Ask (IsSign 4) false ∷ r, refl, token_iff (Name n) (Ask (IsSign 4) false ∷ r) s us h (asked_iff (IsSign 4) false r (past s us) a iff_same)) })
+    (λ n us h a. record { fits = tt; low = omega arith; used = let u = taken_used s.rest us (Name n) h in omega arith; runs = λ r. (Tok (Name n) ∷ Ask (IsSign 4) false ∷ r, refl, token_iff (Name n) (Ask (IsSign 4) false ∷ r) s us h (asked_iff (IsSign 4) false r (past s us) a iff_same)) })
 
 enumeration_yields : (R : Readers) → AreExact R → (line : ℕ) (s : State) → Yields (enumeration_of R line s) (IsBehindWord R line EnumWord s)
 unfolding enumeration_of
 enumeration_yields R e line s =
     tagged_yields {X = EnumeratorTrees × Bool} spelled_with FitsSomeEnumerators enumerators_high R.limit (enumerators R) (λ name es. Enumeration line name es.0 es.1) (λ n. EnumerationTag line n) (IsBehindWord R line EnumWord s) (enumerators_exact R e) s
     (λ name es t h. record { fits = h.fits; low = h.low; used = h.used; runs = λ r. (marks.tag_then name (Tok (Sign 4) ∷ marks.enumerators es.0 es.1 r), refl, h.runs r) })
-    (λ n us h a. record { fits = tt; low = omega arith; used = behind_name s.rest us n h; runs = λ r. (Tok (Name n) ∷ Ask (IsSign 4) false ∷ r, refl, token_iff (Name n) (Ask (IsSign 4) false ∷ r) s us h (asked_iff (IsSign 4) false r (past s us) a iff_same)) })
+    (λ n us h a. record { fits = tt; low = omega arith; used = let u = taken_used s.rest us (Name n) h in omega arith; runs = λ r. (Tok (Name n) ∷ Ask (IsSign 4) false ∷ r, refl, token_iff (Name n) (Ask (IsSign 4) false ∷ r) s us h (asked_iff (IsSign 4) false r (past s us) a iff_same)) })
 
 word_yields : (R : Readers) → AreExact R → (line : ℕ) (w : Word) (s : State) → Yields (word_by R line (Some w) s) (IsBehindWord R line w s)
 word_yields R e line (StorageWord x) s = record { fits = tt; low = omega arith; used = omega arith; runs = λ r. (r, refl, iff_same) }
@@ -131,22 +125,13 @@ word_yields R e line EnumWord s = enumeration_yields R e line s
 abbrev pub IsOne : Readers → State → SpecifierTree → State → Type 0
 IsOne R s x t = IsPiece marks.specifier FitsSpecifier nothing_more specifier_height R.limit 1 s x t
 
-token_used : (ss us : List Placed) (l : Lexeme) → Takes ss l us → length us + 1 ≤ length ss
-token_used ss us l h = let u = taken_used ss us l h in omega arith
-
-token_left : (ss us : List Placed) (l : Lexeme) → Takes ss l us → 1 ≤ length ss
-token_left ss us l h = let u = taken_used ss us l h in omega arith
-
-word_used : (ss us ts : List Placed) (l : Lexeme) → Takes ss l us → length ts ≤ length us → length ts + 1 ≤ length ss
-word_used ss us ts l h k = let u = taken_used ss us l h in omega arith
-
 by_word : (R : Readers) (s : State) (w : Word) (us : List Placed) (x : SpecifierTree) (t : State) → Takes s.rest (Keyword (number_of w)) us → IsBehindWord R (here s) w (past s us) x t → IsOne R s x t
 by_word R s w us x t h k = record {
   fits = k.fits;
   low = k.low;
   ends = nothing_ends x t.rest;
-  used = word_used s.rest us t.rest (Keyword (number_of w)) h k.used;
-  runs = λ r. let m = k.runs r in iff_then (iff_path (marks.specifier x r) (Here (here s) ∷ Tok (Keyword (number_of w)) ∷ m.0) s m.1) (here_iff (Tok (Keyword (number_of w)) ∷ m.0) s (token_left s.rest us (Keyword (number_of w)) h) (token_iff (Keyword (number_of w)) m.0 s us h m.2));
+  used = let u = taken_used s.rest us (Keyword (number_of w)) h in let v = k.used in omega arith;
+  runs = λ r. let m = k.runs r in iff_then (iff_path (marks.specifier x r) (Here (here s) ∷ Tok (Keyword (number_of w)) ∷ m.0) s m.1) (here_iff (Tok (Keyword (number_of w)) ∷ m.0) s (taken_left s.rest us (Keyword (number_of w)) h) (token_iff (Keyword (number_of w)) m.0 s us h m.2));
 }
 
 keyword_yields : (R : Readers) → AreExact R → (s : State) (k : ℕ) (o : Option Word) (us : List Placed) → Numbered k o → Takes s.rest (Keyword k) us → Yields (word_by R (here s) o (past s us)) (IsOne R s)
@@ -164,8 +149,8 @@ named_type R s n us d h = record {
   fits = tt;
   low = omega arith;
   ends = nothing_ends (NamedType (here s) n) us;
-  used = token_used s.rest us (Name n) h;
-  runs = λ r. here_iff (Typed n ∷ r) s (token_left s.rest us (Name n) h) (typed_iff n r s us d h iff_same);
+  used = let u = taken_used s.rest us (Name n) h in omega arith;
+  runs = λ r. here_iff (Typed n ∷ r) s (taken_left s.rest us (Name n) h) (typed_iff n r s us d h iff_same);
 }
 
 specifier_by_yields : (R : Readers) → AreExact R → (typed : Bool) (s : State) (l : Lexeme) (us : List Placed) → is_specifier s.names typed l ≡ true → Takes s.rest l us → Yields (specifier_by R (here s) l (past s us)) (IsOne R s)
@@ -273,12 +258,6 @@ specifiers_are_fit n (Specifiers x xs) f l = ((f.0, omega arith), specifiers_are
 abbrev pub AreSpecifiers : Readers → State → SpecifiersTree → State → Type 0
 AreSpecifiers R s x t = IsPiece marks.specifiers FitsSpecifiers nothing_more specifiers_height R.limit 1 s x t
 
-list_used : (x : SpecifierTree) (xs : List SpecifierTree) (ss ts : List Placed) → length ts + length (x ∷ xs) ≤ length ss → length ts + 1 ≤ length ss
-list_used x xs ss ts h = omega arith
-
-list_left : (x : SpecifierTree) (xs : List SpecifierTree) (ss ts : List Placed) → length ts + length (x ∷ xs) ≤ length ss → 1 ≤ length ss
-list_left x xs ss ts h = omega arith
-
 some_yields : (R : Readers) (s : State) (xs : List SpecifierTree) (t : State) → AreMore R false s xs t → Yields (some_specifiers (here s) xs t) (AreSpecifiers R s)
 some_yields R s [] t h = tt
 some_yields R s (x ∷ xs) t h =
@@ -287,8 +266,8 @@ some_yields R s (x ∷ xs) t h =
       fits = f.0;
       low = f.1;
       ends = nothing_ends (Specified (here s) (specifier_list_of (x ∷ xs))) t.rest;
-      used = list_used x xs s.rest t.rest h.used;
-      runs = λ r. here_iff (Ask (IsSpecifier false) true ∷ spelled_behind false (x ∷ xs) r) s (list_left x xs s.rest t.rest h.used) (λ a. (h.runs r).0 a.1, λ b. (((h.runs r).1 b).0, (h.runs r).1 b));
+      used = let u = h.used in omega arith;
+      runs = λ r. here_iff (Ask (IsSpecifier false) true ∷ spelled_behind false (x ∷ xs) r) s (let u = h.used in omega arith) (λ a. (h.runs r).0 a.1, λ b. (((h.runs r).1 b).0, (h.runs r).1 b));
     }
 
 specifiers_yields : (R : Readers) → AreExact R → (s : State) → Yields (specifiers R s) (AreSpecifiers R s)

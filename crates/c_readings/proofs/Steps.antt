@@ -2,11 +2,11 @@
 use Rattle.std.proofs.Common.{◌≡◌, ◌≤◌, ◌+◌, ◌==◌, ◌↔◌, if◌then◌else◌, ℕ, Bool, true, false, Option, Some, None, List, [], ◌∷◌, length, refl, sym, ap, ◌∙◌, subst, arith}
 use Rattle.std.proofs.lemmas.Bool.Decides.{nat_tests}
 use Rattle.c_ast.specs.Lexemes.{Lexeme, Name, Keyword, Integer, Character, Text, Sign, Placed}
-use Rattle.c_ast.specs.InForce.{InForce, put, is_typedef, opened, closed, closed_kept}
-use Rattle.c_ast.specs.Marks.{Test, IsSign, Mark, Tok, Plain, Typed, Here, Ask, Put, Open, Close, Keep, Reopen, Forget, Runs, holds, lexemes, next_line, next, first_is, is_sign}
+use Rattle.c_ast.specs.InForce.{InForce, put, is_typedef}
+use Rattle.c_ast.specs.Marks.{Test, IsSign, Mark, Tok, Plain, Typed, Here, Ask, Put, Open, Close, Keep, Reopen, Forget, Runs, lexemes, next_line, next, first_is, is_sign}
 use Rattle.c_ast.specs.ExprMarks.{put_then, closed_then}
-use Rattle.c_readings.specs.Reading.{State, Read, gives, bind, answer, ask, line_of, here, tail, beyond, on_first, with_first, one_sign, name_then, one_name, put_state, open_state, close_state}
-use Rattle.c_readings.specs.Exact.{RunsOn, Finds, Ends, Stops, IsPiece, Exact, nothing_more}
+use Rattle.c_readings.specs.Reading.{State, Read, bind, answer, ask, line_of, here, tail, beyond, on_first, with_first, one_sign, name_then, one_name, put_state, close_state}
+use Rattle.c_readings.specs.Exact.{RunsOn, Finds, Ends, Stops, IsPiece, Exact, nothing_more, where_left}
 
 -- ---- what was read is so
 
@@ -103,10 +103,21 @@ sign_yields k s f Q h = if_yields (answer (IsSign k) s) (f (beyond s)) None Q (�
 pub taken_used : (ts us : List Placed) (l : Lexeme) → Takes ts l us → length ts ≡ length us + 1
 taken_used ts us l h = ap length h.1 ∙ (omega arith)
 
+pub taken_left : (ts us : List Placed) (l : Lexeme) → Takes ts l us → 1 ≤ length ts
+taken_left ts us l h = let u = taken_used ts us l h in omega arith
+
 -- a question that is answered yes is asked of a token
 pub some_left : (is : Lexeme → Bool) (ts : List Placed) → first_is is (lexemes ts) ≡ true → 1 ≤ length ts
 some_left is [] h = absurd cc
 some_left is (t ∷ ts) h = omega arith
+
+-- where a token is left, what is read there is what is read
+pub is_left : {A : Type 0} (ts : List Placed) (o : Read A) → 1 ≤ length ts → where_left ts o ≡ o
+is_left [] o h = absurd (omega arith)
+is_left (t ∷ ts) o h = refl
+
+pub some_same : {A : Type 0} (a b : A) → Some a ≡ Some b → a ≡ b
+some_same a b e = cc
 
 -- ---- marks that run
 

@@ -1,13 +1,13 @@
 -- Readers of what stands behind `struct`, `union` and `enum`: a tag, a list in braces, or both.
-use Rattle.std.proofs.Common.{◌≡◌, ◌≤◌, ◌+◌, ◌↔◌, ℕ, Bool, true, false, Option, Some, None, List, [], ◌∷◌, length, refl, sym, ap, ◌∙◌, subst, arith}
+use Rattle.std.proofs.Common.{◌≡◌, ◌≤◌, ◌↔◌, ℕ, false, Option, Some, None, List, [], ◌∷◌, length, refl, sym, ap, subst, arith}
 use Rattle.c_ast.specs.Lexemes.{Lexeme, Name, Keyword, Integer, Character, Text, Sign, Placed}
-use Rattle.c_ast.specs.Marks.{Mark, Tok, Ask, IsSign, first_is, is_sign, lexemes}
+use Rattle.c_ast.specs.Marks.{Mark, Tok, Ask, IsSign}
 use Rattle.c_ast.specs.ExprMarks as marks
 use Rattle.c_ast.specs.Trees.{SpecifierTree}
 use Rattle.c_readings.specs.Reading.{State, Read, gives, answer, ask, beyond, tail, bind}
 use Rattle.c_readings.specs.Readers.{tag, tag_on, tag_or, bare}
 use Rattle.c_readings.specs.Exact.{RunsOn, Finds, IsPiece, Exact, nothing_more}
-use Rattle.c_readings.proofs.Steps.{Yields, bind_yields, if_yields, exact_yields, nothing_stops, Takes, past, sign_taken, taken_used, iff_same, token_iff, asked_iff, bind_finds, asked_yes, asked_no, sign_next, beyond_runs, first_is_at}
+use Rattle.c_readings.proofs.Steps.{Yields, bind_yields, if_yields, exact_yields, nothing_stops, Takes, past, sign_taken, taken_used, token_iff, bind_finds, asked_yes, asked_no, sign_next, beyond_runs, some_same}
 
 -- ---- a tag
 
@@ -45,17 +45,11 @@ pub record IsTagged {X : Type 0} (f : X → List Mark → List Mark) (Fits : X �
   pub used : length t.rest ≤ length s.rest
   pub runs : (r : List Mark) → RunsOn (marks.tag_then name (Tok (Sign 4) ∷ f x r)) s ↔ RunsOn r t
 
-braces_used : (ss ts : List Placed) → Takes ss (Sign 4) (tail ss) → length ts + 1 ≤ length (tail ss) → length ts ≤ length ss
-braces_used ss ts h k = let u = taken_used ss (tail ss) (Sign 4) h in omega arith
-
-named_used : (ss ts us : List Placed) (n : List ℕ) → Takes ss (Name n) us → length ts ≤ length us → length ts ≤ length ss
-named_used ss ts us n h k = let u = taken_used ss us (Name n) h in omega arith
-
 untagged : {X : Type 0} (f : X → List Mark → List Mark) (Fits : X → Type 0) (high : X → ℕ) (limit : ℕ) (s : State) (x : X) (t : State) → Takes s.rest (Sign 4) (tail s.rest) → IsPiece f Fits nothing_more high limit 1 (beyond s) x t → IsTagged f Fits high limit s None x t
 untagged f Fits high limit s x t h k = record {
   fits = k.fits;
   low = k.low;
-  used = braces_used s.rest t.rest h k.used;
+  used = let u = taken_used s.rest (tail s.rest) (Sign 4) h in let v = k.used in omega arith;
   runs = λ r. token_iff (Sign 4) (f x r) s (tail s.rest) h (k.runs r);
 }
 
@@ -63,7 +57,7 @@ tagged_by : {X : Type 0} (f : X → List Mark → List Mark) (Fits : X → Type 
 tagged_by f Fits high limit s n us x t h k = record {
   fits = k.fits;
   low = k.low;
-  used = named_used s.rest t.rest us n h k.used;
+  used = let u = taken_used s.rest us (Name n) h in let v = k.used in omega arith;
   runs = λ r. token_iff (Name n) (Tok (Sign 4) ∷ f x r) s us h (k.runs r);
 }
 
@@ -80,14 +74,11 @@ braces_yields f Fits high limit body make alone Q e name s g h =
 none_some : (n : List ℕ) (C : Type 0) → None ≡ Some n → C
 none_some n C e = absurd cc
 
-same_name : (n m : List ℕ) → Some n ≡ Some m → n ≡ m
-same_name n m e = cc
-
 pub tagged_yields : {X : Type 0} (f : X → List Mark → List Mark) (Fits : X → Type 0) (high : X → ℕ) (limit : ℕ) (body : State → Read X) (make : Option (List ℕ) → X → SpecifierTree) (alone : List ℕ → SpecifierTree) (Q : SpecifierTree → State → Type 0) → Exact f Fits nothing_more high limit 1 body → (s : State) → ((name : Option (List ℕ)) (x : X) (t : State) → IsTagged f Fits high limit s name x t → Q (make name x) t) → ((n : List ℕ) (us : List Placed) → Takes s.rest (Name n) us → answer (IsSign 4) (past s us) ≡ false → Q (alone n) (past s us)) → Yields (tagged body make alone (tag s)) Q
 tagged_yields f Fits high limit body make alone Q e s g h =
     tag_yields s (tagged body make alone) Q
     (braces_yields f Fits high limit body make alone Q e None s (λ x t k. g None x t k) (λ n a i. none_some n _ i))
-    (λ n us k. braces_yields f Fits high limit body make alone Q e (Some n) (past s us) (λ x t i. g (Some n) x t (tagged_by f Fits high limit s n us x t k i)) (λ m a i. subst (λ j. Q (alone j) (past s us)) (same_name n m i) (h n us k a)))
+    (λ n us k. braces_yields f Fits high limit body make alone Q e (Some n) (past s us) (λ x t i. g (Some n) x t (tagged_by f Fits high limit s n us x t k i)) (λ m a i. subst (λ j. Q (alone j) (past s us)) (some_same n m i) (h n us k a)))
 
 braces_found : {X : Type 0} (f : X → List Mark → List Mark) (Fits : X → Type 0) (high : X → ℕ) (limit : ℕ) (body : State → Read X) (make : Option (List ℕ) → X → SpecifierTree) (alone : List ℕ → SpecifierTree) → Exact f Fits nothing_more high limit 1 body → (name : Option (List ℕ)) (x : X) (r : List Mark) (s : State) → Fits x → high x ≤ limit → RunsOn (Tok (Sign 4) ∷ f x r) s → Finds (tagged body make alone (name, s)) (make name x) r
 braces_found f Fits high limit body make alone e name x r s g l h =

@@ -1,17 +1,16 @@
 -- Readers of specifiers, of type names, of parameters and of lines of members are exact.
-use Rattle.std.proofs.Common.{◌≡◌, ◌≤◌, ◌+◌, ◌↔◌, ◌||◌, ℕ, suc, Bool, true, false, max, None, List, ap, ◌∙◌, length, refl, subst, sym, arith}
-use Rattle.c_ast.specs.Lexemes.{Placed}
-use Rattle.c_ast.specs.Marks.{Mark, Here}
+use Rattle.std.proofs.Common.{◌≡◌, ◌≤◌, ◌+◌, suc, true, None, List, ap, length, refl, subst, sym, arith}
+use Rattle.c_ast.specs.Marks.{Mark}
 use Rattle.c_ast.specs.ExprMarks as marks
 use Rattle.c_ast.specs.ExprMarks.{has_typedef, maybe_name}
 use Rattle.c_ast.specs.Trees.{TypeNameTree, TypeNamed, SpecifiersTree, MaybeDeclarator, NoDeclarator, ADeclarator, ParameterTree, Parameter, MemberTree, Members, FieldTrees}
 use Rattle.c_ast.specs.Levels.{FitsTypeName, FitsAbstract, FitsEither, FitsParameter, FitsMember}
-use Rattle.c_ast.specs.Heights.{specifiers_height, type_name_height, parameter_height, member_height}
-use Rattle.c_readings.specs.Reading.{State, Read, gives, here, put_state}
+use Rattle.c_ast.specs.Heights.{type_name_height, parameter_height, member_height}
+use Rattle.c_readings.specs.Reading.{State, gives, here, put_state}
 use Rattle.c_readings.specs.Readers.{Readers, specifiers, maybe_declarator, abstract_or_none, type_name, either, parameter, fields, member_above}
 use Rattle.c_readings.specs.Exact.{RunsOn, Finds, IsPiece, Exact, AreExact, TypesAreExact, nothing_more}
 use Rattle.c_readings.proofs.Steps.{Yields, bind_yields, if_yields, exact_yields, exact_by, nothing_ends, nothing_stops, iff_then, here_iff, put_iff, put_rest, bind_finds, if_finds_yes, here_is}
-use Rattle.c_readings.proofs.Records.{MaybeFits, IsMaybe, maybe_declarator_exact, AreFields, FitsSomeFields, fields_exact}
+use Rattle.c_readings.proofs.Records.{MaybeFits, IsMaybe, maybe_declarator_exact, AreFields, fields_exact}
 use Rattle.c_readings.proofs.Specifiers.{AreSpecifiers, specifiers_exact}
 
 specifiers_yield : (R : Readers) → AreExact R → (s : State) → Yields (specifiers R s) (AreSpecifiers R s)
@@ -19,13 +18,6 @@ specifiers_yield R e s = exact_yields _ _ _ _ _ _ (specifiers R) (specifiers_exa
 
 declarator_yields : (R : Readers) → AreExact R → (s : State) → Yields (maybe_declarator R true s) (IsMaybe R true s)
 declarator_yields R e s = exact_yields _ _ _ _ _ _ (maybe_declarator R true) (maybe_declarator_exact R e true) s
-
--- specifiers take a token
-some_left : (ss ts : List Placed) → length ts + 1 ≤ length ss → 1 ≤ length ss
-some_left ss ts h = omega arith
-
-both_used : (ss ts us : List Placed) → length ts + 1 ≤ length ss → length us + 0 ≤ length ts → length us + 1 ≤ length ss
-both_used ss ts us h k = omega arith
 
 -- ---- type names
 
@@ -48,8 +40,8 @@ type_name_by R s ss t d u h k b =
       fits = (h.fits, fits_abstract d k.fits b);
       low = omega arith;
       ends = nothing_ends (TypeNamed (here s) ss d) u.rest;
-      used = both_used s.rest t.rest u.rest h.used k.used;
-      runs = λ r. here_iff (marks.specifiers ss (marks.maybe_declarator true d r)) s (some_left s.rest t.rest h.used) (iff_then (h.runs (marks.maybe_declarator true d r)) (k.runs r));
+      used = let a = h.used in let b = k.used in omega arith;
+      runs = λ r. here_iff (marks.specifiers ss (marks.maybe_declarator true d r)) s (let a = h.used in omega arith) (iff_then (h.runs (marks.maybe_declarator true d r)) (k.runs r));
     }
 
 type_name_yields : (R : Readers) → AreExact R → (s : State) → Yields (type_name R s) (IsTypeName R s)
@@ -100,10 +92,10 @@ parameter_by R s ss t d u h k b =
       fits = (h.fits, fits_either d k.fits b);
       low = omega arith;
       ends = nothing_ends (Parameter (here s) ss d) (declared ss d u).rest;
-      used = subst (λ us. length us + 1 ≤ length s.rest) (sym (put_rest (maybe_name d) (has_typedef ss) u)) (both_used s.rest t.rest u.rest h.used k.used);
+      used = subst (λ us. length us + 1 ≤ length s.rest) (sym (put_rest (maybe_name d) (has_typedef ss) u)) (let a = h.used in let b = k.used in omega arith);
       runs = λ r.
           let m : List Mark = marks.put_then (maybe_name d) (has_typedef ss) r in
-          here_iff (marks.specifiers ss (marks.maybe_declarator true d m)) s (some_left s.rest t.rest h.used) (iff_then (h.runs (marks.maybe_declarator true d m)) (iff_then (k.runs m) (put_iff (maybe_name d) (has_typedef ss) r u)));
+          here_iff (marks.specifiers ss (marks.maybe_declarator true d m)) s (let a = h.used in omega arith) (iff_then (h.runs (marks.maybe_declarator true d m)) (iff_then (k.runs m) (put_iff (maybe_name d) (has_typedef ss) r u)));
     }
 
 parameter_yields : (R : Readers) → AreExact R → (s : State) → Yields (parameter R s) (IsParameter R s)
@@ -132,9 +124,6 @@ parameter_exact R e = exact_by marks.parameter FitsParameter nothing_more parame
 abbrev IsMemberAbove : Readers → State → MemberTree → State → Type 0
 IsMemberAbove R s x t = IsPiece marks.member FitsMember nothing_more member_height (suc R.limit) 1 s x t
 
-more_used : (ss ts us : List Placed) → length ts + 1 ≤ length ss → length us + 1 ≤ length ts → length us + 1 ≤ length ss
-more_used ss ts us h k = omega arith
-
 member_by : (R : Readers) (s : State) (ss : SpecifiersTree) (t : State) (fs : FieldTrees) (u : State) → AreSpecifiers R s ss t → AreFields R t fs u → IsMemberAbove R s (Members (here s) ss fs) u
 member_by R s ss t fs u h k =
     let l = h.low in
@@ -143,8 +132,8 @@ member_by R s ss t fs u h k =
       fits = (h.fits, k.fits.0, k.fits.1);
       low = omega arith;
       ends = nothing_ends (Members (here s) ss fs) u.rest;
-      used = more_used s.rest t.rest u.rest h.used k.used;
-      runs = λ r. here_iff (marks.specifiers ss (marks.fields fs r)) s (some_left s.rest t.rest h.used) (iff_then (h.runs (marks.fields fs r)) (k.runs r));
+      used = let a = h.used in let b = k.used in omega arith;
+      runs = λ r. here_iff (marks.specifiers ss (marks.fields fs r)) s (let a = h.used in omega arith) (iff_then (h.runs (marks.fields fs r)) (k.runs r));
     }
 
 member_yields : (R : Readers) → AreExact R → (s : State) → Yields (member_above R s) (IsMemberAbove R s)
