@@ -44,10 +44,6 @@ inner_fits : (free : Bool) (d : DeclaratorTree) → FitsFree free d → FitsCore
 inner_fits true d f = f
 inner_fits false d f = f
 
-fits_inner : (free : Bool) (d : DeclaratorTree) → FitsCoreFree free (Inner d) → FitsFree free d
-fits_inner true d f = f
-fits_inner false d f = f
-
 asked_then_iff : {X : Type 0} (free b : Bool) (m : List Mark) (s : State) → (free ≡ true → answer IsCore s ≡ b) → (RunsOn m s ↔ X) → (RunsOn (marks.asked_then free b m) s ↔ X)
 asked_then_iff true b m s h f = asked_iff IsCore b m s (h refl) f
 asked_then_iff false b m s h f = f

@@ -1,11 +1,11 @@
 -- The first token of an expression, and what it isn't.
-use Rattle.std.proofs.Common.{◌≡◌, ◌==◌, ◌&&◌, ◌||◌, not, ℕ, Bool, true, false, nat_le, Some, List, [], ◌∷◌, refl, sym, ap, ◌∙◌, subst}
+use Rattle.std.proofs.Common.{◌≡◌, ◌==◌, ◌&&◌, ◌||◌, not, ℕ, Bool, true, false, nat_le, List, [], ◌∷◌, refl, sym, ap, ◌∙◌, subst}
 use Rattle.c_ast.specs.declared.operator.PrefixOperator.{PrefixOperator}
 use Rattle.c_ast.specs.declared.operator.PrefixOperator.TheVariants as prefix
 use Rattle.c_ast.specs.Lexemes.{Lexeme, Name, Keyword, Integer, Character, Text, Sign}
 use Rattle.c_ast.specs.InForce.{InForce, is_typedef}
 use Rattle.c_ast.specs.Operators.{prefix_sign, binary_sign, assign_sign, postfix_sign, member_sign}
-use Rattle.c_ast.specs.Marks.{Mark, Tok, Ask, IsSized, first_is, is_sign, is_specifier, lexemes, next_line, IsSpecifier}
+use Rattle.c_ast.specs.Marks.{Mark, Tok, Ask, IsSized, first_is, is_sign, is_specifier, lexemes, IsSpecifier}
 use Rattle.c_ast.specs.ExprMarks as marks
 use Rattle.c_ast.specs.Levels.{IsSome, Parts, TwoExprs, AllAssign}
 use Rattle.c_ast.specs.Trees.{ExprTree, Variable, IntegerConstant, CharacterConstant, Literal, Enclosed, Subscript, Called, Selected, Stepped, Prefixed, SizedExpr, SizedType, Converted, Combined, Chosen, Assigned, Sequence, ExprTrees, NoExprs, Exprs, SpecifiersTree, Specified}
@@ -62,45 +62,6 @@ mutual
   sequence_first : (es : ExprTrees) (r : List Mark) (s : State) → TwoExprs es → AllAssign es → RunsOn (marks.sequence es r) s → Starts s
   sequence_first NoExprs r s f g h = absurd f
   sequence_first (Exprs e es) r s f g h = expr_first e (marks.more_sequence es r) s g.1 h
-
--- the line of the first token
-pub line_of : ExprTree → ℕ
-line_of (Variable l n) = l
-line_of (IntegerConstant l v k) = l
-line_of (CharacterConstant l v) = l
-line_of (Literal l bs) = l
-line_of (Enclosed l e) = l
-line_of (Subscript l a i) = l
-line_of (Called l a es) = l
-line_of (Selected l op a n) = l
-line_of (Stepped l op a) = l
-line_of (Prefixed l op a) = l
-line_of (SizedExpr l a) = l
-line_of (SizedType l t) = l
-line_of (Converted l t a) = l
-line_of (Combined l op a b) = l
-line_of (Chosen l a b c) = l
-line_of (Assigned l op a b) = l
-line_of (Sequence l es) = l
-
-pub expr_line : (e : ExprTree) (r : List Mark) (s : State) → RunsOn (marks.expr e r) s → (line : ℕ) × (next_line s.rest ≡ Some line)
-expr_line (Variable l n) r s h = (l, h.0)
-expr_line (IntegerConstant l v k) r s h = (l, h.0)
-expr_line (CharacterConstant l v) r s h = (l, h.0)
-expr_line (Literal l bs) r s h = (l, h.0)
-expr_line (Enclosed l e) r s h = (l, h.0)
-expr_line (Subscript l a i) r s h = (l, h.0)
-expr_line (Called l a es) r s h = (l, h.0)
-expr_line (Selected l op a n) r s h = (l, h.0)
-expr_line (Stepped l op a) r s h = (l, h.0)
-expr_line (Prefixed l op a) r s h = (l, h.0)
-expr_line (SizedExpr l a) r s h = (l, h.0)
-expr_line (SizedType l t) r s h = (l, h.0)
-expr_line (Converted l t a) r s h = (l, h.0)
-expr_line (Combined l op a b) r s h = (l, h.0)
-expr_line (Chosen l a b c) r s h = (l, h.0)
-expr_line (Assigned l op a b) r s h = (l, h.0)
-expr_line (Sequence l es) r s h = (l, h.0)
 
 -- ---- what the first token of an expression isn't
 

@@ -149,15 +149,6 @@ needed_some (Operate op) = (op_level op).0
 needed_some Question = omega arith
 needed_some (Assign op) = omega arith
 
-pub made_some : (k : LinkKind) → 1 ≤ made k
-made_some Index = omega arith
-made_some Call = omega arith
-made_some (Select op) = omega arith
-made_some (Step op) = omega arith
-made_some (Operate op) = let h = (op_level op).0 in omega arith
-made_some Question = omega arith
-made_some (Assign op) = omega arith
-
 extends_is : (k : LinkKind) (level rank : ℕ) → extends level rank (Sign (sign_of_link k)) ≡ (nat_le level (made k) && nat_le (needed k) rank)
 extends_is k level rank = ap (links level rank) (link_sign k)
 

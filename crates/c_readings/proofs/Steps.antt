@@ -25,10 +25,6 @@ pub bind_yields : {A B : Type 0} (o : Read A) (k : A → State → Read B) (P : 
 bind_yields None k P Q h g = tt
 bind_yields (Some p) k P Q h g = g p.0 p.1 h
 
-pub bind_some : {A B : Type 0} (o : Read A) (k : A → State → Read B) (y : B) (u : State) → bind o k ≡ Some (y, u) → (x : A) × (t : State) × (o ≡ Some (x, t)) × (k x t ≡ Some (y, u))
-bind_some None k y u e = absurd cc
-bind_some (Some p) k y u e = (p.0, p.1, refl, e)
-
 pub if_yields : {B : Type 0} (b : Bool) (p q : Read B) (Q : B → State → Type 0) → (b ≡ true → Yields p Q) → (b ≡ false → Yields q Q) → Yields (if b then p else q) Q
 if_yields true p q Q f g = f refl
 if_yields false p q Q f g = g refl
@@ -180,11 +176,6 @@ pub read_finds : {A B : Type 0} (o : Read A) (x : A) (m r : List Mark) (k : A �
 read_finds None x m r k z f g = absurd f
 read_finds (Some p) x m r k z f g = subst (λ y. Finds (k y p.1) z r) (sym f.0) (g p.1 (ap (λ y. Some (y, p.1)) f.0) f.1)
 
--- what was found was read
-pub found_read : {A : Type 0} (o : Read A) (x : A) (m : List Mark) → Finds o x m → (t : State) × (o ≡ Some (x, t)) × RunsOn m t
-found_read None x m f = absurd f
-found_read (Some p) x m f = (p.1, ap (λ y. Some (y, p.1)) f.0, f.1)
-
 pub if_finds_yes : {B : Type 0} (b : Bool) (p q : Read B) (z : B) (r : List Mark) → b ≡ true → Finds p z r → Finds (if b then p else q) z r
 if_finds_yes b p q z r h f = subst (λ c. Finds (if c then p else q) z r) (sym h) f
 
@@ -199,9 +190,6 @@ asked_no t s p q z r h f = if_finds_no (answer t s) p q z r h f
 
 pub first_finds : {B : Type 0} (l : Lexeme) (m r : List Mark) (s : State) (f : Lexeme → State → Read B) (z : B) → RunsOn (Tok l ∷ m) s → ((t : State) → RunsOn m t → Finds (f l t) z r) → Finds (with_first s f) z r
 first_finds l m r s f z h g = subst (λ ts. Finds (on_first ts s.names f) z r) (sym h.2) (g (past s h.1) h.3)
-
-pub plain_finds : {B : Type 0} (n : List ℕ) (m r : List Mark) (s : State) (f : Lexeme → State → Read B) (z : B) → RunsOn (Plain n ∷ m) s → ((t : State) → RunsOn m t → Finds (f (Name n) t) z r) → Finds (with_first s f) z r
-plain_finds n m r s f z h g = subst (λ ts. Finds (on_first ts s.names f) z r) (sym h.3) (g (past s h.2) h.4)
 
 pub typed_finds : {B : Type 0} (n : List ℕ) (m r : List Mark) (s : State) (f : Lexeme → State → Read B) (z : B) → RunsOn (Typed n ∷ m) s → ((t : State) → RunsOn m t → Finds (f (Name n) t) z r) → Finds (with_first s f) z r
 typed_finds n m r s f z h g = subst (λ ts. Finds (on_first ts s.names f) z r) (sym h.3) (g (past s h.2) h.4)
@@ -228,9 +216,6 @@ first_is_at is l m s h = ap (λ ts. first_is is (lexemes ts)) h.2
 
 pub first_is_plain : (is : Lexeme → Bool) (n : List ℕ) (m : List Mark) (s : State) → RunsOn (Plain n ∷ m) s → first_is is (lexemes s.rest) ≡ is (Name n)
 first_is_plain is n m s h = ap (λ ts. first_is is (lexemes ts)) h.3
-
-pub first_is_typed : (is : Lexeme → Bool) (n : List ℕ) (m : List Mark) (s : State) → RunsOn (Typed n ∷ m) s → first_is is (lexemes s.rest) ≡ is (Name n)
-first_is_typed is n m s h = ap (λ ts. first_is is (lexemes ts)) h.3
 
 same_self : (k : ℕ) → (k == k) ≡ true
 same_self k = grind (arith, nat_tests)
