@@ -37,6 +37,7 @@ impl TypeTable {
         requires b { b.0 < length self.now.forms }
         ensures { result ≡ compatible (qualify a.1.0 (type_at self.now a.0)) (qualify b.1.0 (type_at self.now b.0)) }
     {
+        // A field is named, so that what the table keeps is known here.
         let _basic = &self.basic;
         let (x, p) = self.under(a.0, a.1);
         let (y, q) = self.under(b.0, b.1);
@@ -74,6 +75,7 @@ impl TypeTable {
         requires apart { a ≢ b }
         ensures { result ≡ kind_compatible (kind_of (type_at self.now a)) (type_at self.now b) }
     {
+        // A field is named, so that what the table keeps is known here.
         let _basic = &self.basic;
         if a < BASIC {
             return self.is_basic_compatible(a, b);
@@ -109,6 +111,7 @@ impl TypeTable {
         requires apart { a ≢ b }
         ensures { result ≡ kind_compatible (kind_of (type_at self.now a)) (type_at self.now b) }
     {
+        // A field is named, so that what the table keeps is known here.
         let _basic = &self.basic;
         let a = self.basic_type(a);
         match self.form(b) {
@@ -127,6 +130,7 @@ impl TypeTable {
         requires apart { a ≢ b }
         ensures { result ≡ kind_compatible (kind_of (type_at self.now a)) (type_at self.now b) }
     {
+        // A field is named, so that what the table keeps is known here.
         let _basic = &self.basic;
         match self.form(a) {
             TypeForm::Enumeration { .. } => b == INT,
@@ -210,7 +214,6 @@ impl TypeTable {
         ensures within { result.0 < length self.now.forms }
         ensures means { qualify result.1.0 (type_at self.now result.0) ≡ unqualified (type_at self.now id) }
     {
-        let _basic = &self.basic;
         let (base, qualifiers) = self.unqualified(id);
         match self.form(base) {
             TypeForm::Array { .. } => (base, qualifiers),

@@ -108,6 +108,7 @@ impl TypeTable {
         ensures form { is_qualified (form_at self.now place) ≡ false }
         ensures known { slice_get self.now.forms place ≡ slice_get basic_forms place }
     {
+        // A field is named, so that what the table keeps is known here.
         let _basic = &self.basic;
         place
     }
@@ -163,6 +164,7 @@ impl TypeTable {
         ensures bound { result ≤ 500 }
     {
         if id < BASIC {
+            // What stands there is a basic type.
             let _basic = self.basic_type(id);
             1
         } else {
@@ -289,6 +291,7 @@ impl TypeTable {
         ensures extent { result.extent ≡ no_object }
         ensures fresh { known (tags self.now) (tagged self.now.forms) ≡ no_object }
     {
+        // A field is named, so that what the table keeps is known here.
         let _basic = &self.basic;
         self.own_facts(1, Extent::no_object())
     }
