@@ -1,6 +1,7 @@
 -- Composite types one by one: what their parts give, in a table that grows.
 use Rattle.std.proofs.Common.{◌≡◌, inl, inr, ℕ, zero, suc, ◌+◌, ◌<◌, ◌≤◌, Bool, false, List, [], ◌∷◌, ◌++◌, length, drop, get_or, refl, sym, ap, ◌∙◌, true≢false, append_assoc, drop_of_length-le, arith}
-use Rattle.std.specs.Prelude.{Some, None, Option, bit_or, is_some}
+use Rattle.std.specs.Prelude.{◌⊎◌, All, Contains, Some, None, Option, bit_or, is_some}
+use Rattle.std.proofs.lemmas.List.Elements.{All-contains, All-weaker}
 use Rattle.std.proofs.lemmas.List.{drop_more, length-append}
 use Rattle.c_types.specs.declared.type_form.TypeForm.{TypeForm}
 use Rattle.c_types.specs.declared.extent.Extent.{Extent}
@@ -9,9 +10,10 @@ use Rattle.c_types.specs.Composite.{composite, kinds_composite, parameters_compo
 use Rattle.c_types.specs.Layout.{Tag}
 use Rattle.c_types.specs.Readings.{is_array, is_function, is_pointer}
 use Rattle.c_types.specs.Table.{Table, Completed, Adds, AreBelow, AreSomeBelow, Extends, parameters_in, tags, type_at, type_in, types, types_in}
-use Rattle.c_types.specs.Facts.{Grows, first_composite}
+use Rattle.c_types.specs.Facts.{AreMade, Grows, IsMade, first_composite}
 use Rattle.c_types.proofs.Bits.{qualify_none}
 use Rattle.c_types.proofs.Below.{below_more, some_below_more}
+use Rattle.c_types.proofs.Pairs.{still_all}
 use Rattle.c_types.proofs.Placed.{extends_itself}
 
 -- ---- a table that grows
@@ -55,6 +57,37 @@ same_types a b h (id ∷ ids) l = rw (h.extends.types_stay id l.0, same_types a 
 pub same_parameters : (a b : Table) → Grows a b → (ids : Option (List ℕ)) (m : Bool) → AreSomeBelow (length a.forms) ids → parameters_in (types b) ids m ≡ parameters_in (types a) ids m
 same_parameters a b h None m l = refl
 same_parameters a b h (Some ids) m l = ap (λ (ts : CTypes). Listed ts m) (same_types a b h ids l)
+
+-- the composites that were made stay so
+pub still_made : (a b : Table) → Grows a b → (es : List ((ℕ × ℕ) × ℕ)) → AreMade a es → AreMade b es
+still_made a b g es h = record { all = All-weaker (IsMade a) (IsMade b) by es h.all }
+  where
+    by : (e : (ℕ × ℕ) × ℕ) → IsMade a e → IsMade b e
+    by e x =
+        let n = longer a b g in
+        let s = g.extends.types_stay in
+        record {
+          first = omega (arith, n, x.first);
+          second = omega (arith, n, x.second);
+          within = omega (arith, n, x.within);
+          means = s e.1 x.within ∙ x.means ∙ sym (ap (λ (z : CType). composite z (type_at b e.0.1)) (s e.0.0 x.first) ∙ ap (composite (type_at a e.0.0)) (s e.0.1 x.second));
+        }
+
+pub one_made : (a b : Table) → Grows a b → (old new : List ((ℕ × ℕ) × ℕ)) (x y id : ℕ) → AreMade b old → x < length a.forms → y < length a.forms → id < length b.forms → type_at b id ≡ composite (type_at a x) (type_at a y) →
+    All (λ e. Contains old e ⊎ (e ≡ ((x, y), id))) new → AreMade b new
+one_made a b g old new x y id h k l w m n =
+    let c = longer a b g in
+    let s = g.extends.types_stay in
+    let p : IsMade b ((x, y), id) = record {
+      first = omega (arith, c, k);
+      second = omega (arith, c, l);
+      within = w;
+      means = m ∙ sym (ap (λ (z : CType). composite z (type_at b y)) (s x k) ∙ ap (composite (type_at a x)) (s y l));
+    } in
+    record { all = still_all (IsMade b) old new ((x, y), id) h.all p n }
+
+pub made_among : (t : Table) (es : List ((ℕ × ℕ) × ℕ)) (x y id : ℕ) → AreMade t es → Contains es ((x, y), id) → IsMade t ((x, y), id)
+made_among t es x y id h c = All-contains (IsMade t) es ((x, y), id) h.all c
 
 -- ---- a type and itself
 

@@ -13,6 +13,7 @@ pub mod Known
 pub mod Laid
 pub mod Named
 pub mod Noting
+pub mod Pairs
 pub mod Placed
 pub mod Sizes
 pub mod Stays

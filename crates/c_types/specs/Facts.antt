@@ -1,5 +1,5 @@
 -- What the functions of the table's insides ensure.
-use Rattle.std.specs.Prelude.{◌≡◌, ◌≢◌, ◌≤◌, ◌<◌, ℕ, Bool, true, false, Option, Some, None, List, [], ◌∷◌, length, if◌then◌else◌}
+use Rattle.std.specs.Prelude.{◌≡◌, ◌≢◌, ◌≤◌, ◌<◌, ℕ, Bool, true, false, Option, Some, None, List, [], ◌∷◌, length, All, if◌then◌else◌}
 use Rattle.std.specs.Option.{option_map}
 use Rattle.std.specs.Str.{bytes_eq}
 use Rattle.std.specs.Prelude.{Vec}
@@ -11,7 +11,8 @@ use Rattle.c_types.specs.declared.type_form.MemberPlace.{MemberPlace}
 use Rattle.c_types.specs.declared.type_table.Facts.{Facts}
 use Rattle.c_types.specs.declared.layout.Laying.{Laying}
 use Rattle.c_types.specs.Bounds.{IsBounded}
-use Rattle.c_types.specs.CType.{CType, Plain, Function, CTypes, NoType, And, qualify, depth}
+use Rattle.c_types.specs.CType.{CType, Plain, Function, CTypes, NoType, And, kind_of, qualify, depth}
+use Rattle.c_types.specs.Compatible.{kind_compatible}
 use Rattle.c_types.specs.Composite.{composite}
 use Rattle.c_types.specs.Layout.{Field, start, laid, greatest_align, greatest_nesting, extent, known, no_object}
 use Rattle.c_types.specs.Table.{Table, AreSomeBelow, Extends, formed, parameters_in, tagged, tags, types, type_at, form_at, is_qualified, is_open_form, places_of}
@@ -81,3 +82,17 @@ more_of (Some v) m n = m
 abbrev pub first_composite : CType → CTypes → CType
 first_composite s NoType = s
 first_composite s (And u us) = composite s u
+
+-- the types at a pair of places are compatible under equal qualifiers
+abbrev pub IsFound : Table → ℕ × ℕ → Type 0
+IsFound t p = kind_compatible (kind_of (type_at t p.0)) (type_at t p.1) ≡ true
+
+-- what was made of two types, by their places, is their composite
+pub record IsMade (t : Table) (e : (ℕ × ℕ) × ℕ) : Type 0 where
+  pub first : e.0.0 < length t.forms
+  pub second : e.0.1 < length t.forms
+  pub within : e.1 < length t.forms
+  pub means : type_at t e.1 ≡ composite (type_at t e.0.0) (type_at t e.0.1)
+
+pub record AreMade (t : Table) (es : List ((ℕ × ℕ) × ℕ)) : Type 0 where
+  pub all : All (IsMade t) es

@@ -1,10 +1,12 @@
-ghost use Rattle.std.specs.Prelude.{◌≡◌, ◌≢◌, ◌<◌, length, Some, None, false, true, slice_get, IfSome, IfNone};
+ghost use Rattle.std.specs.Prelude.{◌≡◌, ◌≢◌, ◌<◌, All, length, Some, None, false, true, slice_get, IfSome, IfNone};
 ghost use Rattle.c_types.specs.CType.{Array, Plain, Pointer, Function, kind_of, qualify, unqualified};
 ghost use Rattle.c_types.specs.Compatible.{all_compatible, all_kept, compatible, is_kept, kind_compatible, lengths_fit, parameters_compatible};
 ghost use Rattle.c_types.specs.Table.{AreBelow, AreSomeBelow, form_at, is_qualified, is_tagged, parameters_in, type_at, types, types_in};
+ghost use Rattle.c_types.specs.Facts.{IsFound};
 ghost use Rattle.c_types.specs.Readings.{is_array, is_function, is_pointer};
 
 use crate::conversions::INT;
+use crate::notes::CompatiblePairs;
 use crate::qualifiers::Qualifiers;
 use crate::type_form::{TypeForm, TypeId};
 use crate::type_table::{BASIC, TypeTable};
@@ -27,15 +29,23 @@ impl TypeTable {
         requires b { b < length self.now.forms }
         ensures { result ≡ compatible (type_at self.now a) (type_at self.now b) }
     {
-        self.are_compatible((a, Qualifiers::none()), (b, Qualifiers::none()))
+        let mut found = CompatiblePairs::new(self.alloc);
+        self.are_compatible((a, Qualifiers::none()), (b, Qualifiers::none()), &mut found)
     }
 
     /// Whether the types are compatible under the qualifiers that stand before them.
     #[cycle(compatible)]
-    fn are_compatible(&self, a: (TypeId, Qualifiers), b: (TypeId, Qualifiers)) -> bool
+    fn are_compatible(
+        &self,
+        a: (TypeId, Qualifiers),
+        b: (TypeId, Qualifiers),
+        found: &mut CompatiblePairs,
+    ) -> bool
         requires a { a.0 < length self.now.forms }
         requires b { b.0 < length self.now.forms }
-        ensures { result ≡ compatible (qualify a.1.0 (type_at self.now a.0)) (qualify b.1.0 (type_at self.now b.0)) }
+        requires found { All (IsFound self.now) found.old }
+        ensures is { result ≡ compatible (qualify a.1.0 (type_at self.now a.0)) (qualify b.1.0 (type_at self.now b.0)) }
+        ensures found { All (IsFound self.now) found.new }
     {
         // A field is named, so that what the table keeps is known here.
         let _basic = &self.basic;
@@ -44,11 +54,13 @@ impl TypeTable {
         match self.array_of(x) {
             Some((of, count)) => match self.array_of(y) {
                 Some((other, others)) => {
-                    lengths_fit(count, others) && self.are_compatible((of, p), (other, q))
+                    lengths_fit(count, others) && self.are_compatible((of, p), (other, q), found)
                 }
                 None => false,
             },
-            None => p.number() == q.number() && (x == y || self.are_kinds_compatible(x, y)),
+            None => {
+                p.number() == q.number() && (x == y || self.are_found_compatible(x, y, found))
+            }
         }
     }
 
@@ -63,17 +75,43 @@ impl TypeTable {
         (base, own.with(qualifiers))
     }
 
-    /// Whether two types are compatible of which neither is qualified and the first is no array. They
-    /// have different places.
+    /// The same as `are_kinds_compatible`. A pair that is noted isn't asked about again, and one that
+    /// is found compatible is noted.
     #[cycle(compatible)]
-    fn are_kinds_compatible(&self, a: TypeId, b: TypeId) -> bool
+    fn are_found_compatible(&self, a: TypeId, b: TypeId, found: &mut CompatiblePairs) -> bool
         requires a { a < length self.now.forms }
         requires b { b < length self.now.forms }
         requires plain { is_qualified (form_at self.now a) ≡ false }
         requires bare { is_qualified (form_at self.now b) ≡ false }
         requires kind { is_array (type_at self.now a) ≡ false }
         requires apart { a ≢ b }
-        ensures { result ≡ kind_compatible (kind_of (type_at self.now a)) (type_at self.now b) }
+        requires found { All (IsFound self.now) found.old }
+        ensures is { result ≡ kind_compatible (kind_of (type_at self.now a)) (type_at self.now b) }
+        ensures found { All (IsFound self.now) found.new }
+    {
+        if found.has(a, b) {
+            return true;
+        }
+        if !self.are_kinds_compatible(a, b, found) {
+            return false;
+        }
+        found.note(a, b);
+        true
+    }
+
+    /// Whether two types are compatible of which neither is qualified and the first is no array. They
+    /// have different places.
+    #[cycle(compatible)]
+    fn are_kinds_compatible(&self, a: TypeId, b: TypeId, found: &mut CompatiblePairs) -> bool
+        requires a { a < length self.now.forms }
+        requires b { b < length self.now.forms }
+        requires plain { is_qualified (form_at self.now a) ≡ false }
+        requires bare { is_qualified (form_at self.now b) ≡ false }
+        requires kind { is_array (type_at self.now a) ≡ false }
+        requires apart { a ≢ b }
+        requires found { All (IsFound self.now) found.old }
+        ensures is { result ≡ kind_compatible (kind_of (type_at self.now a)) (type_at self.now b) }
+        ensures found { All (IsFound self.now) found.new }
     {
         // A field is named, so that what the table keeps is known here.
         let _basic = &self.basic;
@@ -82,9 +120,11 @@ impl TypeTable {
         }
         match self.form(a) {
             TypeForm::Pointer { to } => match self.pointer_to(b) {
-                Some(other) => {
-                    self.are_compatible((*to, Qualifiers::none()), (other, Qualifiers::none()))
-                }
+                Some(other) => self.are_compatible(
+                    (*to, Qualifiers::none()),
+                    (other, Qualifiers::none()),
+                    found,
+                ),
                 None => false,
             },
             TypeForm::Function {
@@ -93,8 +133,11 @@ impl TypeTable {
                 more,
             } => match self.function_of(b) {
                 Some((other, others, and_more)) => {
-                    self.are_compatible((*of, Qualifiers::none()), (other, Qualifiers::none()))
-                        && self.are_parameters_compatible(parameters, *more, others, and_more)
+                    self.are_compatible(
+                        (*of, Qualifiers::none()),
+                        (other, Qualifiers::none()),
+                        found,
+                    ) && self.are_parameters_compatible(parameters, *more, others, and_more, found)
                 }
                 None => false,
             },
@@ -146,17 +189,20 @@ impl TypeTable {
         more: bool,
         b: &Option<Items<TypeId>>,
         and_more: bool,
+        found: &mut CompatiblePairs,
     ) -> bool
         requires a { AreSomeBelow (length self.now.forms) a.now }
         requires b { AreSomeBelow (length self.now.forms) b.now }
-        ensures { result ≡ parameters_compatible (parameters_in (types self.now) a.now more) (parameters_in (types self.now) b.now and_more) }
+        requires found { All (IsFound self.now) found.old }
+        ensures is { result ≡ parameters_compatible (parameters_in (types self.now) a.now more) (parameters_in (types self.now) b.now and_more) }
+        ensures found { All (IsFound self.now) found.new }
     {
         match (a, b) {
             (None, None) => true,
             (Some(a), None) => !more && self.are_kept(a.as_slice()),
             (None, Some(b)) => !and_more && self.are_kept(b.as_slice()),
             (Some(a), Some(b)) => {
-                more == and_more && self.are_all_compatible(a.as_slice(), b.as_slice())
+                more == and_more && self.are_all_compatible(a.as_slice(), b.as_slice(), found)
             }
         }
     }
@@ -192,16 +238,18 @@ impl TypeTable {
 
     /// Whether the parameters' types are as many and compatible in order.
     #[cycle(compatible)]
-    fn are_all_compatible(&self, a: &[TypeId], b: &[TypeId]) -> bool
+    fn are_all_compatible(&self, a: &[TypeId], b: &[TypeId], found: &mut CompatiblePairs) -> bool
         requires a { AreBelow (length self.now.forms) a.now }
         requires b { AreBelow (length self.now.forms) b.now }
-        ensures { result ≡ all_compatible (types_in (types self.now) a.now) (types_in (types self.now) b.now) }
+        requires found { All (IsFound self.now) found.old }
+        ensures is { result ≡ all_compatible (types_in (types self.now) a.now) (types_in (types self.now) b.now) }
+        ensures found { All (IsFound self.now) found.new }
     {
         if a.len() != b.len() {
             return false;
         }
         for i in 0..a.len() {
-            if !self.are_compatible(self.parameter(a[i]), self.parameter(b[i])) {
+            if !self.are_compatible(self.parameter(a[i]), self.parameter(b[i]), found) {
                 return false;
             }
         }

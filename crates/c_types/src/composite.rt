@@ -2,11 +2,12 @@ ghost use Rattle.std.specs.Prelude.{◌≡◌, ◌<◌, Bool, drop, length, fals
 ghost use Rattle.c_types.specs.CType.{Array as ArrayTree, Function, Plain, qualify, unqualified};
 ghost use Rattle.c_types.specs.Compatible.{compatible};
 ghost use Rattle.c_types.specs.Composite.{all_composite, composite, known_length, parameters_composite};
-ghost use Rattle.c_types.specs.Facts.{ArePartsBelow, Grows, first_composite, function_of, items_of, more_of};
+ghost use Rattle.c_types.specs.Facts.{AreMade, ArePartsBelow, Grows, first_composite, function_of, items_of, more_of};
 ghost use Rattle.c_types.specs.Readings.{is_array, is_function};
 ghost use Rattle.c_types.specs.Table.{AreBelow, AreSomeBelow, Extends, IsOver, form_at, formed, is_qualified, parameters_in, tagged, type_at, types, types_in};
 
 use crate::form_key::copied;
+use crate::notes::Composites;
 use crate::qualifiers::Qualifiers;
 use crate::type_form::{TypeForm, TypeId};
 use crate::type_table::TypeTable;
@@ -53,7 +54,8 @@ impl TypeTable {
         ensures extends { Extends self.old self.new }
         ensures completed { self.new.completed ≡ self.old.completed }
     {
-        self.composite_under((a, Qualifiers::none()), (b, Qualifiers::none()))
+        let mut made = Composites::new(self.alloc);
+        self.composite_under((a, Qualifiers::none()), (b, Qualifiers::none()), &mut made)
     }
 
     /// The composite of the types under the qualifiers that stand before them.
@@ -62,12 +64,15 @@ impl TypeTable {
         &mut self,
         a: (TypeId, Qualifiers),
         b: (TypeId, Qualifiers),
+        made: &mut Composites,
     ) -> Result<TypeId, Memory>
         requires a { a.0 < length self.old.forms }
         requires b { b.0 < length self.old.forms }
+        requires made { AreMade self.old made.old }
         ensures means { IfOk result (λ id. type_at self.new id ≡ composite (qualify a.1.0 (type_at self.old a.0)) (qualify b.1.0 (type_at self.old b.0))) }
         ensures within { IfOk result (λ id. id < length self.new.forms) }
         ensures grows { Grows self.old self.new }
+        ensures made { AreMade self.new made.new }
     {
         let (x, p) = self.under(a.0, a.1);
         let (y, q) = self.under(b.0, b.1);
@@ -77,14 +82,44 @@ impl TypeTable {
         match self.array_of(x) {
             Some((of, length)) => match self.array_of(y) {
                 Some((other, count)) => {
-                    let of = self.composite_under((of, p), (other, q))?;
+                    let of = self.composite_under((of, p), (other, q), made)?;
                     self.array_place(of, known_length(length, count))
                 }
                 None => self.qualified(x, p),
             },
             None => {
-                let id = self.kinds_composite(x, y)?;
+                let id = self.noted_composite(x, y, made)?;
                 self.qualified(id, p)
+            }
+        }
+    }
+
+    /// The same as `kinds_composite`. A composite that is noted isn't made again, and one that is made
+    /// is noted.
+    #[cycle(composite)]
+    fn noted_composite(
+        &mut self,
+        x: TypeId,
+        y: TypeId,
+        made: &mut Composites,
+    ) -> Result<TypeId, Memory>
+        requires x { x < length self.old.forms }
+        requires y { y < length self.old.forms }
+        requires plain { is_qualified (form_at self.old x) ≡ false }
+        requires bare { is_qualified (form_at self.old y) ≡ false }
+        requires kind { is_array (type_at self.old x) ≡ false }
+        requires made { AreMade self.old made.old }
+        ensures means { IfOk result (λ id. type_at self.new id ≡ composite (type_at self.old x) (type_at self.old y)) }
+        ensures within { IfOk result (λ id. id < length self.new.forms) }
+        ensures grows { Grows self.old self.new }
+        ensures made { AreMade self.new made.new }
+    {
+        match made.get(x, y) {
+            Some(id) => Ok(id),
+            None => {
+                let id = self.kinds_composite(x, y, made)?;
+                made.note(x, y, id);
+                Ok(id)
             }
         }
     }
@@ -92,15 +127,22 @@ impl TypeTable {
     /// The composite of the types at two places, which aren't qualified, and the first of which is no
     /// array.
     #[cycle(composite)]
-    fn kinds_composite(&mut self, x: TypeId, y: TypeId) -> Result<TypeId, Memory>
+    fn kinds_composite(
+        &mut self,
+        x: TypeId,
+        y: TypeId,
+        made: &mut Composites,
+    ) -> Result<TypeId, Memory>
         requires x { x < length self.old.forms }
         requires y { y < length self.old.forms }
         requires plain { is_qualified (form_at self.old x) ≡ false }
         requires bare { is_qualified (form_at self.old y) ≡ false }
         requires kind { is_array (type_at self.old x) ≡ false }
+        requires made { AreMade self.old made.old }
         ensures means { IfOk result (λ id. type_at self.new id ≡ composite (type_at self.old x) (type_at self.old y)) }
         ensures within { IfOk result (λ id. id < length self.new.forms) }
         ensures grows { Grows self.old self.new }
+        ensures made { AreMade self.new made.new }
     {
         match self.pointer_to(x) {
             Some(to) => match self.pointer_to(y) {
@@ -108,6 +150,7 @@ impl TypeTable {
                     let to = self.composite_under(
                         (to, Qualifiers::none()),
                         (other, Qualifiers::none()),
+                        made,
                     )?;
                     self.form_place(TypeForm::Pointer { to })
                 }
@@ -115,7 +158,7 @@ impl TypeTable {
             },
             None => match self.function_parts(x)? {
                 Some(of) => match self.function_parts(y)? {
-                    Some(other) => self.functions_composite(of, other),
+                    Some(other) => self.functions_composite(of, other, made),
                     None => Ok(x),
                 },
                 None => Ok(x),
@@ -150,19 +193,27 @@ impl TypeTable {
 
     /// The composite of two functions.
     #[cycle(composite)]
-    fn functions_composite(&mut self, a: FunctionParts, b: FunctionParts) -> Result<TypeId, Memory>
+    fn functions_composite(
+        &mut self,
+        a: FunctionParts,
+        b: FunctionParts,
+        made: &mut Composites,
+    ) -> Result<TypeId, Memory>
         requires a { ArePartsBelow (length self.old.forms) a }
         requires b { ArePartsBelow (length self.old.forms) b }
+        requires made { AreMade self.old made.old }
         ensures means { IfOk result (λ id. type_at self.new id ≡ composite (function_of self.old a) (function_of self.old b)) }
         ensures within { IfOk result (λ id. id < length self.new.forms) }
         ensures grows { Grows self.old self.new }
+        ensures made { AreMade self.new made.new }
     {
         let of = self.composite_under(
             (a.result, Qualifiers::none()),
             (b.result, Qualifiers::none()),
+            made,
         )?;
         let more = more_of(&a.parameters, a.more, b.more);
-        let parameters = self.parameters_composite(a.parameters, b.parameters)?;
+        let parameters = self.parameters_composite(a.parameters, b.parameters, made)?;
         self.function_place(of, parameters, more)
     }
 
@@ -199,18 +250,21 @@ impl TypeTable {
         &mut self,
         a: Option<Vec<TypeId>>,
         b: Option<Vec<TypeId>>,
+        made: &mut Composites,
     ) -> Result<Option<Vec<TypeId>>, Memory>
         requires a { AreSomeBelow (length self.old.forms) (items_of a) }
         requires b { AreSomeBelow (length self.old.forms) (items_of b) }
+        requires made { AreMade self.old made.old }
         ensures means { IfOk result (λ o. (m n : Bool) → parameters_in (types self.new) (items_of o) (more_of a m n) ≡ parameters_composite (parameters_in (types self.old) (items_of a) m) (parameters_in (types self.old) (items_of b) n)) }
         ensures below { IfOk result (λ o. AreSomeBelow (length self.new.forms) (items_of o)) }
         ensures grows { Grows self.old self.new }
+        ensures made { AreMade self.new made.new }
     {
         match (a, b) {
             (None, b) => Ok(b),
             (Some(a), None) => Ok(Some(a)),
             (Some(a), Some(b)) => {
-                let ids = self.all_composite(a.as_slice(), b.as_slice())?;
+                let ids = self.all_composite(a.as_slice(), b.as_slice(), made)?;
                 Ok(Some(ids))
             }
         }
@@ -218,16 +272,23 @@ impl TypeTable {
 
     /// The composites of parameters in order, as many as the first list has.
     #[cycle(composite)]
-    fn all_composite(&mut self, a: &[TypeId], b: &[TypeId]) -> Result<Vec<TypeId>, Memory>
+    fn all_composite(
+        &mut self,
+        a: &[TypeId],
+        b: &[TypeId],
+        made: &mut Composites,
+    ) -> Result<Vec<TypeId>, Memory>
         requires a { AreBelow (length self.old.forms) a.now }
         requires b { AreBelow (length self.old.forms) b.now }
+        requires made { AreMade self.old made.old }
         ensures means { IfOk result (λ v. types_in (types self.new) v.items ≡ all_composite (types_in (types self.old) a.now) (types_in (types self.old) b.now)) }
         ensures below { IfOk result (λ v. AreBelow (length self.new.forms) v.items) }
         ensures grows { Grows self.old self.new }
+        ensures made { AreMade self.new made.new }
     {
         let mut ids = Vec::new(self.alloc);
         for i in 0..a.len() {
-            let id = self.parameter_composite(a[i], b, i)?;
+            let id = self.parameter_composite(a[i], b, i, made)?;
             ids.push(id)?;
         }
         Ok(ids)
@@ -235,16 +296,24 @@ impl TypeTable {
 
     /// The composite of a parameter and the one at a place of a list, if that is so long.
     #[cycle(composite)]
-    fn parameter_composite(&mut self, a: TypeId, b: &[TypeId], i: usize) -> Result<TypeId, Memory>
+    fn parameter_composite(
+        &mut self,
+        a: TypeId,
+        b: &[TypeId],
+        i: usize,
+        made: &mut Composites,
+    ) -> Result<TypeId, Memory>
         requires a { a < length self.old.forms }
         requires b { AreBelow (length self.old.forms) b.now }
+        requires made { AreMade self.old made.old }
         ensures means { IfOk result (λ id. unqualified (type_at self.new id) ≡ first_composite (unqualified (type_at self.old a)) (types_in (types self.old) (drop i b.now))) }
         ensures within { IfOk result (λ id. id < length self.new.forms) }
         ensures grows { Grows self.old self.new }
+        ensures made { AreMade self.new made.new }
     {
         if i < b.len() {
             let (a, b) = (self.parameter(a), self.parameter(b[i]));
-            self.composite_under(a, b)
+            self.composite_under(a, b, made)
         } else {
             Ok(a)
         }

@@ -9,6 +9,7 @@ mod definition;
 mod extent;
 mod form_key;
 mod layout;
+mod notes;
 mod qualifiers;
 mod room;
 #[cfg(test)]

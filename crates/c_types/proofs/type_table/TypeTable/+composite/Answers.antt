@@ -6,7 +6,7 @@ use Rattle.c_types.specs.Facts.{first_composite, function_of, items_of}
 use Rattle.c_types.specs.Table.{AreBelow, parameters_in, type_at, type_in, types, types_in}
 use Rattle.c_types.proofs.Alike.{weight_among, weight_bare, weight_qualify, weight_under}
 use Rattle.c_types.proofs.Below.{below_at}
-use Rattle.c_types.proofs.Composed.{all_composed, below_drop, below_push, grows_twice, joined, longer, more_weight, one_composed, pointers_composed, results_composed, same_parameters, same_types, still_below, still_some_below, under_kinds, under_same}
+use Rattle.c_types.proofs.Composed.{all_composed, below_drop, below_push, grows_itself, grows_twice, joined, longer, made_among, more_weight, one_composed, one_made, pointers_composed, results_composed, same_parameters, same_types, still_below, still_made, still_some_below, under_kinds, under_same}
 use Rattle.c_types.proofs.type_table.TypeTable.+composite.Goals as goal
 
 -- ---- all of the parameters
@@ -22,9 +22,9 @@ all_composite-parameter_composite-requires t c =
     let w = weight_among (types T) a c.loop-i.i 0 c.loop-i-test.true in
     let e : weight (type_at L x) ≡ weight (unqualified (type_in (types T) x)) = ap weight (g.extends.types_stay x l) ∙ sym (weight_bare (type_at T x)) in
     let d = c.decreases in
-    let f : 6 * weight (type_at L x) + 3 < t = omega (arith, w, e, d) in
+    let f : 7 * weight (type_at L x) + 4 < t = omega (arith, w, e, d) in
     let m = longer T L g in
-    (f, (omega (arith, l, m), still_below T L g c.args.b.now c.requires.b))
+    (f, (omega (arith, l, m), (still_below T L g c.args.b.now c.requires.b, c.loop-i.invariant.made)))
 
 pub all_composite-returns-in_err-id-clause-grows : goal.all_composite-returns-in_err-id-clause-grows
 all_composite-returns-in_err-id-clause-grows t c = grows_twice c.args.self.now c.loop-i.self c.parameter_composite.new.self c.loop-i.invariant.grows c.parameter_composite.ensures.grows
@@ -52,6 +52,7 @@ all_composite-loop-i-preserved t c =
     let p : c.push.new.self.items ≡ ids ++ id ∷ [] = c.in_ok-push.ensures.items in
     record {
       grows = grows_twice T L N v.grows g;
+      made = c.parameter_composite.ensures.made;
       below = subst (AreBelow (length N.forms)) (sym p) (below_push (length N.forms) ids id (still_below L N g ids v.below) c.in_ok-id.ensures.within);
       means = subst (λ (xs : List ℕ). joined (types_in (types N) xs) (all_composite (types_in (types T) (drop (i + 1) a)) (types_in (types T) (drop (i + 1) b))) ≡ all_composite (types_in (types T) a) (types_in (types T) b)) (sym p)
           (one_composed T L N a b ids i 0 id g v.below c.loop-i-test.true m v.means);
@@ -79,17 +80,17 @@ composite_under-composite_under-requires t c =
     let e = weight_under c.args.a.1.0 x.1.0 (type_at T c.args.a.0) (type_at T x.0) c.under-x.ensures.means in
     let f : weight (type_at T x.0) ≡ 1 + weight (type_at T c.in-Some.of) = ap weight c.in-Some.ensures.some in
     let d = c.decreases in
-    let g : 6 * weight (type_at T c.in-Some.of) + 2 < t = omega (arith, e, f, d) in
-    (g, (c.in-Some.ensures.place, c.in-Some-array_of.ensures.place))
+    let g : 7 * weight (type_at T c.in-Some.of) + 3 < t = omega (arith, e, f, d) in
+    (g, (c.in-Some.ensures.place, (c.in-Some-array_of.ensures.place, c.requires.made)))
 
-pub composite_under-kinds_composite-requires : goal.composite_under-kinds_composite-requires
-composite_under-kinds_composite-requires t c =
+pub composite_under-noted_composite-requires : goal.composite_under-noted_composite-requires
+composite_under-noted_composite-requires t c =
     let T = c.args.self.now in
     let x = c.under-x.result in
     let e = weight_under c.args.a.1.0 x.1.0 (type_at T c.args.a.0) (type_at T x.0) c.under-x.ensures.means in
     let d = c.decreases in
-    let g : 6 * weight (type_at T x.0) + 1 < t = omega (arith, e, d) in
-    (g, (c.under-x.ensures.within, (c.under-y.ensures.within, (c.under-x.ensures.form, (c.under-y.ensures.form, c.in-None.ensures.none)))))
+    let g : 7 * weight (type_at T x.0) + 2 < t = omega (arith, e, d) in
+    (g, (c.under-x.ensures.within, (c.under-y.ensures.within, (c.under-x.ensures.form, (c.under-y.ensures.form, (c.in-None.ensures.none, c.requires.made))))))
 
 pub composite_under-returns-in_ok-of-in-Some-array_of-clause-grows : goal.composite_under-returns-in_ok-of-in-Some-array_of-clause-grows
 composite_under-returns-in_ok-of-in-Some-array_of-clause-grows t c = grows_twice c.args.self.now c.composite_under.new.self c.array_place.new.self c.composite_under.ensures.grows c.array_place.ensures.grows
@@ -103,9 +104,32 @@ composite_under-returns-in_ok-id-in-None-clause-means t c =
     IfOk-weaker c.qualified-in-None.result _ _ (λ id h. h ∙ k) c.qualified-in-None.ensures.means
 
 pub composite_under-returns-in_ok-id-in-None-clause-grows : goal.composite_under-returns-in_ok-id-in-None-clause-grows
-composite_under-returns-in_ok-id-in-None-clause-grows t c = grows_twice c.args.self.now c.kinds_composite.new.self c.qualified-in-None.new.self c.kinds_composite.ensures.grows c.qualified-in-None.ensures.grows
+composite_under-returns-in_ok-id-in-None-clause-grows t c = grows_twice c.args.self.now c.noted_composite.new.self c.qualified-in-None.new.self c.noted_composite.ensures.grows c.qualified-in-None.ensures.grows
+
+pub composite_under-returns-then-x-y-clause-made : goal.composite_under-returns-then-x-y-clause-made
+composite_under-returns-then-x-y-clause-made t c = still_made c.args.self.now c.qualified.new.self c.qualified.ensures.grows c.args.made.now c.requires.made
+
+pub composite_under-returns-in_ok-of-in-Some-array_of-clause-made : goal.composite_under-returns-in_ok-of-in-Some-array_of-clause-made
+composite_under-returns-in_ok-of-in-Some-array_of-clause-made t c = still_made c.composite_under.new.self c.array_place.new.self c.array_place.ensures.grows c.composite_under.new.made c.composite_under.ensures.made
+
+pub composite_under-returns-in_ok-id-in-None-clause-made : goal.composite_under-returns-in_ok-id-in-None-clause-made
+composite_under-returns-in_ok-id-in-None-clause-made t c = still_made c.noted_composite.new.self c.qualified-in-None.new.self c.qualified-in-None.ensures.grows c.noted_composite.new.made c.noted_composite.ensures.made
+
+-- ---- a composite that may be noted
+
+pub noted_composite-returns-in-Some : goal.noted_composite-returns-in-Some
+noted_composite-returns-in-Some t c =
+    let m = made_among c.args.self.now c.args.made.now c.args.x c.args.y c.in-Some.id c.requires.made c.in-Some.ensures in
+    record { means = m.means; within = m.within; grows = grows_itself c.args.self.now; made = c.requires.made }
+
+pub noted_composite-returns-in_ok-id-in-None-clause-made : goal.noted_composite-returns-in_ok-id-in-None-clause-made
+noted_composite-returns-in_ok-id-in-None-clause-made t c =
+    one_made c.args.self.now c.kinds_composite.new.self c.kinds_composite.ensures.grows c.kinds_composite.new.made c.note.new.self c.args.x c.args.y c.in_ok-id-in-None.id c.kinds_composite.ensures.made c.requires.x c.requires.y c.in_ok-id-in-None.ensures.within c.in_ok-id-in-None.ensures.means c.note.ensures
 
 -- ---- two functions
+
+pub functions_composite-returns-clause-made : goal.functions_composite-returns-clause-made
+functions_composite-returns-clause-made t c = still_made c.parameters_composite.new.self c.function_place.new.self c.function_place.ensures.grows c.parameters_composite.new.made c.parameters_composite.ensures.made
 
 pub functions_composite-parameters_composite-requires : goal.functions_composite-parameters_composite-requires
 functions_composite-parameters_composite-requires t c =
@@ -116,8 +140,8 @@ functions_composite-parameters_composite-requires t c =
     let e : parameters_weight (parameters_in (types M) ps true) ≡ parameters_weight (parameters_in (types T) ps c.args.a.more) = ap parameters_weight (same_parameters T M g ps true c.requires.a.1) ∙ more_weight (types T) ps true c.args.a.more in
     let f : weight (function_of T c.args.a) ≡ 1 + (weight (type_at T c.args.a.result) + parameters_weight (parameters_in (types T) ps c.args.a.more)) = refl in
     let d = c.decreases in
-    let h : 6 * parameters_weight (parameters_in (types M) ps true) + 5 < t = omega (arith, e, f, d) in
-    (h, (still_some_below T M g ps c.requires.a.1, still_some_below T M g (items_of c.args.b.parameters) c.requires.b.1))
+    let h : 7 * parameters_weight (parameters_in (types M) ps true) + 6 < t = omega (arith, e, f, d) in
+    (h, (still_some_below T M g ps c.requires.a.1, (still_some_below T M g (items_of c.args.b.parameters) c.requires.b.1, c.composite_under.ensures.made)))
 
 pub functions_composite-returns-in_err-parameters-clause-grows : goal.functions_composite-returns-in_err-parameters-clause-grows
 functions_composite-returns-in_err-parameters-clause-grows t c = grows_twice c.args.self.now c.composite_under.new.self c.parameters_composite.new.self c.composite_under.ensures.grows c.parameters_composite.ensures.grows
@@ -158,6 +182,9 @@ kinds_composite-returns-in_ok-to-in-Some-pointer_to-clause-means t c =
 pub kinds_composite-returns-in_ok-to-in-Some-pointer_to-clause-grows : goal.kinds_composite-returns-in_ok-to-in-Some-pointer_to-clause-grows
 kinds_composite-returns-in_ok-to-in-Some-pointer_to-clause-grows t c = grows_twice c.args.self.now c.composite_under.new.self c.form_place.new.self c.composite_under.ensures.grows c.form_place.ensures.grows
 
+pub kinds_composite-returns-in_ok-to-in-Some-pointer_to-clause-made : goal.kinds_composite-returns-in_ok-to-in-Some-pointer_to-clause-made
+kinds_composite-returns-in_ok-to-in-Some-pointer_to-clause-made t c = still_made c.composite_under.new.self c.form_place.new.self c.form_place.ensures.grows c.composite_under.new.made c.composite_under.ensures.made
+
 -- ---- a parameter
 
 pub parameter_composite-parameter-b-requires : goal.parameter_composite-parameter-b-requires
@@ -169,5 +196,5 @@ parameter_composite-composite_under-requires t c =
     let p = c.parameter-a.result in
     let e : weight (type_at T p.0) ≡ weight (type_at T c.args.a) = sym (weight_qualify p.1.0 (type_at T p.0)) ∙ ap weight c.parameter-a.ensures.means ∙ weight_bare (type_at T c.args.a) in
     let d = c.decreases in
-    let g : 6 * weight (type_at T p.0) + 2 < t = omega (arith, e, d) in
-    (g, (c.parameter-a.ensures.within, c.parameter-b.ensures.within))
+    let g : 7 * weight (type_at T p.0) + 3 < t = omega (arith, e, d) in
+    (g, (c.parameter-a.ensures.within, (c.parameter-b.ensures.within, c.requires.made)))

@@ -9,5 +9,5 @@ pub returns : goal.returns
 returns c =
     let s = type_at c.args.self.now c.args.a in
     let u = type_at c.args.self.now c.args.b in
-    c.are_compatible.ensures ∙ ap (λ q. compatible (qualify q s) (qualify c.none-2.result.0 u)) c.none.ensures ∙ ap (λ q. compatible (qualify 0 s) (qualify q u)) c.none-2.ensures
+    c.are_compatible.ensures.is ∙ ap (λ q. compatible (qualify q s) (qualify c.none-2.result.0 u)) c.none.ensures ∙ ap (λ q. compatible (qualify 0 s) (qualify q u)) c.none-2.ensures
     ∙ ap (λ z. compatible z (qualify 0 u)) (qualify_none s) ∙ ap (compatible s) (qualify_none u)
