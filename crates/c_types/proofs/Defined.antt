@@ -15,7 +15,7 @@ use Rattle.c_types.specs.Keeps.{IsDefinition, IsFact, completed_in}
 use Rattle.c_types.proofs.Insides.{type_by_form}
 use Rattle.c_types.proofs.Known.{IsApart, apart_push, known_apart, same_place}
 
-eq_of : (a b : ℕ) → nat_eq a b ≡ true → a ≡ b
+pub eq_of : (a b : ℕ) → nat_eq a b ≡ true → a ≡ b
 eq_of a b h = grind (arith, nat_tests)
 
 pub found : (ds : List (ℕ × Definition)) (id : ℕ) (d : Definition) → lookup (nat_eq id) ds ≡ Some d → (k : ℕ) × (slice_get ds k ≡ Some (id, d))

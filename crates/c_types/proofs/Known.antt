@@ -16,7 +16,7 @@ extent_qualify k q (Array t n) = rw (extent_qualify k q t) refl
 abbrev pub Stay : (ℕ → Extent) → (ℕ → Extent) → Type 0
 Stay k new = (n : ℕ) → is_some (k n).size ≡ true → new n ≡ k n
 
-element_some : (n s : Option ℕ) → is_some (times n s) ≡ true → is_some s ≡ true
+pub element_some : (n s : Option ℕ) → is_some (times n s) ≡ true → is_some s ≡ true
 element_some (Some n) (Some s) h = refl
 element_some (Some n) None h = h
 element_some None s h = absurd (true≢false (sym h))
@@ -49,11 +49,11 @@ settled_stays k new s (Plain q (Union n)) h = h
 settled_stays k new s (Plain q (Enumeration n)) h = h
 settled_stays k new s (Array t n) h = ap (λ (e : Extent). is_some e.size) (extent_stays k new s t h) ∙ h
 
-and_left : (a b : Bool) → (a && b) ≡ true → a ≡ true
+pub and_left : (a b : Bool) → (a && b) ≡ true → a ≡ true
 and_left true b h = refl
 and_left false b h = h
 
-and_right : (a b : Bool) → (a && b) ≡ true → b ≡ true
+pub and_right : (a b : Bool) → (a && b) ≡ true → b ≡ true
 and_right true b h = h
 and_right false b h = absurd (true≢false (sym h))
 

@@ -11,6 +11,7 @@ pub mod Insides
 pub mod Keys
 pub mod Known
 pub mod Laid
+pub mod Limits
 pub mod Named
 pub mod Noting
 pub mod Pairs

@@ -1,5 +1,5 @@
 -- What the functions of the table's insides ensure.
-use Rattle.std.specs.Prelude.{◌≡◌, ◌≢◌, ◌≤◌, ◌<◌, ℕ, Bool, true, false, Option, Some, None, List, [], ◌∷◌, length, All, if◌then◌else◌}
+use Rattle.std.specs.Prelude.{◌≡◌, ◌≢◌, ◌≤◌, ◌<◌, ℕ, Bool, true, false, Option, Some, None, List, [], ◌∷◌, length, All, is_some, if◌then◌else◌}
 use Rattle.std.specs.Option.{option_map}
 use Rattle.std.specs.Str.{bytes_eq}
 use Rattle.std.specs.Prelude.{Vec}
@@ -9,13 +9,14 @@ use Rattle.c_types.specs.declared.type_form.TypeForm.{TypeForm}
 use Rattle.c_types.specs.declared.type_form.Member.{Member}
 use Rattle.c_types.specs.declared.type_form.MemberPlace.{MemberPlace}
 use Rattle.c_types.specs.declared.type_table.Facts.{Facts}
+use Rattle.c_types.specs.declared.extent.Extent.{Extent}
 use Rattle.c_types.specs.declared.layout.Laying.{Laying}
 use Rattle.c_types.specs.Bounds.{IsBounded}
-use Rattle.c_types.specs.CType.{CType, Plain, Function, CTypes, NoType, And, kind_of, qualify, depth}
-use Rattle.c_types.specs.Compatible.{kind_compatible}
+use Rattle.c_types.specs.CType.{CType, Plain, Array, Function, CTypes, NoType, And, kind_of, qualify, depth}
+use Rattle.c_types.specs.Compatible.{all_compatible, compatible, kind_compatible}
 use Rattle.c_types.specs.Composite.{composite}
-use Rattle.c_types.specs.Layout.{Field, start, laid, greatest_align, greatest_nesting, extent, known, no_object}
-use Rattle.c_types.specs.Table.{Table, AreSomeBelow, Extends, formed, parameters_in, tagged, tags, types, type_at, form_at, is_qualified, is_open_form, places_of}
+use Rattle.c_types.specs.Layout.{Field, start, laid, greatest_align, greatest_nesting, extent, extent_by, known, no_object}
+use Rattle.c_types.specs.Table.{Table, AreSomeBelow, Extends, formed, parameters_in, tagged, tags, types, types_in, type_at, form_at, is_qualified, is_open_form, places_of}
 use Rattle.c_types.specs.Keeps.{IsSettled, is_formed, place_named}
 
 -- the type of a form that is added
@@ -96,3 +97,25 @@ pub record IsMade (t : Table) (e : (ℕ × ℕ) × ℕ) : Type 0 where
 
 pub record AreMade (t : Table) (es : List ((ℕ × ℕ) × ℕ)) : Type 0 where
   pub all : All (IsMade t) es
+
+-- an array is of objects
+abbrev pub IsOfObjects : (ℕ → Extent) → CType → Type 0
+IsOfObjects known (Array of length) = is_some (extent_by known of).size ≡ true
+IsOfObjects known (Plain qualifiers kind) = Unit {0}
+
+-- the type keeps the limits, where extents are known
+pub record IsWithin (known : ℕ → Extent) (s : CType) : Type 0 where
+  pub shallow : depth s ≤ 500
+  pub bounded : IsBounded (extent_by known s)
+  pub objects : IsOfObjects known s
+
+-- two lists of parameters, where both are there, agree in number and types
+abbrev pub AreListsCompatible : Table → Option (List ℕ) → Option (List ℕ) → Type 0
+AreListsCompatible t None b = Unit {0}
+AreListsCompatible t (Some a) None = Unit {0}
+AreListsCompatible t (Some a) (Some b) = all_compatible (types_in (types t) a) (types_in (types t) b) ≡ true
+
+-- compatible with the first of a list, if there is one
+abbrev pub first_compatible : CType → CTypes → Bool
+first_compatible s NoType = true
+first_compatible s (And u us) = compatible s u

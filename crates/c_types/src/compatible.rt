@@ -1,8 +1,9 @@
 ghost use Rattle.std.specs.Prelude.{◌≡◌, ◌≢◌, ◌<◌, All, length, Some, None, false, true, slice_get, IfSome, IfNone};
 ghost use Rattle.c_types.specs.CType.{Array, Plain, Pointer, Function, kind_of, qualify, unqualified};
 ghost use Rattle.c_types.specs.Compatible.{all_compatible, all_kept, compatible, is_kept, kind_compatible, lengths_fit, parameters_compatible};
-ghost use Rattle.c_types.specs.Table.{AreBelow, AreSomeBelow, form_at, is_qualified, is_tagged, parameters_in, type_at, types, types_in};
-ghost use Rattle.c_types.specs.Facts.{IsFound};
+ghost use Rattle.c_types.specs.Table.{AreBelow, AreSomeBelow, form_at, is_qualified, is_tagged, parameters_in, tags, type_at, types, types_in};
+ghost use Rattle.c_types.specs.Layout.{known};
+ghost use Rattle.c_types.specs.Facts.{IsFound, IsWithin};
 ghost use Rattle.c_types.specs.Readings.{is_array, is_function, is_pointer};
 
 use crate::conversions::INT;
@@ -70,7 +71,10 @@ impl TypeTable {
         ensures within { result.0 < length self.now.forms }
         ensures means { qualify qualifiers.0 (type_at self.now id) ≡ qualify result.1.0 (type_at self.now result.0) }
         ensures form { is_qualified (form_at self.now result.0) ≡ false }
+        ensures limits { IsWithin (known (tags self.now)) (type_at self.now result.0) }
     {
+        // A field is named, so that what the table keeps is known here.
+        let _basic = &self.basic;
         let (base, own) = self.unqualified(id);
         (base, own.with(qualifiers))
     }

@@ -1,14 +1,16 @@
-ghost use Rattle.std.specs.Prelude.{◌≡◌, ◌<◌, Bool, drop, length, false, true, IfOk, IfSome, IfNone};
-ghost use Rattle.c_types.specs.CType.{Array as ArrayTree, Function, Plain, qualify, unqualified};
-ghost use Rattle.c_types.specs.Compatible.{compatible};
+ghost use Rattle.std.specs.Prelude.{◌≡◌, ◌<◌, ◌≤◌, Bool, None, drop, length, false, true, IfOk, IfSome, IfNone};
+ghost use Rattle.c_types.specs.declared.type_form.TypeForm.TheVariants as form;
+ghost use Rattle.c_types.specs.CType.{Array as ArrayTree, Function, Plain, depth, kind_of, qualify, unqualified};
+ghost use Rattle.c_types.specs.Compatible.{all_compatible, compatible, kind_compatible};
 ghost use Rattle.c_types.specs.Composite.{all_composite, composite, known_length, parameters_composite};
-ghost use Rattle.c_types.specs.Facts.{AreMade, ArePartsBelow, Grows, first_composite, function_of, items_of, more_of};
+ghost use Rattle.c_types.specs.Facts.{AreListsCompatible, AreMade, ArePartsBelow, Grows, first_compatible, first_composite, function_of, items_of, more_of};
 ghost use Rattle.c_types.specs.Readings.{is_array, is_function};
-ghost use Rattle.c_types.specs.Table.{AreBelow, AreSomeBelow, Extends, IsOver, form_at, formed, is_qualified, parameters_in, tagged, type_at, types, types_in};
+ghost use Rattle.c_types.specs.Table.{AreBelow, AreSomeBelow, Extends, IsOver, excess_of, form_at, form_refusal, formed, is_qualified, parameters_in, tagged, tags, type_at, types, types_in};
 
 use crate::form_key::copied;
 use crate::notes::Composites;
 use crate::qualifiers::Qualifiers;
+use crate::type_fault::TypeFault;
 use crate::type_form::{TypeForm, TypeId};
 use crate::type_table::TypeTable;
 use lcc_base::{Items, Memory};
@@ -43,14 +45,16 @@ fn more_of(parameters: &Option<Vec<TypeId>>, more: bool, other: bool) -> bool
 }
 
 impl TypeTable {
-    /// The composite type (C89 3.1.2.6) of two compatible types. After an error the table may hold
-    /// more types, and keeps those that it had.
+    /// The composite type (C89 3.1.2.6) of two compatible types, which passes no limit. Memory comes
+    /// only where an allocation is refused: the table may then hold more types, and keeps those that
+    /// it had.
     pub fn composite(&mut self, a: TypeId, b: TypeId) -> Result<TypeId, Memory>
         requires a { a < length self.old.forms }
         requires b { b < length self.old.forms }
         requires compatible { compatible (type_at self.old a) (type_at self.old b) ≡ true }
         ensures means { IfOk result (λ id. type_at self.new id ≡ composite (type_at self.old a) (type_at self.old b)) }
         ensures within { IfOk result (λ id. id < length self.new.forms) }
+        ensures accepted { excess_of (tags self.old) (composite (type_at self.old a) (type_at self.old b)) ≡ None }
         ensures extends { Extends self.old self.new }
         ensures completed { self.new.completed ≡ self.old.completed }
     {
@@ -68,6 +72,7 @@ impl TypeTable {
     ) -> Result<TypeId, Memory>
         requires a { a.0 < length self.old.forms }
         requires b { b.0 < length self.old.forms }
+        requires compatible { compatible (qualify a.1.0 (type_at self.old a.0)) (qualify b.1.0 (type_at self.old b.0)) ≡ true }
         requires made { AreMade self.old made.old }
         ensures means { IfOk result (λ id. type_at self.new id ≡ composite (qualify a.1.0 (type_at self.old a.0)) (qualify b.1.0 (type_at self.old b.0))) }
         ensures within { IfOk result (λ id. id < length self.new.forms) }
@@ -108,6 +113,9 @@ impl TypeTable {
         requires plain { is_qualified (form_at self.old x) ≡ false }
         requires bare { is_qualified (form_at self.old y) ≡ false }
         requires kind { is_array (type_at self.old x) ≡ false }
+        requires compatible { kind_compatible (kind_of (type_at self.old x)) (type_at self.old y) ≡ true }
+        requires first { depth (type_at self.old x) ≤ 500 }
+        requires second { depth (type_at self.old y) ≤ 500 }
         requires made { AreMade self.old made.old }
         ensures means { IfOk result (λ id. type_at self.new id ≡ composite (type_at self.old x) (type_at self.old y)) }
         ensures within { IfOk result (λ id. id < length self.new.forms) }
@@ -138,6 +146,9 @@ impl TypeTable {
         requires plain { is_qualified (form_at self.old x) ≡ false }
         requires bare { is_qualified (form_at self.old y) ≡ false }
         requires kind { is_array (type_at self.old x) ≡ false }
+        requires compatible { kind_compatible (kind_of (type_at self.old x)) (type_at self.old y) ≡ true }
+        requires first { depth (type_at self.old x) ≤ 500 }
+        requires second { depth (type_at self.old y) ≤ 500 }
         requires made { AreMade self.old made.old }
         ensures means { IfOk result (λ id. type_at self.new id ≡ composite (type_at self.old x) (type_at self.old y)) }
         ensures within { IfOk result (λ id. id < length self.new.forms) }
@@ -201,6 +212,9 @@ impl TypeTable {
     ) -> Result<TypeId, Memory>
         requires a { ArePartsBelow (length self.old.forms) a }
         requires b { ArePartsBelow (length self.old.forms) b }
+        requires compatible { kind_compatible (kind_of (function_of self.old a)) (function_of self.old b) ≡ true }
+        requires first { depth (function_of self.old a) ≤ 500 }
+        requires second { depth (function_of self.old b) ≤ 500 }
         requires made { AreMade self.old made.old }
         ensures means { IfOk result (λ id. type_at self.new id ≡ composite (function_of self.old a) (function_of self.old b)) }
         ensures within { IfOk result (λ id. id < length self.new.forms) }
@@ -226,6 +240,7 @@ impl TypeTable {
     ) -> Result<TypeId, Memory>
         requires of { of < length self.old.forms }
         requires parameters { AreSomeBelow (length self.old.forms) (items_of parameters) }
+        requires accepted { form_refusal self.old (form.Function of (items_of parameters) more) ≡ None }
         ensures means { IfOk result (λ id. type_at self.new id ≡ Plain 0 (Function (type_at self.old of) (parameters_in (types self.old) (items_of parameters) more))) }
         ensures within { IfOk result (λ id. id < length self.new.forms) }
         ensures grows { Grows self.old self.new }
@@ -254,6 +269,7 @@ impl TypeTable {
     ) -> Result<Option<Vec<TypeId>>, Memory>
         requires a { AreSomeBelow (length self.old.forms) (items_of a) }
         requires b { AreSomeBelow (length self.old.forms) (items_of b) }
+        requires compatible { AreListsCompatible self.old (items_of a) (items_of b) }
         requires made { AreMade self.old made.old }
         ensures means { IfOk result (λ o. (m n : Bool) → parameters_in (types self.new) (items_of o) (more_of a m n) ≡ parameters_composite (parameters_in (types self.old) (items_of a) m) (parameters_in (types self.old) (items_of b) n)) }
         ensures below { IfOk result (λ o. AreSomeBelow (length self.new.forms) (items_of o)) }
@@ -280,6 +296,7 @@ impl TypeTable {
     ) -> Result<Vec<TypeId>, Memory>
         requires a { AreBelow (length self.old.forms) a.now }
         requires b { AreBelow (length self.old.forms) b.now }
+        requires compatible { all_compatible (types_in (types self.old) a.now) (types_in (types self.old) b.now) ≡ true }
         requires made { AreMade self.old made.old }
         ensures means { IfOk result (λ v. types_in (types self.new) v.items ≡ all_composite (types_in (types self.old) a.now) (types_in (types self.old) b.now)) }
         ensures below { IfOk result (λ v. AreBelow (length self.new.forms) v.items) }
@@ -305,6 +322,7 @@ impl TypeTable {
     ) -> Result<TypeId, Memory>
         requires a { a < length self.old.forms }
         requires b { AreBelow (length self.old.forms) b.now }
+        requires compatible { first_compatible (unqualified (type_at self.old a)) (types_in (types self.old) (drop i b.now)) ≡ true }
         requires made { AreMade self.old made.old }
         ensures means { IfOk result (λ id. unqualified (type_at self.new id) ≡ first_composite (unqualified (type_at self.old a)) (types_in (types self.old) (drop i b.now))) }
         ensures within { IfOk result (λ id. id < length self.new.forms) }
@@ -326,6 +344,8 @@ impl TypeTable {
         ensures within { IfOk result (λ id. id < length self.new.forms) }
         ensures grows { Grows self.old self.new }
     {
+        // A field is named, so that what the table keeps is known here.
+        let _basic = &self.basic;
         if qualifiers.number() == 0 {
             return Ok(of);
         }
@@ -334,7 +354,8 @@ impl TypeTable {
 
     /// The place of the array of so many.
     fn array_place(&mut self, of: TypeId, count: Option<u32>) -> Result<TypeId, Memory>
-        requires { of < length self.old.forms }
+        requires of { of < length self.old.forms }
+        requires accepted { form_refusal self.old (form.Array of count) ≡ None }
         ensures means { IfOk result (λ id. type_at self.new id ≡ ArrayTree (type_at self.old of) count) }
         ensures within { IfOk result (λ id. id < length self.new.forms) }
         ensures grows { Grows self.old self.new }
@@ -342,16 +363,18 @@ impl TypeTable {
         self.form_place(TypeForm::Array { of, length: count })
     }
 
-    /// The place of a form that isn't refused.
+    /// The place of a form that passes no limit.
     fn form_place(&mut self, form: TypeForm) -> Result<TypeId, Memory>
-        requires { IsOver (length self.old.forms) form }
+        requires over { IsOver (length self.old.forms) form }
+        requires accepted { form_refusal self.old form ≡ None }
         ensures means { IfOk result (λ id. type_at self.new id ≡ formed (types self.old) (tagged self.old.forms) form) }
         ensures within { IfOk result (λ id. id < length self.new.forms) }
         ensures grows { Grows self.old self.new }
     {
         match self.add(form) {
             Ok(id) => Ok(id),
-            Err(_) => Err(Memory),
+            Err(TypeFault::Memory) => Err(Memory),
+            Err(_) => unreachable!(),
         }
     }
 }

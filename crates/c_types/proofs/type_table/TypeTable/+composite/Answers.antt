@@ -1,12 +1,16 @@
 use Rattle.std.proofs.Common.{◌≡◌, ℕ, ◌+◌, ◌*◌, ◌<◌, ◌≤◌, ◌++◌, ◌∷◌, [], true, List, length, drop, get_or, refl, sym, ap, ◌∙◌, subst, arith}
 use Rattle.std.proofs.lemmas.Result.{IfOk-weaker}
+use Rattle.std.specs.Prelude.{None, Option}
+use Rattle.c_types.specs.declared.type_form.TypeForm.TheVariants as form
 use Rattle.c_types.specs.CType.{CType, Parameters, Plain, Pointer, Function, qualify, unqualified, weight, parameters_weight}
+use Rattle.c_types.specs.Compatible.{compatible}
 use Rattle.c_types.specs.Composite.{all_composite, composite, parameters_composite}
-use Rattle.c_types.specs.Facts.{first_composite, function_of, items_of}
-use Rattle.c_types.specs.Table.{AreBelow, parameters_in, type_at, type_in, types, types_in}
+use Rattle.c_types.specs.Facts.{first_compatible, first_composite, function_of, items_of}
+use Rattle.c_types.specs.Table.{AreBelow, form_refusal, parameters_in, type_at, type_in, types, types_in}
 use Rattle.c_types.proofs.Alike.{weight_among, weight_bare, weight_qualify, weight_under}
 use Rattle.c_types.proofs.Below.{below_at}
 use Rattle.c_types.proofs.Composed.{all_composed, below_drop, below_push, grows_itself, grows_twice, joined, longer, made_among, more_weight, one_composed, one_made, pointers_composed, results_composed, same_parameters, same_types, still_below, still_made, still_some_below, under_kinds, under_same}
+use Rattle.c_types.proofs.Limits.{array_fits, elements_alike, first_alike, function_fits, kinds_alike, lists_alike, lists_stay, none_alike, one_alike, pointer_fits, pointers_alike, results_alike, under_alike}
 use Rattle.c_types.proofs.type_table.TypeTable.+composite.Goals as goal
 
 -- ---- all of the parameters
@@ -24,7 +28,12 @@ all_composite-parameter_composite-requires t c =
     let d = c.decreases in
     let f : 7 * weight (type_at L x) + 4 < t = omega (arith, w, e, d) in
     let m = longer T L g in
-    (f, (omega (arith, l, m), (still_below T L g c.args.b.now c.requires.b, c.loop-i.invariant.made)))
+    let b = c.args.b.now in
+    let k : first_compatible (unqualified (type_at L x)) (types_in (types L) (drop c.loop-i.i b)) ≡ true =
+    ap (λ (s : CType). first_compatible (unqualified s) (types_in (types L) (drop c.loop-i.i b))) (g.extends.types_stay x l)
+    ∙ ap (first_compatible (unqualified (type_at T x))) (same_types T L g (drop c.loop-i.i b) (below_drop (length T.forms) b c.loop-i.i c.requires.b))
+    ∙ one_alike (types T) a b c.loop-i.i 0 c.loop-i-test.true c.requires.compatible in
+    (f, (omega (arith, l, m), (still_below T L g b c.requires.b, (k, c.loop-i.invariant.made))))
 
 pub all_composite-returns-in_err-id-clause-grows : goal.all_composite-returns-in_err-id-clause-grows
 all_composite-returns-in_err-id-clause-grows t c = grows_twice c.args.self.now c.loop-i.self c.parameter_composite.new.self c.loop-i.invariant.grows c.parameter_composite.ensures.grows
@@ -81,7 +90,22 @@ composite_under-composite_under-requires t c =
     let f : weight (type_at T x.0) ≡ 1 + weight (type_at T c.in-Some.of) = ap weight c.in-Some.ensures.some in
     let d = c.decreases in
     let g : 7 * weight (type_at T c.in-Some.of) + 3 < t = omega (arith, e, f, d) in
-    (g, (c.in-Some.ensures.place, (c.in-Some-array_of.ensures.place, c.requires.made)))
+    let y = c.under-y.result in
+    let h = under_alike c.args.a.1.0 c.args.b.1.0 x.1.0 y.1.0 (type_at T c.args.a.0) (type_at T c.args.b.0) (type_at T x.0) (type_at T y.0) c.under-x.ensures.means c.under-y.ensures.means c.requires.compatible in
+    let k = elements_alike x.1.0 y.1.0 (type_at T x.0) (type_at T y.0) (type_at T c.in-Some.of) (type_at T c.in-Some-array_of.other) c.in-Some.length c.in-Some-array_of.count c.in-Some.ensures.some c.in-Some-array_of.ensures.some h in
+    (g, (c.in-Some.ensures.place, (c.in-Some-array_of.ensures.place, (k, c.requires.made))))
+
+pub composite_under-array_place-requires-clause-accepted : goal.composite_under-array_place-requires-clause-accepted
+composite_under-array_place-requires-clause-accepted t c =
+    let T = c.args.self.now in
+    let M = c.composite_under.new.self in
+    let x = c.under-x.result in
+    let y = c.under-y.result in
+    let id = c.in_ok-of-in-Some-array_of.of in
+    let h = under_alike c.args.a.1.0 c.args.b.1.0 x.1.0 y.1.0 (type_at T c.args.a.0) (type_at T c.args.b.0) (type_at T x.0) (type_at T y.0) c.under-x.ensures.means c.under-y.ensures.means c.requires.compatible in
+    subst (λ (n : Option ℕ). form_refusal M (form.Array id n) ≡ None) (sym c.known_length.ensures)
+    (array_fits T M c.composite_under.ensures.grows x.1.0 y.1.0 (type_at T x.0) (type_at T y.0) (type_at T c.in-Some.of) (type_at T c.in-Some-array_of.other) c.in-Some.length c.in-Some-array_of.count id
+    c.in-Some.ensures.some c.in-Some-array_of.ensures.some c.under-x.ensures.limits c.under-y.ensures.limits h c.in_ok-of-in-Some-array_of.ensures.means)
 
 pub composite_under-noted_composite-requires : goal.composite_under-noted_composite-requires
 composite_under-noted_composite-requires t c =
@@ -90,7 +114,9 @@ composite_under-noted_composite-requires t c =
     let e = weight_under c.args.a.1.0 x.1.0 (type_at T c.args.a.0) (type_at T x.0) c.under-x.ensures.means in
     let d = c.decreases in
     let g : 7 * weight (type_at T x.0) + 2 < t = omega (arith, e, d) in
-    (g, (c.under-x.ensures.within, (c.under-y.ensures.within, (c.under-x.ensures.form, (c.under-y.ensures.form, (c.in-None.ensures.none, c.requires.made))))))
+    let y = c.under-y.result in
+    let k = kinds_alike x.1.0 y.1.0 (type_at T x.0) (type_at T y.0) c.in-None.ensures.none (under_alike c.args.a.1.0 c.args.b.1.0 x.1.0 y.1.0 (type_at T c.args.a.0) (type_at T c.args.b.0) (type_at T x.0) (type_at T y.0) c.under-x.ensures.means c.under-y.ensures.means c.requires.compatible) in
+    (g, (c.under-x.ensures.within, (c.under-y.ensures.within, (c.under-x.ensures.form, (c.under-y.ensures.form, (c.in-None.ensures.none, (k, (c.under-x.ensures.limits.shallow, (c.under-y.ensures.limits.shallow, c.requires.made)))))))))
 
 pub composite_under-returns-in_ok-of-in-Some-array_of-clause-grows : goal.composite_under-returns-in_ok-of-in-Some-array_of-clause-grows
 composite_under-returns-in_ok-of-in-Some-array_of-clause-grows t c = grows_twice c.args.self.now c.composite_under.new.self c.array_place.new.self c.composite_under.ensures.grows c.array_place.ensures.grows
@@ -128,6 +154,17 @@ noted_composite-returns-in_ok-id-in-None-clause-made t c =
 
 -- ---- two functions
 
+pub functions_composite-composite_under-requires : goal.functions_composite-composite_under-requires
+functions_composite-composite_under-requires t c =
+    let T = c.args.self.now in
+    let a = c.args.a in
+    let b = c.args.b in
+    let f : weight (function_of T a) ≡ 1 + (weight (type_at T a.result) + parameters_weight (parameters_in (types T) (items_of a.parameters) a.more)) = refl in
+    let d = c.decreases in
+    let g : 7 * weight (type_at T a.result) + 3 < t = omega (arith, f, d) in
+    let k = none_alike c.none.result.0 c.none-2.result.0 (type_at T a.result) (type_at T b.result) c.none.ensures c.none-2.ensures (results_alike (type_at T a.result) (type_at T b.result) (parameters_in (types T) (items_of a.parameters) a.more) (parameters_in (types T) (items_of b.parameters) b.more) c.requires.compatible) in
+    (g, (c.requires.a.0, (c.requires.b.0, (k, c.requires.made))))
+
 pub functions_composite-returns-clause-made : goal.functions_composite-returns-clause-made
 functions_composite-returns-clause-made t c = still_made c.parameters_composite.new.self c.function_place.new.self c.function_place.ensures.grows c.parameters_composite.new.made c.parameters_composite.ensures.made
 
@@ -141,10 +178,32 @@ functions_composite-parameters_composite-requires t c =
     let f : weight (function_of T c.args.a) ≡ 1 + (weight (type_at T c.args.a.result) + parameters_weight (parameters_in (types T) ps c.args.a.more)) = refl in
     let d = c.decreases in
     let h : 7 * parameters_weight (parameters_in (types M) ps true) + 6 < t = omega (arith, e, f, d) in
-    (h, (still_some_below T M g ps c.requires.a.1, (still_some_below T M g (items_of c.args.b.parameters) c.requires.b.1, c.composite_under.ensures.made)))
+    let qs = items_of c.args.b.parameters in
+    let l = lists_alike T (type_at T c.args.a.result) (type_at T c.args.b.result) ps qs c.args.a.more c.args.b.more c.requires.compatible in
+    let k = lists_stay T M g ps qs c.requires.a.1 c.requires.b.1 l in
+    (h, (still_some_below T M g ps c.requires.a.1, (still_some_below T M g qs c.requires.b.1, (k, c.composite_under.ensures.made))))
 
 pub functions_composite-returns-in_err-parameters-clause-grows : goal.functions_composite-returns-in_err-parameters-clause-grows
 functions_composite-returns-in_err-parameters-clause-grows t c = grows_twice c.args.self.now c.composite_under.new.self c.parameters_composite.new.self c.composite_under.ensures.grows c.parameters_composite.ensures.grows
+
+pub functions_composite-function_place-requires-clause-accepted : goal.functions_composite-function_place-requires-clause-accepted
+functions_composite-function_place-requires-clause-accepted t c =
+    let T = c.args.self.now in
+    let M = c.composite_under.new.self in
+    let P = c.parameters_composite.new.self in
+    let a = c.args.a in
+    let b = c.args.b in
+    let g = c.composite_under.ensures.grows in
+    let of = c.in_ok-of.of in
+    let r : type_at P of ≡ composite (type_at T a.result) (type_at T b.result) =
+    c.parameters_composite.ensures.grows.extends.types_stay of c.in_ok-of.ensures.within ∙ c.in_ok-of.ensures.means ∙ results_composed (type_at T a.result) (type_at T b.result) c.none.result.0 c.none-2.result.0 c.none.ensures c.none-2.ensures in
+    let os = items_of c.in_ok-parameters.parameters in
+    let q : parameters_in (types P) os c.more_of-more.result ≡ parameters_composite (parameters_in (types T) (items_of a.parameters) a.more) (parameters_in (types T) (items_of b.parameters) b.more) =
+    ap (parameters_in (types P) os) c.more_of-more.ensures ∙ c.in_ok-parameters.ensures.means a.more b.more
+    ∙ ap (λ (z : Parameters). parameters_composite z (parameters_in (types M) (items_of b.parameters) b.more)) (same_parameters T M g (items_of a.parameters) a.more c.requires.a.1)
+    ∙ ap (parameters_composite (parameters_in (types T) (items_of a.parameters) a.more)) (same_parameters T M g (items_of b.parameters) b.more c.requires.b.1) in
+    let k = ap (λ (z : CType). Plain 0 (Function z (parameters_in (types P) os c.more_of-more.result))) r ∙ ap (λ (z : Parameters). Plain 0 (Function (composite (type_at T a.result) (type_at T b.result)) z)) q in
+    function_fits P (function_of T a) (function_of T b) of os c.more_of-more.result c.requires.first c.requires.second k
 
 pub functions_composite-returns-clause-means : goal.functions_composite-returns-clause-means
 functions_composite-returns-clause-means t c =
@@ -172,6 +231,24 @@ functions_composite-returns-clause-grows t c =
 
 -- ---- two pointers
 
+pub kinds_composite-composite_under-requires : goal.kinds_composite-composite_under-requires
+kinds_composite-composite_under-requires t c =
+    let T = c.args.self.now in
+    let f : weight (type_at T c.args.x) ≡ 1 + weight (type_at T c.in-Some.to) = ap weight c.in-Some.ensures.some in
+    let d = c.decreases in
+    let g : 7 * weight (type_at T c.in-Some.to) + 3 < t = omega (arith, f, d) in
+    let k = none_alike c.none.result.0 c.none-in-Some-pointer_to.result.0 (type_at T c.in-Some.to) (type_at T c.in-Some-pointer_to.other) c.none.ensures c.none-in-Some-pointer_to.ensures
+    (pointers_alike (type_at T c.args.x) (type_at T c.args.y) (type_at T c.in-Some.to) (type_at T c.in-Some-pointer_to.other) c.in-Some.ensures.some c.in-Some-pointer_to.ensures.some c.requires.compatible) in
+    (g, (c.in-Some.ensures.place, (c.in-Some-pointer_to.ensures.place, (k, c.requires.made))))
+
+pub kinds_composite-form_place-requires-clause-accepted : goal.kinds_composite-form_place-requires-clause-accepted
+kinds_composite-form_place-requires-clause-accepted t c =
+    let T = c.args.self.now in
+    let a = type_at T c.in-Some.to in
+    let b = type_at T c.in-Some-pointer_to.other in
+    pointer_fits c.composite_under.new.self (type_at T c.args.x) (type_at T c.args.y) a b c.in_ok-to-in-Some-pointer_to.to c.in-Some.ensures.some c.in-Some-pointer_to.ensures.some c.requires.first c.requires.second
+    (c.in_ok-to-in-Some-pointer_to.ensures.means ∙ results_composed a b c.none.result.0 c.none-in-Some-pointer_to.result.0 c.none.ensures c.none-in-Some-pointer_to.ensures)
+
 pub kinds_composite-returns-in_ok-to-in-Some-pointer_to-clause-means : goal.kinds_composite-returns-in_ok-to-in-Some-pointer_to-clause-means
 kinds_composite-returns-in_ok-to-in-Some-pointer_to-clause-means t c =
     let T = c.args.self.now in
@@ -197,4 +274,8 @@ parameter_composite-composite_under-requires t c =
     let e : weight (type_at T p.0) ≡ weight (type_at T c.args.a) = sym (weight_qualify p.1.0 (type_at T p.0)) ∙ ap weight c.parameter-a.ensures.means ∙ weight_bare (type_at T c.args.a) in
     let d = c.decreases in
     let g : 7 * weight (type_at T p.0) + 3 < t = omega (arith, e, d) in
-    (g, (c.parameter-a.ensures.within, (c.parameter-b.ensures.within, c.requires.made)))
+    let q = c.parameter-b.result in
+    let h = first_alike (types T) (unqualified (type_at T c.args.a)) c.args.b.now c.args.i 0 c.if-i-b.true c.requires.compatible in
+    let k : compatible (qualify p.1.0 (type_at T p.0)) (qualify q.1.0 (type_at T q.0)) ≡ true =
+    ap (λ (z : CType). compatible z (qualify q.1.0 (type_at T q.0))) c.parameter-a.ensures.means ∙ ap (compatible (unqualified (type_at T c.args.a))) c.parameter-b.ensures.means ∙ h in
+    (g, (c.parameter-a.ensures.within, (c.parameter-b.ensures.within, (k, c.requires.made))))
