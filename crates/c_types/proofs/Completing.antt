@@ -69,7 +69,7 @@ bounded_within x h s a =
       nesting = (let d : nat_lt 500 x.nesting ≡ false = n.2 in grind (arith, nat_tests));
     }
 
-none_noted : (o : Option Definition) → option_map (λ (d : Definition). d.members) o ≡ None → o ≡ None
+pub none_noted : (o : Option Definition) → option_map (λ (d : Definition). d.members) o ≡ None → o ≡ None
 none_noted None h = refl
 none_noted (Some d) h = absurd (let z : Some d.members ≡ None = h in cc)
 

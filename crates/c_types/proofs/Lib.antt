@@ -14,6 +14,7 @@ pub mod Laid
 pub mod Limits
 pub mod Named
 pub mod Noting
+pub mod Opening
 pub mod Pairs
 pub mod Placed
 pub mod Sizes

@@ -1,11 +1,11 @@
-ghost use Rattle.std.specs.Prelude.{◌≡◌, ◌≢◌, ◌<◌, ◌≤◌, ◌*◌, ◌++◌, ◌∷◌, ℕ, Bool, [], Some, None, length, true, false, slice_get, IfOk, IfErr, IfSome, IfNone, OnOk, OnErr};
+ghost use Rattle.std.specs.Prelude.{◌≡◌, ◌≢◌, ◌<◌, ◌≤◌, ◌*◌, ◌↔◌, ◌++◌, ◌∷◌, ℕ, Bool, [], Some, None, length, true, false, slice_get, IsTrue, IfOk, IfErr, IfSome, IfNone, OnOk, OnErr};
 ghost use Rattle.c_types.specs.declared.type_fault.TypeFault.TheVariants as fault;
 ghost use Rattle.c_types.specs.declared.type_form.TypeForm.TheVariants as form;
 ghost use Rattle.c_types.specs.declared.extent.Extent.{Extent as ExtentValue};
 ghost use Rattle.c_types.specs.Bounds.{IsBounded};
 ghost use Rattle.c_types.specs.CType.{qualify, depth, greatest_depth, parameters_depth};
 ghost use Rattle.c_types.specs.Layout.{extent_by, known, no_object, object_align, structure_extent};
-ghost use Rattle.c_types.specs.Table.{Adds, AreBelow, AreMembersBelow, AreSomeBelow, Extends, IsOpen, IsOver, IsRefusal, are_objects, basic_forms, extent_at, fields_at, form_at, form_refusal, formed, is_above, is_qualified, is_union, list_or_none, members_at, members_refusal, number_at, parameters_in, place_of_member, tag_of, tagged, tags, type_at, type_in, types, types_in, types_of};
+ghost use Rattle.c_types.specs.Table.{Adds, AreBelow, AreMembersBelow, AreSomeBelow, Extends, IsOpen, IsOver, IsRefusal, are_objects, basic_forms, extent_at, fields_at, form_at, form_refusal, formed, is_above, is_open_form, is_qualified, is_union, list_or_none, members_at, members_refusal, number_at, parameters_in, place_of_member, tag_of, tagged, tags, type_at, type_in, types, types_in, types_of};
 ghost use Rattle.c_types.specs.Keeps.{IsFact, IsKeyOf, is_formed};
 ghost use Rattle.c_types.specs.Facts.{AreBounded, IsFactOf, IsLaid};
 
@@ -372,7 +372,7 @@ impl TypeTable {
     }
 
     /// The place of the type. Equal forms have one place, but each structure, union and enumeration
-    /// a new one. Incomplete comes exactly where an array's element is incomplete or a function;
+    /// a new one, and a structure or union has no members yet. Incomplete comes exactly where an array's element is incomplete or a function;
     /// TooLarge exactly where the type's size is above 16,777,216; TooDeep exactly where neither is so
     /// and its depth or nesting is above 500. After an error the table is as before.
     pub fn add(&mut self, form: TypeForm) -> Result<TypeId, TypeFault>
@@ -381,6 +381,7 @@ impl TypeTable {
         ensures refused { IfErr result (IsRefusal (form_refusal self.old form)) }
         ensures added { IfOk result (λ id. Adds self.old form id self.new) }
         ensures means { IfOk result (λ id. type_at self.new id ≡ formed (types self.old) (tagged self.old.forms) form) }
+        ensures open { IfOk result (λ id. is_open_form form ≡ true → IsOpen self.new id) }
         ensures within { IfOk result (λ id. id < length self.new.forms) }
         ensures extends { OnOk result (Extends self.old self.new) }
         ensures err { OnErr result (self.new ≡ self.old) }
@@ -404,6 +405,7 @@ impl TypeTable {
         ensures refused { IfErr result (λ e. e ≡ fault.Memory) }
         ensures added { IfOk result (λ id. Adds self.old entry.form id self.new) }
         ensures means { IfOk result (λ id. type_at self.new id ≡ formed (types self.old) (tagged self.old.forms) entry.form) }
+        ensures open { IfOk result (λ id. is_open_form entry.form ≡ true → IsOpen self.new id) }
         ensures within { IfOk result (λ id. id < length self.new.forms) }
         ensures extends { OnOk result (Extends self.old self.new) }
         ensures err { OnErr result (self.new ≡ self.old) }
@@ -470,6 +472,14 @@ impl TypeTable {
         Ok(laying)
     }
 
+    /// Whether the type is a structure or union without members so far, which `complete` can be given.
+    pub fn is_open(&self, id: TypeId) -> bool
+        requires { id < length self.now.forms }
+        ensures { IsTrue result ↔ IsOpen self.now id }
+    {
+        is_open_form(self.form(id)) && !self.definitions.contains_key(&id)
+    }
+
     /// Gives a structure or union its members. Incomplete comes exactly where a member's type is
     /// incomplete or a function; TooLarge exactly where the size is above 16,777,216; TooDeep exactly
     /// where neither is so and the nesting is above 500. After an error the table is as before.
@@ -496,6 +506,13 @@ impl TypeTable {
         )?;
         Ok(())
     }
+}
+
+/// Whether the form is that of a structure or union.
+fn is_open_form(form: &TypeForm) -> bool
+    ensures { result ≡ is_open_form form.now }
+{
+    matches!(form, TypeForm::Structure | TypeForm::Union)
 }
 
 /// The extent of the basic type at a place.

@@ -1,5 +1,6 @@
-use Rattle.std.proofs.Common.{inl, refl, ◌∙◌}
+use Rattle.std.proofs.Common.{inl, refl, sym, ◌∙◌, true≢false}
 use Rattle.c_types.specs.Table.{tagged, types}
+use Rattle.c_types.proofs.Defined.{open_tagged}
 use Rattle.c_types.proofs.Placed.{basic_formed, basic_untagged, extends_itself}
 use Rattle.c_types.proofs.type_table.TypeTable.add.Goals as goal
 
@@ -18,3 +19,6 @@ returns-in-Some-clause-within c = rw c.basic_type.ensures.is c.basic_type.ensure
 
 pub returns-in-Some-clause-extends : goal.returns-in-Some-clause-extends
 returns-in-Some-clause-extends c = extends_itself c.args.self.now
+
+pub returns-in-Some-clause-open : goal.returns-in-Some-clause-open
+returns-in-Some-clause-open c = λ h. absurd (true≢false (sym (open_tagged c.args.form h) ∙ basic_untagged c.in-Some.place c.args.form c.in-Some.ensures.some))

@@ -1,13 +1,15 @@
-use Rattle.std.proofs.Common.{◌≡◌, ◌+◌, ◌<◌, ◌∷◌, [], List, length, inl, inr, sym, ap, refl, subst, ◌∙◌, arith}
+use Rattle.std.proofs.Common.{◌≡◌, ◌+◌, ◌<◌, ◌∷◌, [], List, length, inl, inr, sym, ap, refl, subst, ◌∙◌, true≢false, arith}
 use Rattle.std.specs.Prelude.{Some, slice_get}
 use Rattle.std.proofs.lemmas.List.{length-append}
 use Rattle.indexmap.proofs.CallerLemmas.{insert_entry-new}
 use Rattle.c_types.specs.declared.form_key.FormKey.{FormKey}
 use Rattle.c_types.specs.declared.type_table.Formed.{Formed}
-use Rattle.c_types.specs.Table.{Table, Extends, IsNew, IsOver, formed, tagged, type_at, types}
+use Rattle.c_types.specs.Table.{Table, Extends, IsNew, IsOpen, IsOver, formed, tagged, type_at, types}
 use Rattle.c_types.specs.Keeps.{IsKeyOf, Keeps}
 use Rattle.c_types.specs.Facts.{IsFactOf}
+use Rattle.c_types.proofs.Defined.{AreOpen, open_all, open_tagged}
 use Rattle.c_types.proofs.Insides.{length-forms, table_of}
+use Rattle.c_types.proofs.Opening.{new_open}
 use Rattle.c_types.proofs.Keys.{none_of}
 use Rattle.c_types.proofs.Stays.{more}
 use Rattle.c_types.proofs.Placed.{extends_itself, extends_push, is_new, keeps_push, known_place, table_push, type_at_end}
@@ -96,3 +98,20 @@ returns-in_ok-insert-in-None-clause-extends c =
     let e = c.in_ok-insert-in-None.ensures.entries ∙ insert_entry-new _ i.formed c.args.key c.args.entry n in
     let p = ap (λ (es : List (FormKey × Formed)). table_of i.basic es i.definitions.entries) e ∙ table_push i.basic i.formed.entries i.definitions.entries x ∙ ap (λ (t : Table). more t c.args.entry.form) c.self.view_is in
     subst (λ (t : Table). Extends c.args.self.now t) (sym p) (subst (λ (t : Table). Extends t (more t c.args.entry.form)) c.self.view_is (extends_push i.basic i.formed.entries i.definitions.entries x c.self.invariant))
+
+pub returns-in-Some-clause-open : goal.returns-in-Some-clause-open
+returns-in-Some-clause-open c = λ h. (
+    let i = c.self.inside in
+    let l : length c.args.self.now.forms ≡ 10 + length i.formed.entries = ap (λ (t : Table). length t.forms) (sym c.self.view_is) ∙ length-forms i.basic i.formed.entries c.self.invariant.basic in
+    let r = known_place i.basic i.formed.entries i.definitions.entries c.args.entry.form c.args.key (length c.args.self.now.forms) c.in-Some.index c.self.invariant c.requires.key c.requires.formed l c.in-Some.ensures.index in
+    absurd (true≢false (sym (open_tagged c.args.entry.form h) ∙ r.0)))
+
+pub returns-in_ok-insert-in-None-clause-open : goal.returns-in_ok-insert-in-None-clause-open
+returns-in_ok-insert-in-None-clause-open c = λ h. (
+    let i = c.self.inside in
+    let x : FormKey × Formed = (c.args.key, c.args.entry) in
+    let n = none_of _ c.in-None.ensures.found in
+    let e = c.in_ok-insert-in-None.ensures.entries ∙ insert_entry-new _ i.formed c.args.key c.args.entry n in
+    let p = ap (λ (es : List (FormKey × Formed)). table_of i.basic es i.definitions.entries) e ∙ table_push i.basic i.formed.entries i.definitions.entries x ∙ ap (λ (t : Table). more t c.args.entry.form) c.self.view_is in
+    let o : AreOpen c.args.self.now c.args.self.now.completed = subst (λ (s : Table). AreOpen s s.completed) c.self.view_is (open_all (table_of i.basic i.formed.entries i.definitions.entries) i.definitions.entries c.self.invariant.defined) in
+    subst (λ (t : Table). IsOpen t c.len-next.result) (sym p) (new_open c.args.self.now c.args.entry.form c.len-next.result o c.len-next.ensures h))
