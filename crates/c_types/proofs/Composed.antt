@@ -41,8 +41,11 @@ added_only a b f id h = elim h [ inl x ↦ ap (λ (t : Table). t.completed) x.2 
 pub grows_add : (a b : Table) (f : TypeForm) (id : ℕ) → Adds a f id b → Extends a b → Grows a b
 grows_add a b f id h e = record { extends = e; completed = added_only a b f id h }
 
+pub extends_longer : (a b : Table) → Extends a b → length a.forms ≤ length b.forms
+extends_longer a b h = omega (arith, ap length h.forms.1, length-append a.forms h.forms.0)
+
 pub longer : (a b : Table) → Grows a b → length a.forms ≤ length b.forms
-longer a b h = omega (arith, ap length h.extends.forms.1, length-append a.forms h.extends.forms.0)
+longer a b h = extends_longer a b h.extends
 
 pub still_below : (a b : Table) → Grows a b → (ids : List ℕ) → AreBelow (length a.forms) ids → AreBelow (length b.forms) ids
 still_below a b h ids l = below_more (length a.forms) (length b.forms) (longer a b h) ids l

@@ -1,14 +1,15 @@
 -- A new structure or union has no members.
-use Rattle.std.proofs.Common.{◌≡◌, ℕ, ◌<◌, ◌≤◌, List, [], ◌∷◌, ◌++◌, length, get_or, Bool, false, refl, sym, ap, ◌∙◌, true, true≢false, arith}
-use Rattle.std.specs.Prelude.{◌↔◌, IsTrue, None, Option, Some, is_some, nat_eq, not}
+use Rattle.std.proofs.Common.{◌≡◌, ℕ, ◌<◌, ◌≤◌, List, [], ◌∷◌, ◌++◌, length, get_or, Bool, false, refl, sym, ap, ◌∙◌, subst, true, true≢false, arith}
+use Rattle.std.specs.Prelude.{◌↔◌, Err, IsTrue, None, Ok, OnOk, Option, Result, Some, is_some, nat_eq, not}
 use Rattle.std.specs.Map.{lookup}
 use Rattle.std.specs.Option.{option_map}
 use Rattle.std.proofs.lemmas.Bool.Decides.{nat_tests}
 use Rattle.std.proofs.lemmas.List.{length-append}
 use Rattle.c_types.specs.declared.definition.Definition.{Definition}
+use Rattle.c_types.specs.declared.type_form.Member.{Member}
 use Rattle.c_types.specs.declared.type_form.TypeForm.{TypeForm}
 use Rattle.c_types.specs.declared.type_form.TypeForm.TheVariants as form
-use Rattle.c_types.specs.Table.{Completed, IsOpen, Table, form_at, is_open_form, members_among, members_at}
+use Rattle.c_types.specs.Table.{AreMembersBelow, Completed, IsOpen, Table, form_at, is_open_form, members_among, members_at}
 use Rattle.c_types.specs.Keeps.{completed_in}
 use Rattle.c_types.proofs.Completing.{none_noted}
 use Rattle.c_types.proofs.Defined.{AreOpen, members_found}
@@ -51,3 +52,13 @@ open_test t ds id e l f b d = (there b d, back b d)
     back : (b : Bool) → b ≡ is_some (lookup (nat_eq id) ds) → IsOpen t id → IsTrue (not b)
     back false d o = refl
     back true d o = absurd (true≢false (d ∙ ap (λ (m : Option Definition). is_some m) (none_noted (lookup (nat_eq id) ds) (sym members ∙ o.members))))
+
+-- ---- members
+
+pub members_push : (n : ℕ) (ms : List Member) (m : Member) → AreMembersBelow n ms → m.of < n → AreMembersBelow n (ms ++ m ∷ [])
+members_push n [] m h l = (l, tt)
+members_push n (x ∷ ms) m h l = (h.0, members_push n ms m h.1 l)
+
+pub members_pushed : {E : Type 0} (r : Result (Unit {0}) E) (old new : List Member) (m : Member) → OnOk r (new ≡ old ++ m ∷ []) → OnOk r ((n : ℕ) → AreMembersBelow n old → m.of < n → AreMembersBelow n new)
+members_pushed (Ok u) old new m e = λ n h l. subst (AreMembersBelow n) (sym e) (members_push n old m h l)
+members_pushed (Err x) old new m e = tt

@@ -1,5 +1,9 @@
+ghost use Rattle.std.specs.Prelude.{◌<◌, ◌≤◌, ℕ, length, IfOk, OnOk};
+ghost use Rattle.c_types.specs.Table.{AreMembersBelow};
+
 use super::*;
-use lcc_base::Items;
+use lcc_base::{Bytes, Items, Memory};
+use std::alloc::Global;
 use std::test::Fail;
 
 #[test]
@@ -80,5 +84,132 @@ fn composite_arrays(rt: HostRuntime) -> Result<(), Fail> {
         length: Some(3),
     })?;
     assert_eq!(rt; types.composite(open, three), Ok(three));
+    Ok(())
+}
+
+/// The top of a tower of functions over a type, each of which takes and gives a pointer to the one
+/// below it.
+fn tower(types: &mut TypeTable, alloc: Global, ground: TypeId, height: u32) -> Result<TypeId, Fail>
+    requires { ground < length types.old.forms }
+    ensures within { IfOk result (λ id. id < length types.new.forms) }
+    ensures longer { length types.old.forms ≤ length types.new.forms }
+{
+    let mut top = ground;
+    for _ in 0..height {
+        let to = types.add(TypeForm::Pointer { to: top })?;
+        let mut parameters = Items::new(alloc);
+        parameters.push(to)?;
+        let function = types.add(TypeForm::Function {
+            result: to,
+            parameters: Some(parameters),
+            more: false,
+        })?;
+        top = function;
+    }
+    Ok(top)
+}
+
+/// Each function of the towers asks about the same two pointers twice.
+#[test]
+fn towers_of_functions(rt: HostRuntime) -> Result<(), Fail> {
+    let mut types = TypeTable::new(rt.alloc());
+    let shade = types.add(TypeForm::Enumeration {
+        members: Items::new(rt.alloc()),
+    })?;
+    let int = types.basic_type(6);
+    let over_int = tower(&mut types, rt.alloc(), int, 200)?;
+    let over_shade = tower(&mut types, rt.alloc(), shade, 200)?;
+    assert!(rt; types.compatible(over_int, over_shade));
+    assert_eq!(rt; types.composite(over_int, over_shade), Ok(over_int));
+    Ok(())
+}
+
+/// The top of so many pointers over int.
+fn pointers(types: &mut TypeTable, count: u32) -> Result<TypeId, TypeFault>
+    ensures { IfOk result (λ id. id < length types.new.forms) }
+{
+    let mut top = types.basic_type(6);
+    for _ in 0..count {
+        let to = types.add(TypeForm::Pointer { to: top })?;
+        top = to;
+    }
+    Ok(top)
+}
+
+#[test]
+fn deepest_types(rt: HostRuntime) -> Result<(), Fail> {
+    let mut types = TypeTable::new(rt.alloc());
+    let to = pointers(&mut types, 499)?;
+    assert_eq!(rt;
+        types.add(TypeForm::Pointer { to }),
+        Err(TypeFault::TooDeep)
+    );
+    Ok(())
+}
+
+/// Puts a member behind the others.
+fn push_member(
+    members: &mut Items<Member>,
+    alloc: Global,
+    name: &[u8],
+    of: TypeId,
+) -> Result<(), Memory>
+    ensures { OnOk result ((n : ℕ) → AreMembersBelow n members.old → of < n → AreMembersBelow n members.new) }
+{
+    let name = Bytes::copied(alloc, name)?;
+    members.push(Member {
+        name,
+        of,
+        width: None,
+    })
+}
+
+/// The outermost of so many structures, the innermost of which holds a char.
+fn structures(types: &mut TypeTable, alloc: Global, count: u32) -> Result<TypeId, TypeFault>
+    ensures { IfOk result (λ id. id < length types.new.forms) }
+{
+    let mut top = types.basic_type(1);
+    for _ in 0..count {
+        let id = types.add(TypeForm::Structure)?;
+        let mut members = Items::new(alloc);
+        push_member(&mut members, alloc, b"m", top)?;
+        types.complete(id, members)?;
+        top = id;
+    }
+    Ok(top)
+}
+
+#[test]
+fn deepest_nesting(rt: HostRuntime) -> Result<(), Fail> {
+    let mut types = TypeTable::new(rt.alloc());
+    let inner = structures(&mut types, rt.alloc(), 499)?;
+    let id = types.add(TypeForm::Structure)?;
+    let mut members = Items::new(rt.alloc());
+    push_member(&mut members, rt.alloc(), b"m", inner)?;
+    assert_eq!(rt; types.complete(id, members), Err(TypeFault::TooDeep));
+    Ok(())
+}
+
+/// So many members that are chars.
+fn chars(alloc: Global, count: u32) -> Result<Items<Member>, Memory>
+    ensures { IfOk result (λ ms. (n : ℕ) → 1 < n → AreMembersBelow n ms) }
+{
+    let mut members = Items::new(alloc);
+    for i in 0..count {
+        push_member(&mut members, alloc, &i.to_be_bytes(), 1)?;
+    }
+    Ok(members)
+}
+
+#[test]
+fn many_members(rt: HostRuntime) -> Result<(), Fail> {
+    let mut types = TypeTable::new(rt.alloc());
+    let id = types.add(TypeForm::Structure)?;
+    let members = chars(rt.alloc(), 100_000)?;
+    types.complete(id, members)?;
+    assert_eq!(rt; types.size(id), Some(100_000));
+    assert_eq!(rt; types.align(id), Some(1));
+    let last = types.member(id, b"\x00\x01\x86\x9f");
+    assert_eq!(rt; last.map(|place| place.offset), Some(99_999));
     Ok(())
 }
