@@ -17,3 +17,4 @@ mod Heads
 mod Chains
 mod Expressions
 mod Rounds
+mod Fronts

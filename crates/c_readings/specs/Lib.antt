@@ -3,3 +3,4 @@ pub mod Links
 pub mod Words
 pub mod Readers
 pub mod Exact
+pub mod Fronts

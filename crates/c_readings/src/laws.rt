@@ -1,6 +1,8 @@
-ghost use Rattle.std.specs.Prelude.{◌≡◌, ℕ};
+ghost use Rattle.std.specs.Prelude.{◌≡◌, Bool, ℕ};
+ghost use Rattle.c_ast.specs.ExprMarks as marks;
 ghost use Rattle.c_readings.specs.Readers.{readers};
 ghost use Rattle.c_readings.specs.Exact.{AreExact, TypesAreExact};
+ghost use Rattle.c_readings.specs.Fronts.{AreFronts};
 
 /// At each limit on height, the readers give each piece of their productions that is no higher, and
 /// nothing else.
@@ -8,4 +10,12 @@ pub fn readers_are_exact()
     ensures limit { (n : ℕ) → (readers n).limit ≡ n }
     ensures readers { (n : ℕ) → AreExact (readers n) }
     ensures types { (n : ℕ) → TypesAreExact (readers n) }
+{}
+
+/// What is left behind a piece is the end of what was left before it.
+pub fn pieces_are_fronts()
+    ensures expression { AreFronts marks.expr }
+    ensures type_name { AreFronts marks.type_name }
+    ensures specifiers { AreFronts marks.specifiers }
+    ensures declarator { (free outer : Bool) → AreFronts (marks.declarator free outer) }
 {}

@@ -1,7 +1,8 @@
-//! What a reader of C's expressions, specifiers and declarators gives, by the limit on height, and
-//! that this is each piece of the grammar, and nothing else.
+//! What a reader of C's expressions, specifiers and declarators gives, by the limit on height: that
+//! this is each piece of the grammar, and nothing else, and that what is left behind a piece is the
+//! end of what was left before it.
 #![tactic(auto)]
 
 mod laws;
 
-pub use laws::readers_are_exact;
+pub use laws::{pieces_are_fronts, readers_are_exact};
