@@ -11,7 +11,7 @@ use Rattle.lburg_model.specs.declared.rule.Rule.{Rule}
 use Rattle.lburg_tables.specs.RowOf.{seen, row_of, key_of, waiting_of}
 use Rattle.lburg_tables.specs.Waits.{Matches}
 use Rattle.lburg_tables.specs.Waits.{IsIdle}
-use Rattle.lburg_tables.specs.Row.{CellAt, Relaxed, Taken, Left, IsChain, made_from, Beats, Spread, Among, Everywhere}
+use Rattle.lburg_tables.specs.Row.{CellAt, Relaxed, Taken, Left, Offered, Placed, Declined, IsChain, made_from, Beats, Spread, Among, Everywhere}
 use Rattle.lburg_tables.specs.RowLaws.{within, Leq_cells, leq_trans, leq_refl, leq_flip, same_or_not, stored, cell_after, write_lowers, among_more, among_all, seen_at, seen_is}
 
 pub key_at : (row : List (Option Cell)) (n : ℕ) → get_or (waiting_of row) n None ≡ key_of (get_or row n None)
@@ -218,3 +218,17 @@ pub waits_over : (row : List (Option Cell)) (waiting : List (Option Key)) (k : �
 waits_over row waiting k h w =
     let long = w.many in
     ext_get_or None waiting (waiting_of row) (w.many ∙ sym (length-map row key_of)) (λ i l. w.first i (omega arith) ∙ sym (key_at row i))
+
+-- what comes of an offer that was stored, or was not
+module _ (row : List (Option Cell)) (n : ℕ) (new : Cell) (waiting : List (Option Key)) where
+  pub relaxed_taken : (after : List (Option Cell)) → Beats row n new → Offered row n new after → Relaxed row waiting n new after (slice_set waiting n (key_of (Some new)))
+  relaxed_taken after beats (Placed b) = Taken b
+  relaxed_taken after beats (Declined b at le) = absurd (beats b at le)
+
+  pub relaxed_left : (after : List (Option Cell)) → (Beats row n new → ⊥) → Offered row n new after → Relaxed row waiting n new after waiting
+  relaxed_left after not_so (Placed b) = absurd (not_so b)
+  relaxed_left after not_so (Declined b at le) = Left b at le
+
+  pub match_offered : (after : List (Option Cell)) → n < length row → Matches row waiting → Beats row n new → Offered row n new after → Matches after (slice_set waiting n (key_of (Some new)))
+  match_offered after h fit beats (Placed b) = match_after row waiting n new h fit
+  match_offered after h fit beats (Declined b at le) = absurd (beats b at le)

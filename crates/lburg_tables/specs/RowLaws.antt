@@ -1,5 +1,5 @@
 -- What follows of rows of cells: writes, the order of cells, and what is seen of a row.
-use Rattle.std.proofs.Common.{◌≡◌, ◌≢◌, ℕ, zero, suc, ◌+◌, ◌<◌, ◌⊎◌, inl, inr, ⊎_elim, Option, Some, None, List, [], ◌∷◌, length, sym, ap, ◌∙◌, subst, arith, get_or, Bool}
+use Rattle.std.proofs.Common.{◌≡◌, ◌≢◌, ℕ, zero, suc, ◌+◌, ◌<◌, ◌≤◌, ◌⊎◌, inl, inr, ⊎_elim, Option, Some, None, List, [], ◌∷◌, length, sym, ap, ◌∙◌, subst, arith, get_or, Bool}
 use Rattle.std.specs.Prelude.{slice_get, slice_set, if◌then◌else◌}
 use Rattle.std.proofs.lemmas.Bool.{cases_lt}
 use Rattle.std.proofs.lemmas.Option.{slice_get_within}
@@ -8,7 +8,7 @@ use Rattle.std.proofs.lemmas.List.{get_or-set_same, get_or-set_other, map-set, l
 use Rattle.std.proofs.lemmas.List.{get_or-map as get_or-map_within}
 use Rattle.lburg_tables.specs.declared.cell.Cell.{Cell}
 use Rattle.lburg_tables.specs.RowOf.{seen, row_of}
-use Rattle.lburg_tables.specs.Row.{CellAt, Leq3, Beats, Among}
+use Rattle.lburg_tables.specs.Row.{CellAt, Leq3, Beats, Offered, Declined, Among}
 
 -- what stands at a place of a list
 pub within : {A : Type 0} (xs : List (Option A)) (n : ℕ) (x : A) → get_or xs n None ≡ Some x → n < length xs
@@ -90,25 +90,38 @@ seen_at row n d h = get_or-map_within seen row n d None h
 pub seen_set : (row : List Cell) (n : ℕ) (c : Cell) → 0 < c.rule → row_of (slice_set row n c) ≡ slice_set (row_of row) n (Some c)
 seen_set row n c h = map-set seen row n c ∙ ap (λ (o : Option Cell). slice_set (row_of row) n o) (seen_some c h)
 
--- a new cell beats that of a place where there is none, or a greater one
-pub beats_none : (row : List Cell) (n : ℕ) (d new : Cell) → n < length row → seen (get_or row n d) ≡ None → Beats (row_of row) n new
-beats_none row n d new h e b at le = let f = seen_at row n d h in cc
-
-pub beats_greater : (row : List Cell) (n : ℕ) (d new old : Cell) → n < length row → Some old ≡ seen (get_or row n d) → (Leq_cells old new → ⊥) → Beats (row_of row) n new
-beats_greater row n d new old h e greater b at le =
-    let f = seen_at row n d h in
-    let same : b ≡ old = (let g : Some b ≡ Some old = sym at ∙ f ∙ sym e in cc) in
-    let F : Cell → Type 0 = λ z. Leq_cells z new in
-    greater (subst F same le)
-
-pub row_within : (row : List Cell) (n : ℕ) → n < length row → n < length (row_of row)
-row_within row n h = let e = length-map row seen in omega arith
-
 pub seen_is : (x c : Cell) → seen x ≡ Some c → x ≡ c
 seen_is x c e = ⊎_elim (λ zero_rule. let f : seen x ≡ None = ap (λ (b : Bool). if b then None else Some x) zero_rule.0 in cc) (λ other. let f : seen x ≡ Some x = ap (λ (b : Bool). if b then None else Some x) other.0 in let g : Some x ≡ Some c = sym f ∙ e in cc) (eqb_tells x.rule 0)
 
 seen_none : (c : Cell) → c.rule ≡ 0 → seen c ≡ None
 seen_none c e = ⊎_elim (λ zero_rule. ap (λ (b : Bool). if b then None else Some c) zero_rule.0) (λ other. absurd (other.1 e)) (eqb_tells c.rule 0)
+
+-- what an offer finds: a cell that isn't greater, none, or a greater one
+module _ (row : List Cell) (n : ℕ) (d new : Cell) (h : n < length row) where
+  there_at : (get_or row n d).rule ≢ 0 → CellAt (row_of row) n (get_or row n d)
+  there_at some = seen_at row n d h ∙ seen_some (get_or row n d) (omega arith)
+
+  pub declined_at : (get_or row n d).rule ≢ 0 → Leq_cells (get_or row n d) new → Offered (row_of row) n new (row_of row)
+  declined_at some le = Declined (get_or row n d) (there_at some) le
+
+  -- a cheaper cell isn't greater, whatever its count and rule
+  pub cheaper_declined : 1 ≤ (get_or row n d).rule → (get_or row n d).cost < new.cost → Offered (row_of row) n new (row_of row)
+  cheaper_declined some less = declined_at (λ none. absurd (omega arith)) (omega arith, λ e. omega arith, λ e f. omega arith)
+
+  pub beats_not : (get_or row n d).rule ≢ 0 → Leq_cells (get_or row n d) new → Beats (row_of row) n new → ⊥
+  beats_not some le beats = beats (get_or row n d) (there_at some) le
+
+  pub beats_none : (get_or row n d).rule ≡ 0 → Beats (row_of row) n new
+  beats_none none b at le = let f = seen_at row n d h in let g = seen_none (get_or row n d) none in cc
+
+  pub beats_greater : (Leq_cells (get_or row n d) new → ⊥) → Beats (row_of row) n new
+  beats_greater greater b at le =
+      let same : get_or row n d ≡ b = seen_is (get_or row n d) b (sym (seen_at row n d h) ∙ at) in
+      let F : Cell → Type 0 = λ z. Leq_cells z new in
+      greater (subst F (sym same) le)
+
+pub row_within : (row : List Cell) (n : ℕ) → n < length row → n < length (row_of row)
+row_within row n h = let e = length-map row seen in omega arith
 
 -- a place more without a cell
 pub cleared_more : (row : List Cell) (n : ℕ) (c : Cell) → n < length row → c.rule ≡ 0 → ((m : ℕ) (b : Cell) → m < n → CellAt (row_of row) m b → ⊥) → (m : ℕ) (b : Cell) → m < n + 1 → CellAt (row_of (slice_set row n c)) m b → ⊥

@@ -1,5 +1,5 @@
 ghost use Rattle.std.specs.Prelude.{◌≡◌, ◌↔◌, ◌<◌, ◌≤◌, ℕ, IsTrue, Some, length};
-ghost use Rattle.lburg_tables.specs.Row.{CellAt, Leq3, Offered};
+ghost use Rattle.lburg_tables.specs.Row.{CellAt, Leq3, Beats, Offered};
 ghost use Rattle.lburg_tables.specs.RowOf.{seen, key_of, row_of};
 ghost use Rattle.lburg_tables.specs.declared.cell.Cell.{Cell as Cells};
 
@@ -15,6 +15,21 @@ pub struct Cell {
 }
 
 impl Cell {
+    /// A cell without a derivation. Its cost is the greatest, so that a cell that is offered in its
+    /// place is mostly found to be less by the costs alone.
+    pub const NONE: Cell = Cell {
+        cost: u64::MAX,
+        count: 0,
+        rule: 0,
+    };
+
+    /// Whether it has a derivation, and costs less than this.
+    pub fn is_below(&self, cost: u64) -> bool
+        ensures { IsTrue result ↔ ((self.now.cost < cost) × (1 ≤ self.now.rule)) }
+    {
+        self.cost < cost && self.rule != 0
+    }
+
     /// Whether it is no greater, by cost, then count, then rule number.
     pub fn is_at_most(&self, other: &Cell) -> bool
         ensures { IsTrue result ↔ Leq3 self.now.cost self.now.count self.now.rule other.now.cost other.now.count other.now.rule }
@@ -47,18 +62,20 @@ impl Cell {
 }
 
 /// Stores a new cell of a nonterminal where it is less than the old one by cost, then count, then
-/// rule number.
-pub fn offer(row: &mut [Cell], n: usize, new: Cell)
+/// rule number. Tells whether it did.
+pub fn offer(row: &mut [Cell], n: usize, new: Cell) -> bool
     requires within { n < length row.old }
     requires some { 1 ≤ new.rule }
-    ensures { Offered (row_of row.old) n new (row_of row.new) }
+    ensures offered { Offered (row_of row.old) n new (row_of row.new) }
+    ensures stored { IsTrue result ↔ Beats (row_of row.old) n new }
 {
-    if let Some(old) = row[n].seen() {
-        if old.is_at_most(&new) {
-            return;
-        }
+    let old = row[n];
+    // An empty cell is tested last: by its cost it is mostly the greater one.
+    if old.is_at_most(&new) && old.rule != 0 {
+        return false;
     }
     row[n] = new;
+    true
 }
 
 /// Leaves no cell a derivation.
@@ -66,6 +83,6 @@ pub fn clear_row(row: &mut [Cell])
     ensures { (n : ℕ) (c : Cells) → CellAt (row_of row.new) n c → ⊥ }
 {
     for n in 0..row.len() {
-        row[n].rule = 0;
+        row[n] = Cell::NONE;
     }
 }

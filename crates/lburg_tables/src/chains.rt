@@ -22,13 +22,6 @@ use std::alloc::Global;
 use std::marker::Brand;
 use std::sync::ledger::{Blank, Ledger};
 
-/// No derivation.
-const NONE: Cell = Cell {
-    cost: 0,
-    count: 0,
-    rule: 0,
-};
-
 /// A derivation without cost or rules, on which chains are tried. It needs some rule number.
 const ORIGIN: Cell = Cell {
     cost: 0,
@@ -127,7 +120,7 @@ fn best_of_each<L: Ledger>(
 {
     let width = d.nonterminals().len();
     let mut steps = Steps::<L>::new(blank);
-    let mut row = vec![in alloc; NONE; width]?;
+    let mut row = vec![in alloc; Cell::NONE; width]?;
     let mut queue = Queue::reserve(alloc, width)?;
     let node = NodeRules {
         rules: d.rules(),

@@ -9,7 +9,7 @@ ghost use Rattle.lburg_tables.specs.ChainTries.{chain_tries};
 ghost use Rattle.lburg_tables.specs.IsIndex.{IsIndex};
 ghost use Rattle.lburg_tables.specs.declared.cell.Cell.{Cell as Cells};
 
-use crate::cell::Cell;
+use crate::cell::{Cell, offer};
 use crate::index::{Index, places_at};
 use lburg_model::Rule;
 use lcc_base::Steps;
@@ -25,13 +25,9 @@ fn relax(row: &mut [Cell], queue: &mut Queue, n: usize, new: Cell)
     ensures relaxed { Relaxed (row_of row.old) queue.old n new (row_of row.new) queue.new }
     ensures matches { Matches (row_of row.new) queue.new }
 {
-    if let Some(old) = row[n].seen() {
-        if old.is_at_most(&new) {
-            return;
-        }
+    if offer(row, n, new) {
+        queue.put(n, new.key());
     }
-    row[n] = new;
-    queue.put(n, new.key());
 }
 
 /// The rules at a node.

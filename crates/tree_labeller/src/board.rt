@@ -30,20 +30,13 @@ impl Model for Board {
     ghost invariant = { λ b. IsBoard b.width b.ends.items b.cells.items };
 }
 
-/// A cell without a derivation.
-const NONE: Cell = Cell {
-    cost: 0,
-    count: 0,
-    rule: 0,
-};
-
 /// So many cells without derivations.
 pub(crate) fn empty_cells(alloc: Global, many: usize) -> Result<Vec<Cell>, Memory>
     ensures { IfOk result (λ cells. length cells.items ≡ many) }
 {
     let mut cells = Vec::with_capacity(alloc, many)?;
     for _ in 0..many {
-        cells.push(NONE)?;
+        cells.push(Cell::NONE)?;
     }
     Ok(cells)
 }

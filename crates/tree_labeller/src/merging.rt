@@ -1,10 +1,10 @@
 ghost use Rattle.std.specs.Prelude.{◌≡◌, ℕ, ◌+◌, ◌^◌, ◌<◌, ◌≤◌, ◌-◌, ℤ, Option, length};
 ghost use Rattle.lburg_tables.specs.Leads.{HasRanged};
-ghost use Rattle.lburg_tables.specs.Row.{CellAt, Closed, IsCheap};
+ghost use Rattle.lburg_tables.specs.Row.{CellAt, Offered, Closed, IsCheap};
 ghost use Rattle.lburg_tables.specs.RowOf.{row_of};
 ghost use Rattle.lburg_tables.specs.Waits.{IsIdle};
 ghost use Rattle.lburg_tables.specs.declared.cell.Cell.{Cell as Cells};
-ghost use Rattle.tree_labeller.specs.Merged.{AllFit, Extended};
+ghost use Rattle.tree_labeller.specs.Merged.{after_chain, FitsAfter, AllFit, Extended};
 ghost use Rattle.tree_labeller.specs.Trials.{ChainTrials};
 ghost use Rattle.tree_labeller.specs.Tries.{HasCell, ClosingTries};
 
@@ -12,6 +12,25 @@ use lburg_tables::{BestChain, Cell, Tables, offer};
 use lcc_base::Steps;
 use place_queue::Queue;
 use std::sync::ledger::Ledger;
+
+// Tries a chain on the cell where it starts.
+fn try_chain(row: &mut [Cell], from: Cell, chain: &BestChain)
+    requires fits { FitsAfter (length row.old) from chain.now }
+    ensures { Offered (row_of row.old) chain.now.to (after_chain from chain.now) (row_of row.new) }
+{
+    let cost = from.cost + chain.cost;
+    let to = chain.to as usize;
+    // Mostly a cheaper cell stands there: then neither count nor rule is looked at.
+    if row[to].is_below(cost) {
+        return;
+    }
+    let cell = Cell {
+        cost,
+        count: from.count + chain.count,
+        rule: chain.rule,
+    };
+    offer(row, to, cell);
+}
 
 // Tries the chains from a nonterminal on its cell.
 fn extend<L: Ledger>(row: &mut [Cell], from: Cell, chains: &[BestChain], steps: &mut Steps<L>)
@@ -21,12 +40,7 @@ fn extend<L: Ledger>(row: &mut [Cell], from: Cell, chains: &[BestChain], steps: 
 {
     for chain in chains {
         steps.tick();
-        let cell = Cell {
-            cost: from.cost + chain.cost,
-            count: from.count + chain.count,
-            rule: chain.rule,
-        };
-        offer(row, chain.to as usize, cell);
+        try_chain(row, from, chain);
     }
 }
 

@@ -1,22 +1,25 @@
-use Rattle.std.proofs.Common.{List, Option, IsTrue, false, refl, sym, ◌∙◌, subst}
+use Rattle.std.proofs.Common.{List, Option, IsTrue, false, refl, sym, subst}
+use Rattle.lburg_tables.specs.Row.{Beats, Offered, Placed}
 use Rattle.lburg_tables.specs.declared.cell.Cell.{Cell}
-use Rattle.lburg_tables.specs.Row.{Beats, Offered, Placed, Declined}
 use Rattle.lburg_tables.specs.RowOf.{row_of}
-use Rattle.lburg_tables.specs.RowLaws.{seen_at, seen_set, beats_none, beats_greater}
-use Rattle.lburg_tables.proofs.cell.offer.Goals.{in-Some+else-is_at_most, in_default}
+use Rattle.lburg_tables.specs.RowLaws.{seen_set, declined_at, beats_not, beats_none, beats_greater}
+use Rattle.lburg_tables.proofs.cell.offer.Goals.{else-is_at_most-via-then-is_at_most+else-old-ne0, else-is_at_most-via-else-is_at_most}
 use Rattle.lburg_tables.proofs.cell.offer.Goals as goal
 
-pub returns-then-is_at_most : goal.returns-then-is_at_most
-returns-then-is_at_most c = Declined c.in-Some.old (seen_at c.args.row.now c.args.n _ c.requires.within ∙ sym c.in-Some.ensures) (c.if-is_at_most.ensures.0 refl)
+pub returns-then-old-ne0-clause-offered : goal.returns-then-old-ne0-clause-offered
+returns-then-old-ne0-clause-offered c = declined_at c.args.row.now c.args.n _ c.args.new c.requires.within c.if-old-ne0.true (c.if-is_at_most.ensures.0 refl)
 
-pub returns : goal.returns
-returns c =
+pub returns-then-old-ne0-clause-stored : goal.returns-then-old-ne0-clause-stored
+returns-then-old-ne0-clause-stored c = (λ no. absurd (let h : IsTrue false = no in cc), λ beats. absurd (beats_not c.args.row.now c.args.n _ c.args.new c.requires.within c.if-old-ne0.true (c.if-is_at_most.ensures.0 refl) beats))
+
+pub returns-clause-offered : goal.returns-clause-offered
+returns-clause-offered c =
     let row = c.args.row.now in
     let n = c.args.n in
     let new = c.args.new in
-    let beats : Beats (row_of row) n new = elim c.match-seen.branch [
-      | in-Some+else-is_at_most w ↦ beats_greater row n _ new w.in-Some.old c.requires.within w.in-Some.ensures (λ le. let no : IsTrue false = w.if-is_at_most.ensures.1 le in cc)
-      | in_default w ↦ beats_none row n _ new c.requires.within (sym w.in_default.ensures)
+    let beats : Beats (row_of row) n new = elim c.else-is_at_most.branch [
+      | else-is_at_most-via-then-is_at_most+else-old-ne0 w ↦ beats_none row n _ new c.requires.within w.if-old-ne0.false
+      | else-is_at_most-via-else-is_at_most w ↦ beats_greater row n _ new c.requires.within (λ le. let no : IsTrue false = w.if-is_at_most.ensures.1 le in cc)
     ] in
     let Row : List (Option Cell) → Type 0 = λ x. Offered (row_of row) n new x in
     subst Row (sym (seen_set row n new c.requires.some)) (Placed beats)

@@ -16,6 +16,6 @@ loop-chain-preserved g c =
     let inside : x.to < length row = (let to = (c.requires.fit k x here).to in let same = c.loop-chain.auto.row in omega arith) in
     let had = c.loop-chain.invariant in
     record {
-      extended = extended_more chains c.args.from (row_of c.args.row.now) (row_of row) (row_of c.offer.new.row) k x here (row_within row x.to inside) had.extended c.offer.ensures;
+      extended = extended_more chains c.args.from (row_of c.args.row.now) (row_of row) (row_of c.try_chain.new.row) k x here (row_within row x.to inside) had.extended c.try_chain.ensures;
       steps = let steps = had.steps in let tick = c.tick.ensures in omega arith;
     }

@@ -74,7 +74,7 @@ loop-k-preserved g c =
       started = elim c.match-rule_total_at.branch [
         | in-Some w ↦
             let total = subst Tells w.in-Some.is tells in
-            subst After (sym w.row-is) (started_take rows rules places node.at tree row k place rule w.in-Some.key (row_of w.offer.new.row) inv.started here (there.0, total.0) total.1 (row_within c.loop-k.row rule.left inside) w.offer.ensures)
+            subst After (sym w.row-is) (started_take rows rules places node.at tree row k place rule w.in-Some.key (row_of w.offer.new.row) inv.started here (there.0, total.0) total.1 (row_within c.loop-k.row rule.left inside) w.offer.ensures.offered)
         | in_default w ↦ subst After (sym w.row-is) (started_skip rows rules places node.at tree row k place rule inv.started here there.0 (subst Tells w.in_default.is tells))
       ];
       steps = let a = inv.steps in let b = c.tick.ensures in omega arith;
