@@ -127,6 +127,9 @@ fn next_token<'a>(bytes: &'a [u8]) -> Option<(Token<'a>, &'a [u8])>
     let Some((first, rest)) = bytes.split_first() else {
         return None;
     };
+    if Class::Letter.has(*first) {
+        return Some(word(bytes));
+    }
     if let Some(sign) = sign_of(*first) {
         return Some((Token::Sign(sign), rest));
     }
@@ -138,9 +141,6 @@ fn next_token<'a>(bytes: &'a [u8]) -> Option<(Token<'a>, &'a [u8])>
     }
     if *first == b'-' {
         return negative(rest);
-    }
-    if Class::Letter.has(*first) {
-        return Some(word(bytes));
     }
     if Class::Digit.has(*first) {
         return Some(number(bytes));
@@ -190,6 +190,15 @@ pub fn tokens<'a>(alloc: Global, bytes: &'a [u8]) -> Result<Vec<Token<'a>>, Allo
     let mut found = Vec::new(alloc);
     add_tokens(&mut found, bytes)?;
     Ok(found)
+}
+
+/// Puts the tokens that the bytes spell into a list in the place of those that it holds, as `tokens`
+/// gives them. So the room of one list serves line after line.
+pub fn replace_tokens<'a>(found: &mut Vec<Token<'a>>, bytes: &'a [u8]) -> Result<(), AllocError>
+    ensures { OnOk result (Spells (views found.new.items) bytes.now) }
+{
+    found.clear();
+    add_tokens(found, bytes)
 }
 
 /// Bytes spell no two lists of tokens.

@@ -20,7 +20,7 @@ mod token;
 mod tree_reader;
 
 pub use declaration::{Declaration, NamedNumber};
-pub use lexing::{one_spelling, tokens};
+pub use lexing::{one_spelling, replace_tokens, tokens};
 pub use line::Line;
 pub use line_lexing::{line_tokens, one_text};
 pub use line_reader::{one_line, read_line};

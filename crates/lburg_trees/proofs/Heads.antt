@@ -35,6 +35,9 @@ there : (d : MDescription) (n : List ℕ) (i : ℕ) (o : Option Terminal) → sl
 there d n i None e f = absurd cc
 there d n i (Some t) e f = (t, (ap (terminal_at d) (add-one i) ∙ e, same_Some t.name n f))
 
+pub name_at : (d : MDescription) (n : List ℕ) (i : ℕ) (t : Terminal) → slice_get d.terminals i ≡ Some t → t.name ≡ n → IsNamed d (i + 1) t n
+name_at d n i t e f = (ap (terminal_at d) (add-one i) ∙ e, f)
+
 pub name_known : (d : MDescription) (names : List (List ℕ)) (n : List ℕ) (i : ℕ) → names ≡ terminal_names d → place_of names n ≡ Some i → (t : Terminal) × IsNamed d (i + 1) t n
 name_known d names n i e h =
     let s : slice_get (terminal_names d) i ≡ Some n = ap (λ (l : List (List ℕ)). slice_get l i) (sym e) ∙ place_some names n i h in

@@ -1,6 +1,7 @@
 //! The trees of a description's tail, or its first fault with its line.
 #![tactic(auto)]
 
+mod name_table;
 mod row;
 mod stop;
 mod tail;

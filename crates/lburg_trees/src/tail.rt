@@ -8,11 +8,12 @@ ghost use Rattle.lburg_trees.specs.FirstFault.{IsTailOf, FirstFault};
 ghost use Rattle.lburg_trees.specs.TailText.{IsLineOf, AreTrees, IsTail};
 ghost use Rattle.lburg_trees.specs.Reading.{IsFineLine, LineFails, AreFine, FailsAt};
 
+use crate::name_table::Names;
 use crate::stop::Stop;
 use crate::tree_fault::TreeFault;
 use crate::tree_reader::line_tree;
 use indexmap::IndexSet;
-use lburg_lines::{Section, line_tokens, one_spelling, one_text, tokens};
+use lburg_lines::{Section, Token, line_tokens, one_spelling, one_text, replace_tokens};
 use lburg_model::{Description, Terminal, TextTree};
 use lcc_base::Items;
 use lcc_text::{next_line, place};
@@ -59,21 +60,22 @@ fn names_of<'a>(alloc: Global, terminals: &'a [Terminal]) -> Result<IndexSet<&'a
     Ok(names)
 }
 
-/// Adds the tree of a line that isn't blank.
+/// Adds the tree of a line that isn't blank. The line's tokens are put into a list that serves line after line.
 fn add_line<'a>(
     alloc: Global,
     d: &Description,
-    names: &IndexSet<&'a [u8]>,
+    names: &Names<'a>,
+    found: &mut Vec<Token<'a>>,
     trees: &mut Items<TextTree>,
     line: &'a [u8],
 ) -> Result<(), Stop>
-    requires { bytes_of names.now ≡ terminal_names d.now }
+    requires { bytes_of names.now.set ≡ terminal_names d.now }
     ensures found { OnOk result ((here : List MTree) × IsLineOf d.now line.now here × (trees.new ≡ trees.old ++ here)) }
     ensures fine { IfOk result (λ _. IsFineLine d.now line.now) }
     ensures fault { IfErr result (λ s. LineFails d.now line.now s) }
 {
-    let found = tokens(alloc, line)?;
-    if let Some(tree) = line_tree(alloc, d, names, &found)? {
+    replace_tokens(found, line)?;
+    if let Some(tree) = line_tree(alloc, d, names, found)? {
         trees.push(tree)?;
     }
     Ok(())
@@ -83,21 +85,22 @@ fn add_line<'a>(
 fn trees_in<'a>(
     alloc: Global,
     d: &Description,
-    names: &IndexSet<&'a [u8]>,
+    names: &Names<'a>,
     tail: Tail<'a>,
 ) -> Result<Items<TextTree>, TreeFault>
-    requires names { bytes_of names.now ≡ terminal_names d.now }
+    requires names { bytes_of names.now.set ≡ terminal_names d.now }
     requires within { tail.before + length tail.text.now ≤ 16777216 }
     ensures found { IfOk result (λ trees. AreTrees d.now (lines_of tail.entry.text.now) trees) }
     ensures fine { IfOk result (λ _. AreFine d.now (lines_of tail.entry.text.now) (length (lines_of tail.entry.text.now))) }
     ensures fault { IfErr result (λ f. (f ≡ TreeFault.Memory) ⊎ FailsAt d.now tail.entry.before (lines_of tail.entry.text.now) f) }
 {
     let mut trees = Items::new(alloc);
+    let mut found = Vec::new(alloc);
     let mut rest = tail.text;
     let mut number = tail.before;
     while let Some((line, behind)) = next_line(rest) {
         number += 1;
-        match add_line(alloc, d, names, &mut trees, line) {
+        match add_line(alloc, d, names, &mut found, &mut trees, line) {
             Ok(()) => {}
             Err(stop) => return Err(stop.told(number)),
         }
@@ -122,7 +125,8 @@ pub fn read_trees(alloc: Global, d: &Description, text: &[u8]) -> Result<Items<T
     // Trees of the description are read, unless memory ran out.
     ensures only { (trees : List MTree) → IsTail d.now trees text.now → IfErr result (λ e. e ≡ TreeFault.Memory) }
 {
-    let names = names_of(alloc, d.terminals())?;
+    let set = names_of(alloc, d.terminals())?;
+    let names = Names::new(set, d.terminals());
     let tail = tail_of(alloc, text)?;
     one_spelling();
     one_text();

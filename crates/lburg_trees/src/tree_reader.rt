@@ -1,5 +1,5 @@
 //! A tree of a tail, read straight into memory: each token is looked at once.
-ghost use Rattle.std.specs.Prelude.{◌≡◌, ◌≢◌, ◌≤◌, ◌<◌, ◌+◌, ◌∷◌, [], ℕ, List, Option, Some, None, length, false, IsTrue, IfOk, IfErr, IfSome, IfNone};
+ghost use Rattle.std.specs.Prelude.{◌≡◌, ◌≢◌, ◌≤◌, ◌<◌, ◌+◌, ◌∷◌, [], ℕ, List, Option, Some, None, length, slice_get, false, IsTrue, IfOk, IfErr, IfSome, IfNone};
 ghost use Rattle.lcc_text.specs.Names.{bytes_of};
 ghost use Rattle.lcc_text.specs.Stops.{next};
 ghost use Rattle.lburg_lines.specs.Tokens.{Mark, views};
@@ -14,11 +14,11 @@ ghost use Rattle.lburg_trees.specs.Reading.{IsHead, ReadsHead, ReadsConstant, St
 ghost use Rattle.lburg_trees.specs.Reading.{IsKnown, RootFits, RootDiffers, IsBehind, ReadsOperand, StopsOperand};
 ghost use Rattle.lburg_trees.specs.TailText.{IsTree};
 
+use crate::name_table::Names;
 use crate::row::Row;
 use crate::stop::Stop;
-use indexmap::IndexSet;
 use lburg_lines::{ReadError, Sign, Token, after_sign, end_of, name_at, number_at};
-use lburg_model::{Description, TextTree, TreeNode};
+use lburg_model::{Description, Terminal, TextTree, TreeNode};
 use lcc_base::{Items, Memory};
 use lcc_text::find;
 use std::alloc::Global;
@@ -101,14 +101,29 @@ fn constant_at<'t, 'a>(tokens: &'t [Token<'a>]) -> Result<(Option<i64>, &'t [Tok
     }
 }
 
+/// Whether a terminal with this name stands at the place.
+fn is_named(terminals: &[Terminal], place: usize, name: &[u8]) -> bool
+    ensures within { IsTrue result → place < length terminals.now }
+    ensures named { IsTrue result → (t : Terminals) × (slice_get terminals.now place ≡ Some t) × (t.name ≡ name.now) }
+{
+    match terminals.get(place) {
+        Some(terminal) => terminal.name.as_slice() == name,
+        None => false,
+    }
+}
+
 /// The operator of this name, if it is a terminal's.
-fn operator<'a>(d: &Description, names: &IndexSet<&'a [u8]>, name: &'a [u8]) -> Option<u16>
-    requires { bytes_of names.now ≡ terminal_names d.now }
+fn operator<'a>(d: &Description, names: &Names<'a>, name: &'a [u8]) -> Option<u16>
+    requires { bytes_of names.now.set ≡ terminal_names d.now }
     ensures some { IfSome result (λ op. (t : Terminals) × IsNamed d.now op t name.now) }
     ensures none { IfNone result ((op : ℕ) (t : Terminals) → IsNamed d.now op t name.now → ⊥) }
 {
-    let place = find(names, name)?;
     let terminals = d.terminals();
+    let guess = names.guess(name);
+    if is_named(terminals, guess, name) {
+        return Some(guess as u16 + 1);
+    }
+    let place = find(&names.set, name)?;
     prove!(place < terminals.len());
     Some(place as u16 + 1)
 }
@@ -116,11 +131,11 @@ fn operator<'a>(d: &Description, names: &IndexSet<&'a [u8]>, name: &'a [u8]) -> 
 /// The name of a node with its constant.
 fn head_at<'t, 'a>(
     d: &Description,
-    names: &IndexSet<&'a [u8]>,
+    names: &Names<'a>,
     before: Before,
     tokens: &'t [Token<'a>],
 ) -> Result<Head<'t, 'a>, Stop>
-    requires { bytes_of names.now ≡ terminal_names d.now }
+    requires { bytes_of names.now.set ≡ terminal_names d.now }
     ensures found { IfOk result (λ h. ReadsHead d.now (placed before.opened before.names) (views tokens.now) (views h.rest.now) h.op h.value) }
     ensures shorter { IfOk result (λ h. length h.rest.now < length tokens.now) }
     ensures stops { IfErr result (λ s. StopsTree d.now (placed before.opened before.names) (views tokens.now) s) }
@@ -193,11 +208,11 @@ fn two_kids(alloc: Global, a: TextTree, b: TextTree) -> Result<Items<TextTree>, 
 pub(crate) fn tree_at<'t, 'a>(
     alloc: Global,
     d: &Description,
-    names: &IndexSet<&'a [u8]>,
+    names: &Names<'a>,
     before: Before,
     tokens: &'t [Token<'a>],
 ) -> Result<Found<'t, 'a>, Stop>
-    requires names { bytes_of names.now ≡ terminal_names d.now }
+    requires names { bytes_of names.now.set ≡ terminal_names d.now }
     requires open { before.opened ≤ 499 }
     ensures found { IfOk result (λ f. ReadsTree d.now (record { opened = before.opened; names = before.names }) (views tokens.now) (views f.rest.now) f.tree) }
     ensures counted { IfOk result (λ f. f.names ≡ before.names + nodes f.tree) }
@@ -230,11 +245,11 @@ pub(crate) fn tree_at<'t, 'a>(
 fn operands<'t, 'a>(
     alloc: Global,
     d: &Description,
-    names: &IndexSet<&'a [u8]>,
+    names: &Names<'a>,
     before: Before,
     head: Head<'t, 'a>,
 ) -> Result<Found<'t, 'a>, Stop>
-    requires names { bytes_of names.now ≡ terminal_names d.now }
+    requires names { bytes_of names.now.set ≡ terminal_names d.now }
     requires open { before.opened < 499 }
     requires few { before.names < 65535 }
     ensures found { (name : List ℕ) (c : Option MNumber)
@@ -280,12 +295,12 @@ fn operands<'t, 'a>(
 fn operand<'t, 'a>(
     alloc: Global,
     d: &Description,
-    names: &IndexSet<&'a [u8]>,
+    names: &Names<'a>,
     before: Before,
     tokens: &'t [Token<'a>],
     last: bool,
 ) -> Result<Found<'t, 'a>, Stop>
-    requires names { bytes_of names.now ≡ terminal_names d.now }
+    requires names { bytes_of names.now.set ≡ terminal_names d.now }
     requires open { before.opened ≤ 499 }
     ensures found { IfOk result (λ f. ReadsOperand d.now (placed before.opened before.names) last (views tokens.now) (views f.rest.now) f.tree) }
     ensures is { IfOk result (λ _. IsDescription d.now) }
@@ -306,10 +321,10 @@ fn operand<'t, 'a>(
 pub(crate) fn line_tree<'t, 'a>(
     alloc: Global,
     d: &Description,
-    names: &IndexSet<&'a [u8]>,
+    names: &Names<'a>,
     tokens: &'t [Token<'a>],
 ) -> Result<Option<TextTree>, Stop>
-    requires { bytes_of names.now ≡ terminal_names d.now }
+    requires { bytes_of names.now.set ≡ terminal_names d.now }
     ensures blank { IfOk result (λ o. o ≡ None → views tokens.now ≡ []) }
     ensures tree { IfOk result (λ o. (t : _) → o ≡ Some t → IsTree d.now (views tokens.now) t) }
     ensures fine { IfOk result (λ _. IsFine d.now (views tokens.now)) }
