@@ -20,6 +20,7 @@ fn key_at(labels: &Labels, at: usize, n: usize) -> Option<Key>
 
 /// The least cost and count of the parts that a pattern needs at a tree, none where it does not
 /// fit or a part has no derivation.
+#[cycle(total)]
 #[tactic(auto, using(crate::specs::Totals::ready_of, crate::specs::Totals::nodes_pos))]
 fn total_at<N: TreeNode>(labels: &Labels, pattern: &Pattern, tree: &N, at: usize) -> Option<Key>
     requires small { area labels.now.board.now.nonterminals (N.tree tree.now) < 2 ^ 32 - 1 }
@@ -40,7 +41,7 @@ fn total_at<N: TreeNode>(labels: &Labels, pattern: &Pattern, tree: &N, at: usize
         }
         Pattern::Unary(op, p) => {
             if tree.op() == *op && tree.arity() == 1 {
-                total_at(labels, p, tree.kid(0), at + 1)
+                part_total_at(labels, p, tree.kid(0), at + 1)
             } else {
                 None
             }
@@ -49,8 +50,8 @@ fn total_at<N: TreeNode>(labels: &Labels, pattern: &Pattern, tree: &N, at: usize
             if tree.op() == *op && tree.arity() == 2 {
                 let first = tree.kid(0);
                 let next = labels.end(first, at + 1);
-                let a = total_at(labels, p, first, at + 1)?;
-                let b = total_at(labels, q, tree.kid(1), next)?;
+                let a = part_total_at(labels, p, first, at + 1)?;
+                let b = part_total_at(labels, q, tree.kid(1), next)?;
                 Some(Key {
                     cost: a.cost + b.cost,
                     count: a.count + b.count,
@@ -59,6 +60,27 @@ fn total_at<N: TreeNode>(labels: &Labels, pattern: &Pattern, tree: &N, at: usize
                 None
             }
         }
+    }
+}
+
+// The same for a part of a pattern, which is mostly a nonterminal: then it takes no further call.
+#[cycle(total)]
+fn part_total_at<N: TreeNode>(
+    labels: &Labels,
+    pattern: &Pattern,
+    tree: &N,
+    at: usize,
+) -> Option<Key>
+    requires small { area labels.now.board.now.nonterminals (N.tree tree.now) < 2 ^ 32 - 1 }
+    requires room { at + nodes (N.tree tree.now) ≤ length labels.now.board.now.rows }
+    requires reach { length labels.now.board.now.rows < 2 ^ 64 }
+    requires ready { Ready labels.now.board.now.rows labels.now.rules.now labels.now.board.now.nonterminals at (N.tree tree.now) (pattern_of pattern.now) }
+    ensures value { result ≡ total labels.now.board.now.rows (pattern_of pattern.now) (N.tree tree.now) at }
+    ensures bounded { IfSome result (λ k. (k.count ≤ area labels.now.board.now.nonterminals (N.tree tree.now)) × (k.cost ≤ 32768 * k.count)) }
+{
+    match pattern {
+        Pattern::Nonterminal(n) => key_at(labels, at, *n as usize),
+        _ => total_at(labels, pattern, tree, at),
     }
 }
 
@@ -78,7 +100,13 @@ fn base_total_at<N: TreeNode>(
 {
     match pattern {
         Pattern::Nonterminal(_) => None,
-        Pattern::Leaf(_) => total_at(labels, pattern, tree, at),
+        Pattern::Leaf(op) => {
+            if tree.op() == *op && tree.arity() == 0 {
+                Some(Key { cost: 0, count: 0 })
+            } else {
+                None
+            }
+        }
         Pattern::Unary(_, _) => total_at(labels, pattern, tree, at),
         Pattern::Binary(_, _, _) => total_at(labels, pattern, tree, at),
     }

@@ -11,7 +11,7 @@ returns-in-Unary-clause-bounded g c =
     let rows = labels.board.now.rows in
     let tree = g.N.TreeNode.tree c.args.tree.now in
     let is = ap (λ (q : Pattern). total rows (pattern_of q) tree c.args.at) c.in-Unary.is in
-    base_told rows labels.rules.now labels.board.now.nonterminals (pattern_of (Unary c.in-Unary.field-0 c.in-Unary.field-1)) tree c.args.at c.total_at-in-Unary.result c.requires.kids (c.total_at-in-Unary.ensures.value ∙ is)
+    base_told rows labels.rules.now labels.board.now.nonterminals (pattern_of (Unary c.in-Unary.field-0 c.in-Unary.field-1)) tree c.args.at c.total_at.result c.requires.kids (c.total_at.ensures.value ∙ is)
 
 pub returns-in-Binary-clause-bounded : goal.returns-in-Binary-clause-bounded
 returns-in-Binary-clause-bounded g c =
