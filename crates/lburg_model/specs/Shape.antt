@@ -1,8 +1,13 @@
 -- A tree of its parts, and parts of a tree.
-use Rattle.std.specs.Prelude.{ℕ, ◌+◌, ◌≤◌, Option, ℤ, List, [], ◌∷◌, length}
+use Rattle.std.specs.Prelude.{ℕ, ◌+◌, ◌≤◌, Option, None, Some, ℤ, Bool, true, false, List, [], ◌∷◌, length}
 use Rattle.std.proofs.Common.{arith}
 use denote.Param.Weighed.{most}
 use Rattle.lburg_model.specs.Tree.{MTree, TLeaf, TOne, TTwo, nodes}
+
+-- the constant that a mark and a number tell
+abbrev pub constant_of : Bool → ℤ → Option ℤ
+constant_of false v = None
+constant_of true v = Some v
 
 -- the tree with this operator, constant and operands, of which there are at most two
 abbrev pub tree_of : ℕ → Option ℤ → List MTree → MTree

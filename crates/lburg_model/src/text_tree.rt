@@ -10,8 +10,11 @@ use std::marker::Model;
 pub struct TextTree {
     /// The operator: the place of its terminal in the declarations, from 1.
     pub op: u16,
-    /// The constant, if it has one.
-    pub value: Option<i64>,
+    /// Whether it has a constant. Beside the operator it takes no room, where an `Option` would take
+    /// 8 bytes more a node.
+    has_constant: bool,
+    /// The constant, or 0.
+    constant: i64,
     /// The operands, from left to right.
     pub kids: Items<TextTree>,
 }
@@ -19,7 +22,7 @@ pub struct TextTree {
 impl Model for TextTree {
     ghost use Rattle.std.specs.Prelude.{ℕ, ◌≤◌, length};
     ghost use Rattle.lburg_model.specs.Tree.{MTree, nodes};
-    ghost use Rattle.lburg_model.specs.Shape.{tree_of, most_le_nodes};
+    ghost use Rattle.lburg_model.specs.Shape.{constant_of, tree_of, most_le_nodes};
     ghost use Rattle.lburg_model.specs.Coding.{tree_code};
     ghost use Rattle.std.proofs.Common.{arith};
 
@@ -27,13 +30,13 @@ impl Model for TextTree {
 
     ghost coded = { tree_code };
 
-    ghost view = { λ a. tree_of a.op a.value a.kids };
+    ghost view = { λ a. tree_of a.op (constant_of a.has_constant a.constant) a.kids };
 
     ghost invariant = { λ a. length a.kids ≤ 2 };
 
     ghost size = { nodes };
 
-    ghost size_decreases = { λ a h. omega (arith, most_le_nodes a.op a.value a.kids h) };
+    ghost size_decreases = { λ a h. omega (arith, most_le_nodes a.op (constant_of a.has_constant a.constant) a.kids h) };
 }
 
 impl TextTree {
@@ -42,7 +45,20 @@ impl TextTree {
         requires { length kids ≤ 2 }
         ensures { result ≡ tree_of op value kids }
     {
-        TextTree { op, value, kids }
+        match value {
+            None => TextTree {
+                op,
+                has_constant: false,
+                constant: 0,
+                kids,
+            },
+            Some(constant) => TextTree {
+                op,
+                has_constant: true,
+                constant,
+                kids,
+            },
+        }
     }
 }
 
@@ -62,6 +78,10 @@ impl TreeNode for TextTree {
     }
 
     fn value(&self) -> Option<i64> {
-        self.value
+        if self.has_constant {
+            Some(self.constant)
+        } else {
+            None
+        }
     }
 }
