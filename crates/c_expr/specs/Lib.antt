@@ -1,1 +1,6 @@
+pub mod Answers
+pub mod Seen
+pub mod Links
+pub mod Productions
 pub mod State
+pub mod Words

@@ -1,10 +1,15 @@
 -- What a parser is: a source with its tokens, how many of them were taken, the names in force, and the fault that was answered,
 -- if any.
 -- Source: C89 2.1.1.2 and 3.1.2.1.
-use Rattle.std.specs.Prelude.{◌≡◌, ◌⊎◌, ℕ, Option, Some, List, slice_get}
-use Rattle.c_ast.specs.InForce.{InForce}
+use Rattle.std.specs.Prelude.{◌≡◌, ◌≤◌, ◌+◌, ◌⊎◌, ℕ, Option, None, Some, List, slice_get, drop}
+use Rattle.c_ast.specs.InForce.{InForce, forgotten}
 use Rattle.c_lexer.specs.declared.token.Token.{Token}
 use Rattle.c_lexer.specs.Tokens.{first_place, AreTokens}
+use Rattle.c_lexer.specs.PlacedTokens.{placed}
+use Rattle.c_readings.specs.Reading.{State}
+use Rattle.c_expr.specs.Productions.{Production, IsTaken, Stands}
+use Rattle.c_expr.specs.declared.stop.Stop.{Stop}
+use Rattle.c_expr.specs.declared.stop.Stop.TheVariants as stop
 use Rattle.c_expr.specs.declared.syntax_fault.SyntaxFault.{SyntaxFault}
 use Rattle.c_expr.specs.declared.syntax_fault.SyntaxFault.TheVariants.{NoParse, Memory, Lex}
 
@@ -24,3 +29,34 @@ abbrev pub IsUncut : List ℕ → SyntaxFault → Type 0
 IsUncut source (NoParse line) = ⊥
 IsUncut source Memory = Unit {0}
 IsUncut source (Lex fault) = (ts : List Token) × AreTokens source first_place ts (Some fault)
+
+-- what is left
+abbrev pub ahead : MParser → State
+ahead p = record { names = p.names; rest = placed p.source (drop p.place p.tokens) }
+
+-- the same where no parameters' names are kept
+abbrev pub forgetting : MParser → State
+forgetting p = record { names = forgotten p.names; rest = placed p.source (drop p.place p.tokens) }
+
+-- what a reader that stopped is answered as
+abbrev pub IsStopped : List Token → Stop → SyntaxFault → Type 0
+IsStopped tokens (stop.NoParse left) (NoParse line) = IsLine tokens line
+IsStopped tokens (stop.NoParse left) Memory = ⊥
+IsStopped tokens (stop.NoParse left) (Lex fault) = ⊥
+IsStopped tokens stop.Memory (NoParse line) = ⊥
+IsStopped tokens stop.Memory Memory = Unit {0}
+IsStopped tokens stop.Memory (Lex fault) = ⊥
+
+-- a tree of the production that stands before s was taken
+pub record Took (P : Production) (s : State) (old : MParser) (x : P.Tree) (new : MParser) : Type 0 where
+  pub taken : IsTaken P s x (ahead new)
+  pub before : old.fault ≡ None
+  pub further : old.place + P.least ≤ new.place
+  pub same : new ≡ record old { place = new.place; names = new.names }
+
+-- why none was taken: an earlier fault is answered again, none stands before s, or an allocation was refused; the fault is kept,
+-- and no token is taken
+pub data Refused (P : Production) (s : State) (old new : MParser) : SyntaxFault → Type 0 where
+  Again : (fault : SyntaxFault) → old.fault ≡ Some fault → new ≡ old → Refused P s old new fault
+  NoPiece : (line : ℕ) → old.fault ≡ None → (Stands P s → ⊥) → IsLine old.tokens line → new ≡ record old { names = new.names; fault = Some (NoParse line) } → Refused P s old new (NoParse line)
+  NoMemory : old.fault ≡ None → new ≡ record old { names = new.names; fault = Some Memory } → Refused P s old new Memory

@@ -4,20 +4,33 @@ ghost use Rattle.c_ast.specs.declared.class.Class.TheVariants.{Name};
 ghost use Rattle.c_lexer.specs.SourceUnits.{bytes_of};
 ghost use Rattle.c_lexer.specs.Tokens.{first_place, AreTokens};
 ghost use Rattle.c_expr.specs.declared.syntax_fault.SyntaxFault.TheVariants.{NoParse};
-ghost use Rattle.c_expr.specs.State.{IsLine, IsUncut};
+ghost use Rattle.c_expr.specs.Productions.{declarator, expression, specifiers, type_name, whole_expression};
+ghost use Rattle.c_expr.specs.Seen.{declarator_seen, expr_seen, specifiers_seen, type_name_seen};
+ghost use Rattle.c_expr.specs.State.{ahead, forgetting, IsLine, IsStopped, IsUncut, Refused, Took};
 
+use crate::declarators::{Shape, declarator_at};
+use crate::expressions::{piece_at, whole_at};
+use crate::specifiers::specifiers_at;
+use crate::stop::Stop;
 use crate::syntax_fault::SyntaxFault;
-use c_ast::Class;
+use crate::tokens::Text;
+use crate::type_names::type_name_at;
+use c_ast::{Class, Declarator, Expr, Specifiers, TypeName};
 use c_lexer::{Lexer, Token, bytes_of};
+use c_readings::{pieces_are_fronts, readers_are_exact};
 use lcc_base::Memory;
 use names_in_force::Names;
 use std::alloc::Global;
 use std::marker::Model;
 
+/// The greatest height of a unit.
+const MOST_HIGH: u32 = 500;
+
 /// A C source that is parsed, which contracts see as its bytes and tokens, how many of these were
 /// taken, the names in force, and the fault that was answered, if any.
 #[derive(Drop)]
 pub struct Parser<'s> {
+    alloc: Global,
     source: &'s [u8],
     tokens: Vec<Token>,
     /// How many tokens were taken.
@@ -73,6 +86,7 @@ impl<'s> Parser<'s> {
             return Err(SyntaxFault::Memory);
         };
         Ok(Parser {
+            alloc,
             source,
             tokens,
             place: 0,
@@ -167,5 +181,166 @@ impl<'s> Parser<'s> {
         ensures { result ≡ self.now.fault }
     {
         self.fault
+    }
+
+    /// The line of the first of so many tokens at the end, or of the last token, or the first line.
+    fn line_before(&self, left: usize) -> u32
+        ensures { IsLine self.now.tokens result }
+    {
+        let many = self.tokens.len();
+        let place = many.saturating_sub(left);
+        match self.tokens.get(place.min(many.saturating_sub(1))) {
+            Some(token) => token.line,
+            None => 1,
+        }
+    }
+
+    /// The fault of a reader that stopped, which is kept.
+    fn stopped(&mut self, stop: Stop) -> SyntaxFault
+        ensures kept { self.new ≡ record self.old { fault = Some result } }
+        ensures fault { IsStopped self.old.tokens stop result }
+    {
+        let fault = match stop {
+            Stop::NoParse { left } => SyntaxFault::NoParse {
+                line: self.line_before(left),
+            },
+            Stop::Memory => SyntaxFault::Memory,
+        };
+        self.fault = Some(fault);
+        fault
+    }
+
+    /// The expression at the place, perhaps with commas. Source: C89 3.3.17.
+    ///
+    /// A call for a production takes the longest piece of it at the place, no higher than 500, from
+    /// which the next token doesn't go on. NoParse comes exactly where none stands there, with the
+    /// line of a token, and Memory where an allocation is refused; the fault is answered again by
+    /// each later call.
+    pub fn expression(&mut self) -> Result<Expr, SyntaxFault>
+        ensures ok { IfOk result (λ e. Took whole_expression (ahead self.old) self.old (expr_seen e) self.new) }
+        ensures err { IfErr result (λ e. Refused whole_expression (ahead self.old) self.old self.new e) }
+    {
+        readers_are_exact();
+        pieces_are_fronts();
+        if let Some(fault) = self.fault {
+            return Err(fault);
+        }
+        let text = Text::new(self.alloc, self.source);
+        let tokens = &self.tokens[self.place..];
+        match whole_at(&text, &mut self.names, tokens, MOST_HIGH) {
+            Ok(found) => {
+                self.place = self.tokens.len() - found.rest.len();
+                Ok(found.tree)
+            }
+            Err(stop) => Err(self.stopped(stop)),
+        }
+    }
+
+    /// The expression of the level at the place.
+    fn piece(&mut self, level: u8) -> Result<Expr, SyntaxFault>
+        requires level { (1 ≤ level) × (level ≤ 15) }
+        ensures ok { IfOk result (λ e. Took (expression level) (ahead self.old) self.old (expr_seen e) self.new) }
+        ensures err { IfErr result (λ e. Refused (expression level) (ahead self.old) self.old self.new e) }
+    {
+        readers_are_exact();
+        pieces_are_fronts();
+        if let Some(fault) = self.fault {
+            return Err(fault);
+        }
+        let text = Text::new(self.alloc, self.source);
+        let tokens = &self.tokens[self.place..];
+        match piece_at(&text, &mut self.names, level, tokens, MOST_HIGH) {
+            Ok(found) => {
+                self.place = self.tokens.len() - found.rest.len();
+                Ok(found.tree)
+            }
+            Err(stop) => Err(self.stopped(stop)),
+        }
+    }
+
+    /// The assignment expression at the place, as `expression`. Source: C89 3.3.16.
+    pub fn assignment(&mut self) -> Result<Expr, SyntaxFault>
+        ensures ok { IfOk result (λ e. Took (expression 1) (ahead self.old) self.old (expr_seen e) self.new) }
+        ensures err { IfErr result (λ e. Refused (expression 1) (ahead self.old) self.old self.new e) }
+    {
+        self.piece(1)
+    }
+
+    /// The constant expression at the place, as `expression`. Source: C89 3.4.
+    pub fn constant(&mut self) -> Result<Expr, SyntaxFault>
+        ensures ok { IfOk result (λ e. Took (expression 2) (ahead self.old) self.old (expr_seen e) self.new) }
+        ensures err { IfErr result (λ e. Refused (expression 2) (ahead self.old) self.old self.new e) }
+    {
+        self.piece(2)
+    }
+
+    /// The type's name at the place, as `expression`. Source: C89 3.5.5.
+    pub fn type_name(&mut self) -> Result<TypeName, SyntaxFault>
+        ensures ok { IfOk result (λ x. Took type_name (ahead self.old) self.old (type_name_seen x) self.new) }
+        ensures err { IfErr result (λ e. Refused type_name (ahead self.old) self.old self.new e) }
+    {
+        readers_are_exact();
+        pieces_are_fronts();
+        if let Some(fault) = self.fault {
+            return Err(fault);
+        }
+        let text = Text::new(self.alloc, self.source);
+        let tokens = &self.tokens[self.place..];
+        match type_name_at(&text, &mut self.names, tokens, MOST_HIGH) {
+            Ok(found) => {
+                self.place = self.tokens.len() - found.rest.len();
+                Ok(found.tree)
+            }
+            Err(stop) => Err(self.stopped(stop)),
+        }
+    }
+
+    /// The specifiers at the place, as `expression`. Source: C89 3.5.
+    pub fn specifiers(&mut self) -> Result<Specifiers, SyntaxFault>
+        ensures ok { IfOk result (λ x. Took specifiers (ahead self.old) self.old (specifiers_seen x) self.new) }
+        ensures err { IfErr result (λ e. Refused specifiers (ahead self.old) self.old self.new e) }
+    {
+        readers_are_exact();
+        pieces_are_fronts();
+        if let Some(fault) = self.fault {
+            return Err(fault);
+        }
+        let text = Text::new(self.alloc, self.source);
+        let tokens = &self.tokens[self.place..];
+        match specifiers_at(&text, &mut self.names, tokens, MOST_HIGH) {
+            Ok(found) => {
+                self.place = self.tokens.len() - found.rest.len();
+                Ok(found.tree)
+            }
+            Err(stop) => Err(self.stopped(stop)),
+        }
+    }
+
+    /// The declarator at the place, as `expression`, which declares a name and is no part of
+    /// another. The names of its own parameter list, if it has one, are kept, and none else.
+    /// Source: C89 3.5.4.
+    pub fn declarator(&mut self) -> Result<Declarator, SyntaxFault>
+        ensures ok { IfOk result (λ x. Took declarator (forgetting self.old) self.old (declarator_seen x) self.new) }
+        ensures err { IfErr result (λ e. Refused declarator (forgetting self.old) self.old self.new e) }
+    {
+        readers_are_exact();
+        pieces_are_fronts();
+        if let Some(fault) = self.fault {
+            return Err(fault);
+        }
+        self.names.forget();
+        let text = Text::new(self.alloc, self.source);
+        let tokens = &self.tokens[self.place..];
+        let shape = Shape {
+            free: false,
+            outer: true,
+        };
+        match declarator_at(&text, &mut self.names, shape, tokens, MOST_HIGH) {
+            Ok(found) => {
+                self.place = self.tokens.len() - found.rest.len();
+                Ok(found.tree)
+            }
+            Err(stop) => Err(self.stopped(stop)),
+        }
     }
 }
