@@ -13,7 +13,6 @@ pub mod Rounds
 pub mod MarkLaws
 pub mod Questions
 pub mod OnePieces
-pub mod UnitLayers
 pub mod Tallest
 pub mod ValueHeights
 pub mod UnitValueHeights

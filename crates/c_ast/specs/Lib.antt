@@ -14,6 +14,7 @@ pub mod Spell
 pub mod Reach
 pub mod Views
 pub mod Layers
+pub mod UnitLayers
 pub mod UnitViews
 pub mod ValueHeights
 pub mod UnitValueHeights

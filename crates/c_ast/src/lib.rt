@@ -39,6 +39,7 @@ pub use specifier::{BasicType, Qualifier, RecordKind, Storage};
 pub use statement::{
     Block, Declaration, InitDeclarator, Initialiser, InitialiserForm, Statement, StatementForm,
 };
+pub use tree_height::{declarator_height, expr_height, specifiers_height};
 pub use unit::{External, ExternalForm, Unit};
-pub use unit_height::height;
+pub use unit_height::{declaration_height, height};
 pub use worked::{nearest_if, scopes_and_types, typedef_names};

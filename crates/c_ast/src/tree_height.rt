@@ -8,10 +8,10 @@ use crate::expr::{
     Specifier, SpecifierForm, Specifiers, Suffix, SuffixForm, TypeName,
 };
 
-/// The height of an expression.
+/// The nodes on the longest way down an expression, as `height` counts them. Source: C89 3.3.
 #[cycle(height)]
 #[tactic(auto, using(crate::proofs::ValueHeights::expr_forms))]
-pub(crate) fn expr_height(e: &Expr) -> u32
+pub fn expr_height(e: &Expr) -> u32
     ensures { result ≡ capped (expr_high e.now) }
 {
     match &e.form {
@@ -73,10 +73,10 @@ fn type_name_height(name: &TypeName) -> u32
     specifiers_height(&name.specifiers).max(maybe_declarator_height(&name.declarator))
 }
 
-/// The height of what stands in specifiers.
+/// The nodes on the longest way down specifiers, which count nothing themselves. Source: C89 3.5.
 #[cycle(height)]
 #[tactic(auto, using(crate::proofs::ValueHeights::specifiers_list))]
-pub(crate) fn specifiers_height(specifiers: &Specifiers) -> u32
+pub fn specifiers_height(specifiers: &Specifiers) -> u32
     ensures { result ≡ capped (specifiers_high specifiers.now) }
 {
     specifier_list_height(specifiers.list.as_slice())
@@ -192,10 +192,10 @@ fn maybe_declarator_height(declarator: &Option<Declarator>) -> u32
     }
 }
 
-/// The height of a declarator.
+/// The nodes on the longest way down a declarator, as `height` counts them. Source: C89 3.5.4.
 #[cycle(height)]
 #[tactic(auto, using(crate::proofs::ValueHeights::declarators))]
-pub(crate) fn declarator_height(declarator: &Declarator) -> u32
+pub fn declarator_height(declarator: &Declarator) -> u32
     ensures { result ≡ capped (declarator_high declarator.now) }
 {
     let inside = match &declarator.core {

@@ -62,9 +62,9 @@ fn inits_height(inits: &[InitDeclarator]) -> u32
     most
 }
 
-/// The height of a declaration.
+/// The nodes on the longest way down a declaration, as `height` counts them. Source: C89 3.5.
 #[tactic(auto, using(crate::proofs::UnitValueHeights::declaration_parts))]
-fn declaration_height(declaration: &Declaration) -> u32
+pub fn declaration_height(declaration: &Declaration) -> u32
     ensures { result ≡ capped (declaration_high declaration.now) }
 {
     specifiers_height(&declaration.specifiers)
