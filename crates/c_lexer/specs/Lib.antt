@@ -17,3 +17,4 @@ pub mod LexerState
 pub mod Texts
 pub mod SourceUnits
 pub mod PlacedTokens
+pub mod PrintedTokens

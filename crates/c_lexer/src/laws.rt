@@ -11,6 +11,7 @@ ghost use Rattle.c_lexer.specs.Tokens.{Answer, Cuts, AreTokens};
 ghost use Rattle.c_ast.specs.Trees.{UnitTree};
 ghost use Rattle.c_lexer.specs.SourceUnits.{AreLexemes, DenotesUnit};
 ghost use Rattle.c_lexer.specs.PlacedTokens.{placed};
+ghost use Rattle.c_lexer.specs.PrintedTokens.{AreBytes, IsReadAgain};
 
 use c_ast::one_unit;
 
@@ -47,4 +48,10 @@ pub fn one_source_unit()
 /// The tokens of a source, one for one, are the lexemes that the grammar sees.
 pub fn placed_tokens()
     ensures { (source : List ℕ) (p : Places) (ts : List Tokens) (e : Option Fault) → AreTokens source p ts e → AreLexemes source ts (placed source ts) }
+{}
+
+/// The printed text of a unit that a source denotes is cut into tokens which have the classes, names
+/// and texts of the unit's spelling.
+pub fn printed_tokens()
+    ensures { (source : List ℕ) (u : UnitTree) → AreBytes source → DenotesUnit source u → IsReadAgain u }
 {}

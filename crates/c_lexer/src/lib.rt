@@ -23,7 +23,9 @@ mod start;
 mod tests;
 mod token;
 
-pub use laws::{longest, one_cut, one_list, one_source_unit, one_text, placed_tokens};
+pub use laws::{
+    longest, one_cut, one_list, one_source_unit, one_text, placed_tokens, printed_tokens,
+};
 pub use lex_fault::{LexFault, LexFaultKind};
 pub use lexer::Lexer;
 pub use literal::text_values;
