@@ -84,7 +84,7 @@ other_sign names k f (Character v) h = refl
 other_sign names k f (Text b) h = refl
 other_sign names k f (Sign j) h = not_true (j == k) (λ e. no_two _ _ (subst (λ x. starts_expr names (Sign x) ≡ true) (same_number j k e) h) f)
 
-not_not : (b : Bool) → not b ≡ true → b ≡ false
+pub not_not : (b : Bool) → not b ≡ true → b ≡ false
 not_not true h = absurd cc
 not_not false h = refl
 

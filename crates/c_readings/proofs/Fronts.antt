@@ -1,5 +1,5 @@
 -- The marks of a tree use up a front of the tokens.
-use Rattle.std.proofs.Common.{◌≡◌, ◌++◌, ◌-◌, ℕ, Bool, true, false, ◌&&◌, ◌||◌, Option, Some, None, List, [], ◌∷◌, length, drop, refl, sym, ap, ◌∙◌, append_assoc, drop_at, length-append, arith}
+use Rattle.std.proofs.Common.{◌≡◌, ◌≤◌, ◌+◌, ◌↔◌, ◌++◌, ◌-◌, ℕ, Bool, true, false, ◌&&◌, ◌||◌, Option, Some, None, List, [], ◌∷◌, length, drop, refl, sym, ap, ◌∙◌, append_assoc, drop_at, length-append, arith}
 use Rattle.c_ast.specs.declared.specifier.Qualifier.{Qualifier}
 use Rattle.c_ast.specs.Lexemes.{Lexeme, Name, Keyword, Integer, Character, Text, Sign, Placed}
 use Rattle.c_ast.specs.InForce.{InForce, put, opened, closed, closed_kept}
@@ -8,7 +8,11 @@ use Rattle.c_ast.specs.Marks.{Mark, Test, Tok, Plain, Typed, Here, Ask, Put, Ope
 use Rattle.c_ast.specs.ExprMarks as marks
 use Rattle.c_ast.specs.ExprMarks.{says_type, has_typedef, is_own, maybe_name}
 use Rattle.c_ast.specs.Trees.{ExprTree, Variable, IntegerConstant, CharacterConstant, Literal, Enclosed, Subscript, Called, Selected, Stepped, Prefixed, SizedExpr, SizedType, Converted, Combined, Chosen, Assigned, Sequence, ExprTrees, NoExprs, Exprs, MaybeExpr, NoExpr, AnExpr, TypeNameTree, TypeNamed, SpecifiersTree, Specified, SpecifierTree, Stored, Qualified, Basic, Record, RecordTag, Enumeration, EnumerationTag, NamedType, SpecifierTrees, NoSpecifiers, Specifiers, MemberTree, Members, MemberTrees, NoMembers, MoreMembers, FieldTree, Field, FieldTrees, NoFields, Fields, EnumeratorTree, Enumerator, EnumeratorTrees, NoEnumerators, Enumerators, DeclaratorTree, Declarator, MaybeDeclarator, NoDeclarator, ADeclarator, CoreTree, Named, Inner, Omitted, SuffixTree, ArraySuffix, Prototype, NameList, NoParameters, SuffixTrees, NoSuffixes, Suffixes, ParameterTree, Parameter, ParameterTrees, NoParameter, Parameters}
+use Rattle.c_ast.specs.Levels.{is_named}
+use Rattle.c_readings.specs.Reading.{State, beyond, tail}
+use Rattle.c_readings.specs.Exact.{RunsOn}
 use Rattle.c_readings.specs.Fronts.{AreFronts}
+use Rattle.c_readings.proofs.Steps.{beyond_runs, taken_used}
 
 infixr 40 ◌▸◌
 -- the marks behind run at an end of the tokens
@@ -288,3 +292,30 @@ specifiers_fronts = fronts marks.specifiers specifiers
 
 pub declarator_fronts : (free outer : Bool) → AreFronts (marks.declarator free outer)
 declarator_fronts free outer = fronts (marks.declarator free outer) (declarator free outer)
+
+-- ---- a declarator with a name has a token
+
+-- where marks run and the tokens us behind them, there are as many tokens at least
+no_more : {f : List Mark → List Mark} → Front f → (s : State) (us : List Placed) → RunsOn (f (exactly us)) s → length us ≤ length s.rest
+no_more f s us h =
+    let p = f.at (exactly us) s.names s.rest h in
+    let e = exactly_these us p.names p.behind p.runs in
+    omega (arith, ap length p.parts, length-append p.before p.behind, ap length e)
+
+-- this token stands before others
+one_less : (l : Lexeme) {f : List Mark → List Mark} → Front f → (s : State) (us : List Placed) → RunsOn (Tok l ∷ f (exactly us)) s → length us + 1 ≤ length s.rest
+one_less l {f} a s us h =
+    let n = no_more a (beyond s) us (beyond_runs l (f (exactly us)) s h) in
+    let u = taken_used s.rest h.1 l (h.0, h.2) in
+    let v = ap (λ ts. length (tail ts)) h.2 in
+    omega arith
+
+named_run : (outer : Bool) (d : DeclaratorTree) (s : State) (us : List Placed) → is_named d ≡ true → RunsOn (marks.declarator false outer d (exactly us)) s → length us + 1 ≤ length s.rest
+named_run outer (Declarator l (qs ∷ ps) c ss) s us n h = one_less (Sign 11) (qualifiers qs ▸ pointers ps ▸ core false outer c ▸ suffixes (outer && is_own c) ss) s us h.1
+named_run outer (Declarator l [] (Named n) ss) s us k h = one_less (Name n) (suffixes (outer && is_own (Named n)) ss) s us h.1.1
+named_run outer (Declarator l [] (Inner d) ss) s us n h = one_less (Sign 2) (declarator false outer d ▸ tok (Sign 3) ▸ suffixes (outer && is_own (Inner d)) ss) s us h.1.1
+named_run outer (Declarator l [] Omitted ss) s us n h = absurd cc
+
+-- so it uses one
+pub named_used : (outer : Bool) (d : DeclaratorTree) (s t : State) → is_named d ≡ true → ((r : List Mark) → RunsOn (marks.declarator false outer d r) s ↔ RunsOn r t) → length t.rest + 1 ≤ length s.rest
+named_used outer d s t n h = named_run outer d s t.rest n ((h (exactly t.rest)).1 (exactly_runs t.rest t.names))

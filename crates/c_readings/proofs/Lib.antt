@@ -3,6 +3,7 @@ mod Lists
 mod Operators
 mod Firsts
 mod Records
+mod Braces
 mod Enumerations
 mod Tags
 mod Specifiers
@@ -18,3 +19,15 @@ mod Chains
 mod Expressions
 mod Rounds
 mod Fronts
+mod Lows
+pub mod Loops
+mod Initialisers
+mod Declarations
+mod Conditions
+mod Blocks
+mod StatementWords
+mod Worded
+mod Statements
+mod Parts
+mod Externals
+mod Units

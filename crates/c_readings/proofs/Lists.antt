@@ -82,19 +82,38 @@ many_yields spelled P E go item next done more (suc n) b s =
     item_before spelled P E go next b s x t xs u h k)))
     (λ a. no_items spelled P E go b s a (λ r. done b s r a))
 
--- a list that stands there is read, where each item that stands there is and uses up tokens
-pub many_finds : {A B : Type 0} (spelled : B → List A → List Mark) (Q : List A → Type 0) (r : List Mark) (go : B → State → Bool) (item : B → State → Read A) (next : B → A → B) → ((b : B) (s : State) → RunsOn (spelled b []) s → (go b s ≡ false) × RunsOn r s) → ((b : B) (s : State) (x : A) (xs : List A) → Q (x ∷ xs) → RunsOn (spelled b (x ∷ xs)) s → (go b s ≡ true) × Q xs × Finds (item b s) x (spelled (next b x) xs)) → ((b : B) (s : State) (x : A) (t : State) → go b s ≡ true → item b s ≡ Some (x, t) → length t.rest + 1 ≤ length s.rest) → (n : ℕ) (b : B) (s : State) (xs : List A) → length s.rest + 1 ≤ n → Q xs → RunsOn (spelled b xs) s → Finds (many go item next n b s) xs r
+-- a list that stands there is read, where each item that stands there is and uses up tokens; Q b: of items behind b
+pub many_finds_from : {A B : Type 0} (spelled : B → List A → List Mark) (Q : B → List A → Type 0) (r : List Mark) (go : B → State → Bool) (item : B → State → Read A) (next : B → A → B) → ((b : B) (s : State) → RunsOn (spelled b []) s → (go b s ≡ false) × RunsOn r s) → ((b : B) (s : State) (x : A) (xs : List A) → Q b (x ∷ xs) → RunsOn (spelled b (x ∷ xs)) s → (go b s ≡ true) × Q (next b x) xs × Finds (item b s) x (spelled (next b x) xs)) → ((b : B) (s : State) (x : A) (t : State) → go b s ≡ true → item b s ≡ Some (x, t) → length t.rest + 1 ≤ length s.rest) → (n : ℕ) (b : B) (s : State) (xs : List A) → length s.rest + 1 ≤ n → Q b xs → RunsOn (spelled b xs) s → Finds (many go item next n b s) xs r
 unfolding many
-many_finds spelled Q r go item next done more uses zero b s xs w q h = absurd (omega arith)
-many_finds spelled Q r go item next done more uses (suc n) b s [] w q h =
+many_finds_from spelled Q r go item next done more uses zero b s xs w q h = absurd (omega arith)
+many_finds_from spelled Q r go item next done more uses (suc n) b s [] w q h =
     let d = done b s h in
     if_finds_no (go b s) _ _ [] r d.0 (refl, d.1)
-many_finds spelled Q r go item next done more uses (suc n) b s (x ∷ xs) w q h =
+many_finds_from spelled Q r go item next done more uses (suc n) b s (x ∷ xs) w q h =
     let m = more b s x xs q h in
     if_finds_yes (go b s) _ _ (x ∷ xs) r m.0
     (read_finds (item b s) x (spelled (next b x) xs) r _ (x ∷ xs) m.2 (λ t e g.
     let v = uses b s x t m.0 e in
-    bind_finds (many go item next n (next b x) t) xs r r _ (x ∷ xs) (many_finds spelled Q r go item next done more uses n (next b x) t xs (omega arith) m.1 g) (λ u i. (refl, i))))
+    bind_finds (many go item next n (next b x) t) xs r r _ (x ∷ xs) (many_finds_from spelled Q r go item next done more uses n (next b x) t xs (omega arith) m.1 g) (λ u i. (refl, i))))
+
+-- the same, where what is known of the items doesn't rest on what stood before
+pub many_finds : {A B : Type 0} (spelled : B → List A → List Mark) (Q : List A → Type 0) (r : List Mark) (go : B → State → Bool) (item : B → State → Read A) (next : B → A → B) → ((b : B) (s : State) → RunsOn (spelled b []) s → (go b s ≡ false) × RunsOn r s) → ((b : B) (s : State) (x : A) (xs : List A) → Q (x ∷ xs) → RunsOn (spelled b (x ∷ xs)) s → (go b s ≡ true) × Q xs × Finds (item b s) x (spelled (next b x) xs)) → ((b : B) (s : State) (x : A) (t : State) → go b s ≡ true → item b s ≡ Some (x, t) → length t.rest + 1 ≤ length s.rest) → (n : ℕ) (b : B) (s : State) (xs : List A) → length s.rest + 1 ≤ n → Q xs → RunsOn (spelled b xs) s → Finds (many go item next n b s) xs r
+many_finds spelled Q r go item next done more uses n b s xs w q h = many_finds_from spelled (λ b. Q) r go item next done more uses n b s xs w q h
+
+-- the first item, if there is one
+abbrev pub First : {A : Type 0} → (A → Type 0) → List A → Type 0
+First P [] = Unit {0}
+First P (x ∷ xs) = P x
+
+-- what the reader of items yields for the first is so of the list's first
+pub many_first : {A B : Type 0} (P : A → Type 0) (go : B → State → Bool) (item : B → State → Read A) (next : B → A → B) (n : ℕ) (b : B) (s : State) → Yields (item b s) (λ x t. P x) → Yields (many go item next n b s) (λ xs t. First P xs)
+unfolding many
+many_first P go item next zero b s h = tt
+many_first P go item next (suc n) b s h =
+    if_yields (go b s) _ _ (λ xs t. First P xs)
+    (λ a. bind_yields (item b s) _ (λ x t. P x) _ h (λ x t k.
+    bind_yields (many go item next n (next b x) t) _ (λ xs u. Unit {0}) _ (yields (many go item next n (next b x) t) _ (λ xs u e. tt)) (λ xs u i. k)))
+    (λ a. tt)
 
 -- ---- one item after another, with nothing between
 

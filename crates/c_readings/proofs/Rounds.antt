@@ -46,7 +46,7 @@ none_left [] = refl
 none_left (t ∷ ts) = refl
 
 -- what reads nothing is exact where each tree is higher than the limit
-nothing_exact : {A : Type 0} (spelled : A → List Mark → List Mark) (Fits : A → Type 0) (goes_on : A → Lexeme → Bool) (high : A → ℕ) (least : ℕ) (read : State → Read A) → ((x : A) → 1 ≤ high x) → ((s : State) → read s ≡ None) → Exact spelled Fits goes_on high 0 least read
+pub nothing_exact : {A : Type 0} (spelled : A → List Mark → List Mark) (Fits : A → Type 0) (goes_on : A → Lexeme → Bool) (high : A → ℕ) (least : ℕ) (read : State → Read A) → ((x : A) → 1 ≤ high x) → ((s : State) → read s ≡ None) → Exact spelled Fits goes_on high 0 least read
 nothing_exact spelled Fits goes_on high least read some none = record {
   piece = λ s x t h. let e = none s in absurd cc;
   found = λ s x r f l g h. let k = some x in absurd (omega arith);

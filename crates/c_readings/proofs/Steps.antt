@@ -176,6 +176,11 @@ pub read_finds : {A B : Type 0} (o : Read A) (x : A) (m r : List Mark) (k : A �
 read_finds None x m r k z f g = absurd f
 read_finds (Some p) x m r k z f g = subst (λ y. Finds (k y p.1) z r) (sym f.0) (g p.1 (ap (λ y. Some (y, p.1)) f.0) f.1)
 
+-- what is found is what is read
+pub found_read : {A : Type 0} (o : Read A) (x : A) (r : List Mark) → Finds o x r → (t : State) × (o ≡ Some (x, t))
+found_read None x r f = absurd f
+found_read (Some p) x r f = (p.1, ap (λ y. Some (y, p.1)) f.0)
+
 pub if_finds_yes : {B : Type 0} (b : Bool) (p q : Read B) (z : B) (r : List Mark) → b ≡ true → Finds p z r → Finds (if b then p else q) z r
 if_finds_yes b p q z r h f = subst (λ c. Finds (if c then p else q) z r) (sym h) f
 
@@ -252,3 +257,18 @@ fails_on is m names (t ∷ ts) g h = g t.lexeme (next_runs m names t ts h)
 -- a test on the first token that fails on what is next among the marks
 pub fails_next : (is : Lexeme → Bool) (m : List Mark) (s : State) → ((l : Lexeme) → next m ≡ Some l → is l ≡ false) → RunsOn m s → first_is is (lexemes s.rest) ≡ false
 fails_next is m s g h = fails_on is m s.names s.rest g h
+
+-- ---- a question before a tree
+
+-- where what begins the tree answers the question so, it may be asked before it
+pub asked_exact : {A : Type 0} (t : Test) (b : Bool) (spelled : A → List Mark → List Mark) (Fits : A → Type 0) (goes_on : A → Lexeme → Bool) (high : A → ℕ) (limit least : ℕ) (read : State → Read A) → Exact spelled Fits goes_on high limit least read → ((x : A) (m : List Mark) (s : State) → Fits x → RunsOn (spelled x m) s → answer t s ≡ b) → Exact (λ x r. Ask t b ∷ spelled x r) Fits goes_on high limit least read
+asked_exact t b spelled Fits goes_on high limit least read e begins = record {
+  piece = λ s x u k. let h = e.piece s x u k in record {
+    fits = h.fits;
+    low = h.low;
+    ends = h.ends;
+    used = h.used;
+    runs = λ r. (λ a. (h.runs r).0 a.1, λ a. let m = (h.runs r).1 a in (begins x r s h.fits m, m));
+  };
+  found = λ s x r f l c h. e.found s x r f l c h.1;
+}

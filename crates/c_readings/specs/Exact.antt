@@ -3,13 +3,13 @@
 use Rattle.std.specs.Prelude.{◌≡◌, ◌≤◌, ◌↔◌, ◌+◌, ℕ, length, Bool, true, false, Some, None, List, [], ◌∷◌}
 use Rattle.c_ast.specs.Lexemes.{Lexeme, Placed}
 use Rattle.c_ast.specs.Marks.{Mark, Runs, next}
-use Rattle.c_ast.specs.Trees.{ExprTree, MaybeExpr, NoExpr, AnExpr, TypeNameTree, SpecifiersTree, FieldTree, Field, EnumeratorTree, Enumerator, DeclaratorTree, MaybeDeclarator, NoDeclarator, ADeclarator, ParameterTree, MemberTree}
+use Rattle.c_ast.specs.Trees.{ExprTree, DeclaratorTree}
 use Rattle.c_ast.specs.ExprMarks as marks
 use Rattle.c_ast.specs.Levels.{rank, Parts, FitsTypeName, FitsSpecifiers, FitsMember, FitsDeclarator, is_named}
 use Rattle.c_ast.specs.Heights.{height, type_name_height, specifiers_height, member_height, declarator_height}
 use Rattle.c_ast.specs.Reach.{goes_on, goes_on_whole}
 use Rattle.c_readings.specs.Reading.{State, Read}
-use Rattle.c_readings.specs.Readers.{Readers, readers, type_name, specifiers}
+use Rattle.c_readings.specs.Readers.{Readers, type_name, specifiers}
 
 abbrev pub RunsOn : List Mark → State → Type 0
 RunsOn ms s = Runs ms s.names s.rest

@@ -18,7 +18,7 @@ use Rattle.c_ast.specs.Reach.{LinkKind, Index, Call, Select, Step, Operate, Ques
 use Rattle.c_ast.specs.Trees.{ExprTree, Variable, IntegerConstant, CharacterConstant, Literal, Enclosed, Prefixed, SizedExpr, SizedType, Converted, Sequence, ExprTrees, NoExprs, MaybeExpr, NoExpr, AnExpr, TypeNameTree, TypeNamed, SpecifiersTree, Specified, SpecifierTree, Stored, Qualified, Basic, Record, RecordTag, Enumeration, EnumerationTag, NamedType, MemberTree, Members, MemberTrees, FieldTree, Field, FieldTrees, EnumeratorTree, Enumerator, EnumeratorTrees, DeclaratorTree, Declarator, MaybeDeclarator, NoDeclarator, ADeclarator, CoreTree, Named, Inner, Omitted, SuffixTree, ArraySuffix, Prototype, NameList, NoParameters, SuffixTrees, ParameterTree, Parameter, ParameterTrees}
 use Rattle.c_readings.specs.Links.{LinkTree, Indexed, Arguments, Member, Postfix, Operand, Choices, Value, linked, kind_at}
 use Rattle.c_readings.specs.Words.{Word, StorageWord, QualifierWord, BasicWord, RecordWord, EnumWord, word_of, prefix_of}
-use Rattle.c_readings.specs.Reading.{State, Read, gives, bind, answer, ask, here, tail, beyond, with_first, one_sign, one_name, put_state, open_state, close_state, many, all_of, commas}
+use Rattle.c_readings.specs.Reading.{State, Read, gives, bind, answer, ask, here, tail, beyond, with_first, one_sign, one_name, put_state, open_state, close_state, all_of, commas}
 
 -- readers of the trees that count in a height, up to a limit: expressions of a level, 1 or more, and whole ones, declarators
 -- (free: the name may be left out; outer: no part of another), and lines of members

@@ -1,7 +1,7 @@
 -- Readings of trees from a state: the names in force, and the tokens that are left.
-use Rattle.std.specs.Prelude.{ℕ, zero, suc, Bool, true, false, if◌then◌else◌, Option, Some, None, List, [], ◌∷◌, ◌+◌, length}
+use Rattle.std.specs.Prelude.{ℕ, zero, suc, nat_le, Bool, true, false, if◌then◌else◌, Option, Some, None, List, [], ◌∷◌, ◌+◌, length}
 use Rattle.c_ast.specs.Lexemes.{Lexeme, Name, Keyword, Integer, Character, Text, Sign, Placed}
-use Rattle.c_ast.specs.InForce.{InForce, put, opened, closed, closed_kept}
+use Rattle.c_ast.specs.InForce.{InForce, put, opened, closed, closed_kept, reopened, forgotten}
 use Rattle.c_ast.specs.Marks.{Test, IsSign, holds, lexemes}
 
 pub record State : Type 0 where
@@ -19,6 +19,10 @@ gives x s = Some (x, s)
 abbrev pub bind : {A B : Type 0} → Read A → (A → State → Read B) → Read B
 bind None k = None
 bind (Some p) k = k p.0 p.1
+
+-- where it is no higher than so much
+abbrev pub no_higher : {A : Type 0} → (A → ℕ) → ℕ → Read A → Read A
+no_higher high limit o = bind o (λ x s. if nat_le (high x) limit then gives x s else None)
 
 -- ---- what is next
 
@@ -81,6 +85,14 @@ open_state s = record { names = opened s.names; rest = s.rest }
 abbrev pub close_state : Bool → State → State
 close_state true s = record { names = closed_kept s.names; rest = s.rest }
 close_state false s = record { names = closed s.names; rest = s.rest }
+
+-- no parameters' names are kept
+abbrev pub forget_state : State → State
+forget_state s = record { names = forgotten s.names; rest = s.rest }
+
+-- the parameters' scope is open again
+abbrev pub reopen_state : State → State
+reopen_state s = record { names = reopened s.names; rest = s.rest }
 
 -- ---- lists
 

@@ -1,8 +1,9 @@
-ghost use Rattle.std.specs.Prelude.{◌≡◌, Bool, ℕ};
+ghost use Rattle.std.specs.Prelude.{◌≡◌, ◌≤◌, Bool, ℕ};
 ghost use Rattle.c_ast.specs.ExprMarks as marks;
 ghost use Rattle.c_readings.specs.Readers.{readers};
 ghost use Rattle.c_readings.specs.Exact.{AreExact, TypesAreExact};
 ghost use Rattle.c_readings.specs.Fronts.{AreFronts};
+ghost use Rattle.c_readings.specs.UnitExact.{UnitsAreExact};
 
 /// At each limit on height, the readers give each piece of their productions that is no higher, and
 /// nothing else.
@@ -18,4 +19,10 @@ pub fn pieces_are_fronts()
     ensures type_name { AreFronts marks.type_name }
     ensures specifiers { AreFronts marks.specifiers }
     ensures declarator { (free outer : Bool) → AreFronts (marks.declarator free outer) }
+{}
+
+/// Over the readers at a limit, those of initialisers, declarations, statements and units up to no
+/// greater a limit give each piece that is no higher, and nothing else.
+pub fn units_are_exact()
+    ensures { (limit n : ℕ) → n ≤ limit → UnitsAreExact (readers limit) n }
 {}
