@@ -16,16 +16,13 @@ use Rattle.c_readings.specs.Readers.{readers, declarator_above, core, pointers_i
 use Rattle.c_readings.specs.Exact.{Finds, Exact, AreExact, TypesAreExact, FitsAt, FitsFree, nothing_more, where_left}
 use Rattle.c_readings.specs.Fronts.{AreFronts}
 use Rattle.c_expr.specs.Answers.{at, Fails}
+use Rattle.c_expr.proofs.Loops.{as_many}
 use Rattle.c_expr.specs.Productions.{Production, IsTaken, Stands, declarator}
 use Rattle.c_expr.specs.State.{MParser, IsStopped, ahead, Took, Refused, Again, NoPiece, NoMemory}
 use Rattle.c_expr.specs.declared.stop.Stop.{Stop}
 use Rattle.c_expr.specs.declared.stop.Stop.TheVariants as stop
 use Rattle.c_expr.specs.declared.syntax_fault.SyntaxFault.{SyntaxFault}
 use Rattle.c_expr.specs.declared.syntax_fault.SyntaxFault.TheVariants.{NoParse, Memory, Lex}
-
-length_placed : (source : List ℕ) (ts : List Token) → length (placed source ts) ≡ length ts
-length_placed source [] = refl
-length_placed source (t ∷ ts) = ap suc (length_placed source ts)
 
 drop_placed : (source : List ℕ) (n : ℕ) (ts : List Token) → drop n (placed source ts) ≡ placed source (drop n ts)
 drop_placed source zero ts = refl
@@ -39,7 +36,7 @@ before names p = at names p.source (drop p.place p.tokens)
 -- what is left behind a piece, at the place that is computed from how many they are
 left_behind : (old : MParser) (us : List Token) → old.place ≤ length old.tokens → length us ≤ length (drop old.place old.tokens) → placed old.source us ≡ drop (length (placed old.source (drop old.place old.tokens)) - length (placed old.source us)) (placed old.source (drop old.place old.tokens)) → placed old.source us ≡ placed old.source (drop (length old.tokens - length us) old.tokens)
 left_behind old us bound short e =
-    let n : length (placed old.source (drop old.place old.tokens)) - length (placed old.source us) ≡ length old.tokens - old.place - length us = omega (arith, length_placed old.source (drop old.place old.tokens), length_placed old.source us, length-drop old.place old.tokens) in
+    let n : length (placed old.source (drop old.place old.tokens)) - length (placed old.source us) ≡ length old.tokens - old.place - length us = omega (arith, as_many old.source (drop old.place old.tokens), as_many old.source us, length-drop old.place old.tokens) in
     let k : old.place + (length old.tokens - old.place - length us) ≡ length old.tokens - length us = omega (arith, bound, short, length-drop old.place old.tokens) in
     e ∙ ap (λ m. drop m (placed old.source (drop old.place old.tokens))) n
     ∙ drop_placed old.source (length old.tokens - old.place - length us) (drop old.place old.tokens)
@@ -49,31 +46,35 @@ left_behind old us bound short e =
 abbrev passed : MParser → InForce → List Token → MParser
 passed old names us = record old { place = length old.tokens - length us; names = names }
 
-pub took : (P : Production) (read : State → Read P.Tree) → Exact P.spelled P.Fits P.goes_on P.high 500 P.least read → AreFronts P.spelled → (old new : MParser) (names names' : InForce) (x : P.Tree) (us : List Token) → old.place ≤ length old.tokens → length us ≤ length (drop old.place old.tokens) → old.fault ≡ None → new ≡ passed old names' us → read (before names old) ≡ Some (x, at names' old.source us) → Took P (before names old) old x new
-took P read e f old new names names' x us bound short fault same y =
+pub took : (P : Production) → Exact P.spelled P.Fits P.goes_on P.high 500 P.least P.read → AreFronts P.spelled → (old new : MParser) (names names' : InForce) (x : P.Tree) (us : List Token) → old.place ≤ length old.tokens → length us ≤ length (drop old.place old.tokens) → old.fault ≡ None → new ≡ passed old names' us → P.read (before names old) ≡ Some (x, at names' old.source us) → Took P (before names old) old x new
+unfolding ahead
+took P e f old new names names' x us bound short fault same y =
     let p = e.piece (before names old) x (at names' old.source us) y in
     let q : at names' old.source us ≡ ahead (passed old names' us) = ap (λ ts. record { names = names'; rest = ts }) (left_behind old us bound short (f (before names old) (at names' old.source us) x p.runs)) in
     subst (λ (n : MParser). Took P (before names old) old x n) (sym same) record {
       taken = subst (λ (t : State). IsTaken P (before names old) x t) q p;
+      reads = y ∙ ap (λ t. Some (x, t)) q;
       before = fault;
-      further = omega (arith, bound, short, p.used, length_placed old.source us, length_placed old.source (drop old.place old.tokens), length-drop old.place old.tokens);
+      further = omega (arith, bound, short, p.used, as_many old.source us, as_many old.source (drop old.place old.tokens), length-drop old.place old.tokens);
       same = refl;
     }
 
 -- where the reader gives nothing, no tree stands
-pub none_stands : (P : Production) (read : State → Read P.Tree) → Exact P.spelled P.Fits P.goes_on P.high 500 P.least read → (s : State) → read s ≡ None → Stands P s → ⊥
-none_stands P read e s y st = subst (λ (o : Read P.Tree). Finds o st.tree st.others) y (e.found s st.tree st.others st.fits st.low st.stops st.runs)
+pub none_stands : (P : Production) → Exact P.spelled P.Fits P.goes_on P.high 500 P.least P.read → (s : State) → P.read s ≡ None → Stands P s → ⊥
+none_stands P e s y st = subst (λ (o : Read P.Tree). Finds o st.tree st.others) y (e.found s st.tree st.others st.fits st.low st.stops st.runs)
 
 no_memory : {left : ℕ} {C : Type 0} → stop.NoParse left ≡ stop.Memory → C
 no_memory h = absurd cc
 
-pub refused : (P : Production) (s : State) (old new : MParser) (o : Read P.Tree) → (o ≡ None → Stands P s → ⊥) → (st : Stop) (fault : SyntaxFault) → old.fault ≡ None → Fails st o → IsStopped old.tokens st fault → new ≡ record old { names = new.names; fault = Some fault } → Refused P s old new fault
-refused P s old new o none (stop.NoParse left) (NoParse line) h f i k = NoPiece line h (none (elim f [ inl e ↦ no_memory e | inr e ↦ e ])) i k
-refused P s old new o none (stop.NoParse left) Memory h f i k = absurd i
-refused P s old new o none (stop.NoParse left) (Lex fault) h f i k = absurd i
-refused P s old new o none stop.Memory (NoParse line) h f i k = absurd i
-refused P s old new o none stop.Memory Memory h f i k = NoMemory h k
-refused P s old new o none stop.Memory (Lex fault) h f i k = absurd i
+pub refused : (P : Production) (s : State) (old new : MParser) → (P.read s ≡ None → Stands P s → ⊥) → (st : Stop) (fault : SyntaxFault) → old.fault ≡ None → Fails st (P.read s) → IsStopped old.tokens st fault → new ≡ record old { names = new.names; fault = Some fault } → Refused P s old new fault
+refused P s old new none (stop.NoParse left) (NoParse line) h f i k =
+    let e : P.read s ≡ None = elim f [ inl m ↦ no_memory m | inr n ↦ n ] in
+    NoPiece line h (none e) e i k
+refused P s old new none (stop.NoParse left) Memory h f i k = absurd i
+refused P s old new none (stop.NoParse left) (Lex fault) h f i k = absurd i
+refused P s old new none stop.Memory (NoParse line) h f i k = absurd i
+refused P s old new none stop.Memory Memory h f i k = NoMemory h k
+refused P s old new none stop.Memory (Lex fault) h f i k = absurd i
 
 -- ---- a declarator, of which nothing stands where nothing is left
 
@@ -113,23 +114,23 @@ same_state : (names : InForce) (source src : List ℕ) (tokens toks : List Token
 same_state names source src tokens toks place e f =
     ap (λ ts. at names src ts) (take_rest toks place ∙ ap (λ ts. drop place ts) f) ∙ ap (λ z. at names z (drop place tokens)) e
 
-pub took_by : (P : Production) (read : State → Read P.Tree) → Exact P.spelled P.Fits P.goes_on P.high 500 P.least read → AreFronts P.spelled → (g : InForce → InForce) (source src : List ℕ) (tokens toks : List Token) (place many : ℕ) (names names' : InForce) (fault : Option SyntaxFault) (old : MParser) (x : P.Tree) (us : List Token) → src ≡ source → toks ≡ tokens → many ≡ length tokens → place ≤ length tokens → fault ≡ None → parser_of source tokens place names fault ≡ old → length us ≤ length (rest_of place toks) → read (at (g names) src (rest_of place toks)) ≡ Some (x, at names' src us) → Took P (before (g old.names) old) old x (parser_of source tokens (many - length us) names' fault)
-took_by P read e f g source src tokens toks place many names names' fault old x us es et em bound none v short y =
+pub took_by : (P : Production) → Exact P.spelled P.Fits P.goes_on P.high 500 P.least P.read → AreFronts P.spelled → (g : InForce → InForce) (source src : List ℕ) (tokens toks : List Token) (place many : ℕ) (names names' : InForce) (fault : Option SyntaxFault) (old : MParser) (x : P.Tree) (us : List Token) → src ≡ source → toks ≡ tokens → many ≡ length tokens → place ≤ length tokens → fault ≡ None → parser_of source tokens place names fault ≡ old → length us ≤ length (rest_of place toks) → P.read (at (g names) src (rest_of place toks)) ≡ Some (x, at names' src us) → Took P (before (g old.names) old) old x (parser_of source tokens (many - length us) names' fault)
+took_by P e f g source src tokens toks place many names names' fault old x us es et em bound none v short y =
     let h = same_state (g names) source src tokens toks place es et in
     let first = parser_of source tokens place names fault in
-    let y' : read (at (g names) source (drop place tokens)) ≡ Some (x, at names' source us) = ap read (sym h) ∙ y ∙ ap (λ z. Some (x, at names' z us)) es in
+    let y' : P.read (at (g names) source (drop place tokens)) ≡ Some (x, at names' source us) = ap P.read (sym h) ∙ y ∙ ap (λ z. Some (x, at names' z us)) es in
     let short' : length us ≤ length (drop place tokens) = subst (λ (z : List Token). length us ≤ length z) (take_rest toks place ∙ ap (λ ts. drop place ts) et) short in
     let same : parser_of source tokens (many - length us) names' fault ≡ passed first names' us = ap (λ n. parser_of source tokens (n - length us) names' fault) em in
     subst (λ (p : MParser). Took P (before (g p.names) p) p x (parser_of source tokens (many - length us) names' fault)) v
-    (took P read e f first (parser_of source tokens (many - length us) names' fault) (g names) names' x us bound short' none same y')
+    (took P e f first (parser_of source tokens (many - length us) names' fault) (g names) names' x us bound short' none same y')
 
-pub refused_by : (P : Production) (read : State → Read P.Tree) → Exact P.spelled P.Fits P.goes_on P.high 500 P.least read → (g : InForce → InForce) (source src : List ℕ) (tokens toks : List Token) (place : ℕ) (names names' : InForce) (fault : Option SyntaxFault) (old new : MParser) (st : Stop) (result : SyntaxFault) → src ≡ source → toks ≡ tokens → fault ≡ None → parser_of source tokens place names fault ≡ old → new ≡ parser_of source tokens place names' (Some result) → IsStopped tokens st result → Fails st (read (at (g names) src (rest_of place toks))) → Refused P (before (g old.names) old) old new result
-refused_by P read e g source src tokens toks place names names' fault old new st result es et none v w i f =
+pub refused_by : (P : Production) → Exact P.spelled P.Fits P.goes_on P.high 500 P.least P.read → (g : InForce → InForce) (source src : List ℕ) (tokens toks : List Token) (place : ℕ) (names names' : InForce) (fault : Option SyntaxFault) (old new : MParser) (st : Stop) (result : SyntaxFault) → src ≡ source → toks ≡ tokens → fault ≡ None → parser_of source tokens place names fault ≡ old → new ≡ parser_of source tokens place names' (Some result) → IsStopped tokens st result → Fails st (P.read (at (g names) src (rest_of place toks))) → Refused P (before (g old.names) old) old new result
+refused_by P e g source src tokens toks place names names' fault old new st result es et none v w i f =
     let h = same_state (g names) source src tokens toks place es et in
     let first = parser_of source tokens place names fault in
     subst (λ (p : MParser). Refused P (before (g p.names) p) p new result) v
-    (refused P (before (g names) first) first new (read (before (g names) first)) (none_stands P read e (before (g names) first)) st result none
-    (subst (λ (s : State). Fails st (read s)) h f) i (w ∙ ap (λ n. parser_of source tokens place n (Some result)) (sym (ap (λ (p : MParser). p.names) w))))
+    (refused P (before (g names) first) first new (none_stands P e (before (g names) first)) st result none
+    (subst (λ (s : State). Fails st (P.read s)) h f) i (w ∙ ap (λ n. parser_of source tokens place n (Some result)) (sym (ap (λ (p : MParser). p.names) w))))
 
 pub again : (P : Production) (s : State) (fault : SyntaxFault) (o : Option SyntaxFault) (old : MParser) → old.fault ≡ o → o ≡ Some fault → Refused P s old old fault
 again P s fault o old e f = Again fault (e ∙ f) refl

@@ -8,11 +8,13 @@ use Rattle.c_ast.specs.ExprMarks as marks
 use Rattle.c_ast.specs.Levels.{Parts, FitsTypeName, FitsSpecifiers}
 use Rattle.c_ast.specs.Heights.{height, type_name_height, specifiers_height, declarator_height}
 use Rattle.c_ast.specs.Reach.{goes_on, goes_on_whole}
-use Rattle.c_readings.specs.Reading.{State}
-use Rattle.c_readings.specs.Exact.{IsPiece, FitsAt, FitsFree, RunsOn, Stops, nothing_more}
+use Rattle.c_readings.specs.Reading.{State, Read}
+use Rattle.c_readings.specs.Readers.{readers}
+use Rattle.c_readings.specs.Readers as reader
+use Rattle.c_readings.specs.Exact.{IsPiece, FitsAt, FitsFree, RunsOn, Stops, nothing_more, where_left}
 
--- its trees, what they are spelled by, which of them fit, which token goes on from one, how high they are, and how many tokens
--- they have at least
+-- its trees, what they are spelled by, which of them fit, which token goes on from one, how high they are, how many tokens they
+-- have at least, and what a reader of those no higher than 500 gives
 pub record Production : Type 1 where
   pub Tree : Type 0
   pub spelled : Tree → List Mark → List Mark
@@ -20,24 +22,25 @@ pub record Production : Type 1 where
   pub goes_on : Tree → Lexeme → Bool
   pub high : Tree → ℕ
   pub least : ℕ
+  pub read : State → Read Tree
 
 -- an expression, perhaps with commas
 abbrev pub whole_expression : Production
-whole_expression = record { Tree = ExprTree; spelled = marks.expr; Fits = Parts; goes_on = goes_on_whole; high = height; least = 1 }
+whole_expression = record { Tree = ExprTree; spelled = marks.expr; Fits = Parts; goes_on = goes_on_whole; high = height; least = 1; read = (readers 500).whole }
 
 -- an expression of the level: 1 an assignment, 2 a conditional expression
 abbrev pub expression : ℕ → Production
-expression level = record { Tree = ExprTree; spelled = marks.expr; Fits = FitsAt level; goes_on = goes_on level; high = height; least = 1 }
+expression level = record { Tree = ExprTree; spelled = marks.expr; Fits = FitsAt level; goes_on = goes_on level; high = height; least = 1; read = (readers 500).piece level }
 
 abbrev pub type_name : Production
-type_name = record { Tree = TypeNameTree; spelled = marks.type_name; Fits = FitsTypeName; goes_on = nothing_more; high = type_name_height; least = 1 }
+type_name = record { Tree = TypeNameTree; spelled = marks.type_name; Fits = FitsTypeName; goes_on = nothing_more; high = type_name_height; least = 1; read = reader.type_name (readers 500) }
 
 abbrev pub specifiers : Production
-specifiers = record { Tree = SpecifiersTree; spelled = marks.specifiers; Fits = FitsSpecifiers; goes_on = nothing_more; high = specifiers_height; least = 1 }
+specifiers = record { Tree = SpecifiersTree; spelled = marks.specifiers; Fits = FitsSpecifiers; goes_on = nothing_more; high = specifiers_height; least = 1; read = reader.specifiers (readers 500) }
 
 -- a declarator that declares a name and is no part of another
 abbrev pub declarator : Production
-declarator = record { Tree = DeclaratorTree; spelled = marks.declarator false true; Fits = FitsFree false; goes_on = nothing_more; high = declarator_height; least = 0 }
+declarator = record { Tree = DeclaratorTree; spelled = marks.declarator false true; Fits = FitsFree false; goes_on = nothing_more; high = declarator_height; least = 0; read = λ s. where_left s.rest ((readers 500).declarator false true s) }
 
 -- from the state on stands the tree, which fits and is no higher than 500; behind it is the state t, from which nothing goes on
 -- from it

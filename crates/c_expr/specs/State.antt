@@ -2,11 +2,11 @@
 -- if any.
 -- Source: C89 2.1.1.2 and 3.1.2.1.
 use Rattle.std.specs.Prelude.{◌≡◌, ◌≤◌, ◌+◌, ◌⊎◌, ℕ, Option, None, Some, List, slice_get, drop}
-use Rattle.c_ast.specs.InForce.{InForce, forgotten}
+use Rattle.c_ast.specs.InForce.{InForce}
 use Rattle.c_lexer.specs.declared.token.Token.{Token}
 use Rattle.c_lexer.specs.Tokens.{first_place, AreTokens}
 use Rattle.c_lexer.specs.PlacedTokens.{placed}
-use Rattle.c_readings.specs.Reading.{State}
+use Rattle.c_readings.specs.Reading.{State, forget_state}
 use Rattle.c_expr.specs.Productions.{Production, IsTaken, Stands}
 use Rattle.c_expr.specs.declared.stop.Stop.{Stop}
 use Rattle.c_expr.specs.declared.stop.Stop.TheVariants as stop
@@ -31,12 +31,12 @@ IsUncut source Memory = Unit {0}
 IsUncut source (Lex fault) = (ts : List Token) × AreTokens source first_place ts (Some fault)
 
 -- what is left
-abbrev pub ahead : MParser → State
+unfoldable pub ahead : MParser → State
 ahead p = record { names = p.names; rest = placed p.source (drop p.place p.tokens) }
 
 -- the same where no parameters' names are kept
 abbrev pub forgetting : MParser → State
-forgetting p = record { names = forgotten p.names; rest = placed p.source (drop p.place p.tokens) }
+forgetting p = forget_state (ahead p)
 
 -- what a reader that stopped is answered as
 abbrev pub IsStopped : List Token → Stop → SyntaxFault → Type 0
@@ -50,6 +50,7 @@ IsStopped tokens stop.Memory (Lex fault) = ⊥
 -- a tree of the production that stands before s was taken
 pub record Took (P : Production) (s : State) (old : MParser) (x : P.Tree) (new : MParser) : Type 0 where
   pub taken : IsTaken P s x (ahead new)
+  pub reads : P.read s ≡ Some (x, ahead new)
   pub before : old.fault ≡ None
   pub further : old.place + P.least ≤ new.place
   pub same : new ≡ record old { place = new.place; names = new.names }
@@ -58,5 +59,5 @@ pub record Took (P : Production) (s : State) (old : MParser) (x : P.Tree) (new :
 -- and no token is taken
 pub data Refused (P : Production) (s : State) (old new : MParser) : SyntaxFault → Type 0 where
   Again : (fault : SyntaxFault) → old.fault ≡ Some fault → new ≡ old → Refused P s old new fault
-  NoPiece : (line : ℕ) → old.fault ≡ None → (Stands P s → ⊥) → IsLine old.tokens line → new ≡ record old { names = new.names; fault = Some (NoParse line) } → Refused P s old new (NoParse line)
+  NoPiece : (line : ℕ) → old.fault ≡ None → (Stands P s → ⊥) → P.read s ≡ None → IsLine old.tokens line → new ≡ record old { names = new.names; fault = Some (NoParse line) } → Refused P s old new (NoParse line)
   NoMemory : old.fault ≡ None → new ≡ record old { names = new.names; fault = Some Memory } → Refused P s old new Memory

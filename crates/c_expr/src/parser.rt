@@ -3,7 +3,7 @@ ghost use Rattle.c_ast.specs.InForce.{nothing_in_force, is_typedef, put, opened,
 ghost use Rattle.c_ast.specs.declared.class.Class.TheVariants.{Name};
 ghost use Rattle.c_lexer.specs.SourceUnits.{bytes_of};
 ghost use Rattle.c_lexer.specs.Tokens.{first_place, AreTokens};
-ghost use Rattle.c_expr.specs.declared.syntax_fault.SyntaxFault.TheVariants.{NoParse};
+ghost use Rattle.c_expr.specs.declared.syntax_fault.SyntaxFault.TheVariants.{Memory as OutOfMemory, NoParse};
 ghost use Rattle.c_expr.specs.Productions.{declarator, expression, specifiers, type_name, whole_expression};
 ghost use Rattle.c_expr.specs.Seen.{declarator_seen, expr_seen, specifiers_seen, type_name_seen};
 ghost use Rattle.c_expr.specs.State.{ahead, forgetting, IsLine, IsStopped, IsUncut, Refused, Took};
@@ -126,6 +126,19 @@ impl<'s> Parser<'s> {
         token.class == Class::Name && self.names.is_typedef(self.bytes(token))
     }
 
+    /// Where the parser allocates.
+    pub fn alloc(&self) -> Global {
+        self.alloc
+    }
+
+    /// The line of the token at the place, behind the end that of the last token, and 1 where there is
+    /// none.
+    pub fn line(&self) -> u32
+        ensures { IsLine self.now.tokens result }
+    {
+        self.line_before(self.tokens.len() - self.place)
+    }
+
     /// Takes the token at the place.
     pub fn pass(&mut self)
         requires { self.old.place < length self.old.tokens }
@@ -174,6 +187,13 @@ impl<'s> Parser<'s> {
         ensures { self.new ≡ record self.old { fault = Some (NoParse line) } }
     {
         self.fault = Some(SyntaxFault::NoParse { line });
+    }
+
+    /// From here on each call for a production answers Memory.
+    pub fn run_out(&mut self)
+        ensures { self.new ≡ record self.old { fault = Some OutOfMemory } }
+    {
+        self.fault = Some(SyntaxFault::Memory);
     }
 
     /// The fault that each call for a production answers; None exactly where there is none.
