@@ -1,0 +1,4 @@
+mod Places
+mod Lows
+mod Exits
+mod SeenNodes

@@ -1,0 +1,20 @@
+-- The trees that values are, as contracts of readers speak of them: they are not unfolded there.
+use Rattle.std.specs.Prelude.{ℕ}
+use Rattle.c_ast.specs.declared.statement.InitialiserForm.{InitialiserForm}
+use Rattle.c_ast.specs.declared.statement.Initialiser.{Initialiser}
+use Rattle.c_ast.specs.declared.statement.InitDeclarator.{InitDeclarator}
+use Rattle.c_ast.specs.declared.statement.Declaration.{Declaration}
+use Rattle.c_ast.specs.Trees.{InitialiserTree, InitTree, DeclarationTree}
+use Rattle.c_ast.specs.UnitViews.{initialiser_of, initialiser_form_of, init_of, declaration_of}
+
+unfoldable pub initialiser_seen : Initialiser → InitialiserTree
+initialiser_seen v = initialiser_of v
+
+unfoldable pub initialiser_form_seen : InitialiserForm → ℕ → InitialiserTree
+initialiser_form_seen v line = initialiser_form_of v line
+
+unfoldable pub init_seen : InitDeclarator → InitTree
+init_seen v = init_of v
+
+unfoldable pub declaration_seen : Declaration → DeclarationTree
+declaration_seen v = declaration_of v
