@@ -1,0 +1,5 @@
+mod SeenNodes
+mod Declared
+mod Dispatch
+mod ExternalLists
+mod Denoted

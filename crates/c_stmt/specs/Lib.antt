@@ -1,0 +1,5 @@
+pub mod Listed
+pub mod Productions
+pub mod Seen
+pub mod Units
+pub mod Words

@@ -1,0 +1,14 @@
+//! Readers of C's statements and units.
+#![tactic(auto)]
+
+mod conditions;
+mod externals;
+mod nodes;
+mod statements;
+#[cfg(test)]
+mod tests;
+mod units;
+mod words;
+
+pub use statements::statement;
+pub use units::unit;
