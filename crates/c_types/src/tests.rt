@@ -1,5 +1,5 @@
 ghost use Rattle.std.specs.Prelude.{◌<◌, ◌≤◌, ℕ, length, IfOk, OnOk};
-ghost use Rattle.c_types.specs.Table.{AreMembersBelow};
+ghost use Rattle.c_types.specs.Table.{AreMembersBelow, IsOpen};
 
 use super::*;
 use lcc_base::{Bytes, Items, Memory};
@@ -211,5 +211,91 @@ fn many_members(rt: HostRuntime) -> Result<(), Fail> {
     assert_eq!(rt; types.align(id), Some(1));
     let last = types.member(id, b"\x00\x01\x86\x9f");
     assert_eq!(rt; last.map(|place| place.offset), Some(99_999));
+    Ok(())
+}
+
+/// A structure that has no members so far, and a pointer to it.
+fn structure_and_pointer(types: &mut TypeTable) -> Result<(TypeId, TypeId), TypeFault>
+    ensures structure { IfOk result (λ ids. ids.0 < length types.new.forms) }
+    ensures pointer { IfOk result (λ ids. ids.1 < length types.new.forms) }
+    ensures longer { length types.old.forms ≤ length types.new.forms }
+{
+    let id = types.add(TypeForm::Structure)?;
+    let to = types.add(TypeForm::Pointer { to: id })?;
+    Ok((id, to))
+}
+
+/// The members x, y and z, of these types.
+fn three_members(alloc: Global, x: TypeId, y: TypeId, z: TypeId) -> Result<Items<Member>, Memory>
+    ensures { IfOk result (λ ms. (n : ℕ) → x < n → y < n → z < n → AreMembersBelow n ms) }
+{
+    let mut members = Items::new(alloc);
+    push_member(&mut members, alloc, b"x", x)?;
+    push_member(&mut members, alloc, b"y", y)?;
+    push_member(&mut members, alloc, b"z", z)?;
+    Ok(members)
+}
+
+/// Gives the structure the members x, y and z, of these types.
+fn complete_open(
+    types: &mut TypeTable,
+    alloc: Global,
+    id: TypeId,
+    x: TypeId,
+    y: TypeId,
+    z: TypeId,
+) -> Result<(), TypeFault>
+    requires id { IsOpen types.old id }
+    requires x { x < length types.old.forms }
+    requires y { y < length types.old.forms }
+    requires z { z < length types.old.forms }
+    ensures longer { length types.old.forms ≤ length types.new.forms }
+{
+    let members = three_members(alloc, x, y, z)?;
+    types.complete(id, members)
+}
+
+/// The offsets of the members x, y and z.
+fn offsets(types: &TypeTable, id: TypeId) -> [Option<u32>; 3]
+    requires { id < length types.now.forms }
+{
+    [
+        types.member(id, b"x").map(|place| place.offset),
+        types.member(id, b"y").map(|place| place.offset),
+        types.member(id, b"z").map(|place| place.offset),
+    ]
+}
+
+/// Structures that reach one another through pointers, as clang 14 lays them out for mips, mipsel
+/// and sparc:
+///
+/// ```c
+/// struct a { struct b *x; char y; short z; };
+/// struct b { struct a *x; struct a y; char z; };
+/// struct c { char x; struct c *y; short z; };
+/// ```
+#[test]
+fn linked_structures(rt: HostRuntime) -> Result<(), Fail> {
+    let mut types = TypeTable::new(rt.alloc());
+    let (a, to_a) = structure_and_pointer(&mut types)?;
+    let (b, to_b) = structure_and_pointer(&mut types)?;
+    let (c, to_c) = structure_and_pointer(&mut types)?;
+    let character = types.basic_type(1);
+    let short = types.basic_type(4);
+    assert!(rt; types.is_open(a));
+    complete_open(&mut types, rt.alloc(), a, to_b, character, short)?;
+    assert!(rt; types.is_open(b));
+    complete_open(&mut types, rt.alloc(), b, to_a, a, character)?;
+    assert!(rt; types.is_open(c));
+    complete_open(&mut types, rt.alloc(), c, character, to_c, short)?;
+    assert_eq!(rt; types.size(a), Some(8));
+    assert_eq!(rt; types.align(a), Some(4));
+    assert_eq!(rt; offsets(&types, a), [Some(0), Some(4), Some(6)]);
+    assert_eq!(rt; types.size(b), Some(16));
+    assert_eq!(rt; types.align(b), Some(4));
+    assert_eq!(rt; offsets(&types, b), [Some(0), Some(4), Some(12)]);
+    assert_eq!(rt; types.size(c), Some(12));
+    assert_eq!(rt; types.align(c), Some(4));
+    assert_eq!(rt; offsets(&types, c), [Some(0), Some(4), Some(8)]);
     Ok(())
 }
