@@ -253,6 +253,7 @@ num(nl);putchar(' ');num(nw);putchar(' ');num(nc);putchar('\\n');return 0;}
 fn read_again(rt: HostRuntime) -> Result<(), Fail> {
     let first = unit(rt.alloc(), COUNTER)?;
     let text = print(rt.alloc(), &first)?;
+    assert!(rt; text.len() <= 16_777_216);
     let second = unit(rt.alloc(), text.as_slice())?;
     let again = print(rt.alloc(), &second)?;
     assert_eq!(rt; again.as_slice(), text.as_slice());
