@@ -16,8 +16,10 @@ use Rattle.c_types.specs.declared.extent.Extent.{Extent}
 use Rattle.c_types.specs.declared.room.Room.{Room}
 use Rattle.c_types.specs.declared.definition.Definition.{Definition}
 use Rattle.c_types.specs.Bounds.{IsBounded}
-use Rattle.c_types.specs.Layout.{Field, start, laid, round_up, greatest_align, greatest_nesting, structure_extent, known, no_object}
-use Rattle.c_types.specs.Table.{Table, Completed, Extends, IsOpen, AreMembersBelow, are_objects, excess, fields_at, form_at, is_above, is_union, members_among, members_refusal, number_at, places_of, tag_of, tags}
+use Rattle.c_types.specs.Layout.{Field, start, laid, round_up, greatest_align, greatest_nesting, structure_extent, spots, known, no_object}
+use Rattle.c_types.specs.Members.{member_in, named}
+use Rattle.c_types.specs.Constness.{const_known, some_const}
+use Rattle.c_types.specs.Table.{Table, Completed, Extends, IsOpen, AreMembersBelow, are_objects, excess, fields_at, form_at, is_above, is_union, member_seen, member_types, members_among, members_refusal, number_at, places_of, tag_of, tags, types}
 use Rattle.c_types.specs.Keeps.{Keeps, IsDefinition, completed_in, forms_in, place_named}
 use Rattle.c_types.specs.Facts.{IsLaid}
 use Rattle.c_types.proofs.Insides.{length-forms, table_of}
@@ -25,6 +27,7 @@ use Rattle.c_types.proofs.Known.{known_apart}
 use Rattle.c_types.proofs.Defined.{apart, members_found, open_all, open_tagged}
 use Rattle.c_types.proofs.Stays.{Stays, fact_stays, fields_same, definition_stays, stays_with, tags_completed, with}
 use Rattle.c_types.proofs.Placed.{push_cases}
+use Rattle.c_types.proofs.Seen.{placed_seen}
 
 -- the extent of members that are laid
 pub extent_laid : (l : Laying) (kind : Bool) (fs : List Field) (ms : List Member) (x : Extent) → IsLaid l kind fs ms → x.size ≡ Some (round_up l.room.bytes l.align) → x.align ≡ l.align → x.nesting ≡ 1 + l.nesting → x ≡ structure_extent kind fs
@@ -104,10 +107,24 @@ module _ (basics : List TypeForm) (es : List (FormKey × Formed)) (ds : List (�
       let x = structure_extent (is_union (form_at before_it id)) (fields_at before_it d.members) in
       ap (λ ts. known ts n) (tags_completed before_it it) ∙ ap (λ (b : Bool). if b then x else known (tags before_it) n) e
 
+  member_now : (name : List ℕ) → member_in (tags (with before_it it)) (number_at before_it id) name ≡ named (member_types (types before_it) d.members) (spots (is_union (form_at before_it id)) start (fields_at before_it d.members)) name
+  member_now name =
+      let n = number_at before_it id in
+      let e : nat_eq n n ≡ true = grind (arith, nat_tests) in
+      let x = named (member_types (types before_it) d.members) (spots (is_union (form_at before_it id)) start (fields_at before_it d.members)) name in
+      ap (λ ts. member_in ts n name) (tags_completed before_it it) ∙ ap (λ (b : Bool). if b then x else member_in (tags before_it) n name) e
+
+  const_now : const_known (tags (with before_it it)) (number_at before_it id) ≡ some_const (const_known (tags before_it)) (member_types (types before_it) d.members)
+  const_now =
+      let n = number_at before_it id in
+      let e : nat_eq n n ≡ true = grind (arith, nat_tests) in
+      let x = some_const (const_known (tags before_it)) (member_types (types before_it) d.members) in
+      ap (λ ts. const_known ts n) (tags_completed before_it it) ∙ ap (λ (b : Bool). if b then x else const_known (tags before_it) n) e
+
   pub defined_now : Keeps basics es ds before_it → IsOpen before_it id → AreMembersBelow (length before_it.forms) d.members → members_refusal before_it id d.members ≡ None →
-      (l : Laying) → IsLaid l (is_union (form_at before_it id)) (fields_at before_it d.members) d.members → d.extent ≡ structure_extent (is_union (form_at before_it id)) (fields_at before_it d.members) → d.places ≡ l.places →
+      (l : Laying) → IsLaid l (is_union (form_at before_it id)) (fields_at before_it d.members) d.members → d.extent ≡ structure_extent (is_union (form_at before_it id)) (fields_at before_it d.members) → d.places ≡ l.places → d.constant ≡ some_const (const_known (tags before_it)) (member_types (types before_it) d.members) →
       IsDefinition (with before_it it) id d
-  defined_now k o m r l h x p =
+  defined_now k o m r l h x p s =
       let now = with before_it it in
       let ms = d.members in
       let objects = objects_of before_it id ms r in
@@ -123,6 +140,10 @@ module _ (basics : List TypeForm) (es : List (FormKey × Formed)) (ds : List (�
         complete = ap (λ (e : Extent). is_some e.size) x;
         bounded = bounded_within d.extent (ap (excess 1) x ∙ within_limits before_it id ms r) (omega (arith, a, w.0)) (omega (arith, a, w.1));
         places = λ name n. ap (λ m. place_named m name) p ∙ h.places name n ∙ ap (λ fs. places_of (is_union (form_at before_it id)) fs ms name) (sym f);
+        seen = λ name.
+            (let u = is_union (form_at before_it id) in
+            ap (λ fs. option_map (member_seen (types before_it)) (places_of u fs ms name)) f ∙ placed_seen (types before_it) ms (spots u start (fields_at before_it ms)) name ∙ sym (member_now name));
+        constant = const_now ∙ sym s;
       }
 
   pub keeps_completed : Keeps basics es ds before_it → IsOpen before_it id → IsDefinition (with before_it it) id d → Keeps basics es (ds ++ (id, d) ∷ []) (table_of basics es (ds ++ (id, d) ∷ []))

@@ -4,6 +4,7 @@ pub mod Below
 pub mod Bits
 pub mod Composed
 pub mod Completing
+pub mod Const
 pub mod Defined
 pub mod Fresh
 pub mod Growing
@@ -17,5 +18,6 @@ pub mod Noting
 pub mod Opening
 pub mod Pairs
 pub mod Placed
+pub mod Seen
 pub mod Sizes
 pub mod Stays

@@ -1,6 +1,6 @@
 -- A composite passes no limit that its two types keep.
 use Rattle.std.proofs.Common.{◌≡◌, ℕ, zero, suc, ◌+◌, ◌-◌, ◌<◌, ◌≤◌, Bool, true, false, List, [], ◌∷◌, ◌++◌, drop, get_or, length, max, refl, sym, ap, ◌∙◌, subst, true≢false, arith}
-use Rattle.std.specs.Prelude.{slice_get, ◌&&◌, ◌||◌, IfSome, None, Option, Some, is_some, nat_eq, nat_le, nat_lt, if◌then◌else◌}
+use Rattle.std.specs.Prelude.{IfSome, None, Option, Some, is_some, nat_eq, nat_le, nat_lt, if◌then◌else◌}
 use Rattle.std.specs.Option.{option_map}
 use Rattle.std.specs.Map.{lookup}
 use Rattle.std.proofs.lemmas.Bool.Decides.{nat_tests}
@@ -10,8 +10,6 @@ use Rattle.c_types.specs.declared.definition.Definition.{Definition}
 use Rattle.c_types.specs.declared.extent.Extent.{Extent}
 use Rattle.c_types.specs.declared.form_key.FormKey.{FormKey}
 use Rattle.c_types.specs.declared.qualifiers.Qualifiers.{Qualifiers}
-use Rattle.c_types.specs.declared.type_fault.TypeFault.{TypeFault}
-use Rattle.c_types.specs.declared.type_fault.TypeFault.TheVariants as fault
 use Rattle.c_types.specs.declared.type_form.TypeForm.{TypeForm}
 use Rattle.c_types.specs.declared.type_form.TypeForm.TheVariants as form
 use Rattle.c_types.specs.declared.type_table.Formed.{Formed}
@@ -20,10 +18,10 @@ use Rattle.c_types.specs.CType.{Basic, Void, Char, SignedChar, UnsignedChar, Sho
 use Rattle.c_types.specs.Compatible.{all_compatible, basic_place, compatible, kind_compatible, kinds_compatible, lengths_fit, parameters_compatible, same_flag}
 use Rattle.c_types.specs.Composite.{all_composite, composite, kinds_composite, known_length, parameters_composite}
 use Rattle.c_types.specs.Facts.{AreListsCompatible, Grows, IsOfObjects, IsWithin, first_compatible}
-use Rattle.c_types.specs.Keeps.{IsFact, IsSettled, Keeps, completed_in}
+use Rattle.c_types.specs.Keeps.{IsFact, IsSettled, Keeps}
 use Rattle.c_types.specs.Layout.{Tag, array_extent, basic_extent, extent, extent_by, kind_extent, known, no_object, scalar}
 use Rattle.c_types.specs.Readings.{is_array}
-use Rattle.c_types.specs.Table.{AreSomeBelow, Completed, Table, basic_forms, element_fault, excess, extent_at, form_at, form_refusal, formed, is_above, is_open_form, is_qualified, members_among, parameters_in, tag_of, tagged, tags, tags_of, type_at, type_in, types, types_in, types_of}
+use Rattle.c_types.specs.Table.{AreSomeBelow, Completed, Table, excess, extent_at, form_at, form_refusal, formed, is_above, is_open_form, is_qualified, members_among, parameters_in, tag_of, tagged, tags, tags_of, type_at, type_in, types, types_in}
 use Rattle.c_types.proofs.Bare.{basic_at}
 use Rattle.c_types.proofs.Bits.{depth_qualify, qualify_none}
 use Rattle.c_types.proofs.Composed.{same_types}

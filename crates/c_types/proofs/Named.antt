@@ -12,10 +12,12 @@ use Rattle.c_types.specs.declared.form_key.FormKey.{FormKey}
 use Rattle.c_types.specs.declared.type_table.Formed.{Formed}
 use Rattle.c_types.specs.declared.definition.Definition.{Definition}
 use Rattle.c_types.specs.CType.{qualify}
-use Rattle.c_types.specs.Table.{Table, basic_forms, is_tagged, is_open_form, is_qualified, is_union, form_at, type_at, types, formed, number_at, definition_of, place_among, place_of_member, IsOver}
+use Rattle.c_types.specs.Members.{member_in, member_of}
+use Rattle.c_types.specs.Table.{Table, basic_forms, is_tagged, is_open_form, is_qualified, is_union, form_at, type_at, types, tags, formed, number_at, definition_of, member_seen, members_among, place_among, place_of_member, IsOver}
 use Rattle.c_types.specs.Keeps.{Keeps, IsDefinition, forms_in, completed_in, place_named}
 use Rattle.c_types.proofs.Insides.{before, behind, forms_in_at, basic_over, type_by_form, length-forms}
-use Rattle.c_types.proofs.Defined.{AreOpen, number_test, open_tagged}
+use Rattle.c_types.proofs.Defined.{AreOpen, apart, number_test, open_tagged}
+use Rattle.c_types.proofs.Seen.{member_apart, member_formed}
 
 first_entry : {i : ℕ} (es : List (FormKey × Formed)) → i < length es → FormKey × Formed
 first_entry [] l = absurd (omega arith)
@@ -99,3 +101,21 @@ member_missing t ds id q name c o w l v p =
         let k = definition_lookup t ds id o w (open_tagged (form_at t id) h) ∙ ap (option_map (λ (d : Definition). record { place = id; members = d.members })) l in
         rw (h, c, k) refl
     by false h = rw h refl
+
+-- what is noted in the definition is seen as the member; where there is no definition none is seen
+pub seen_found : (t : Table) (id q : ℕ) (name : List ℕ) (d : Definition) → IsDefinition t id d → name ≢ [] → IsOver id (form_at t id) → is_qualified (form_at t id) ≡ false →
+    option_map (member_seen (types t)) (place_named d.places name) ≡ member_of (tags t) (qualify q (type_at t id)) name
+seen_found t id q name d x n v p =
+    let e = type_by_form t id (form_at t id) (slice_get-get_or t.forms id form.Void x.within) v in
+    ap (option_map (member_seen (types t))) (x.places name n) ∙ x.seen name
+    ∙ sym (ap (λ z. member_of (tags t) (qualify q z) name) e ∙ member_formed (tags t) (types t) (number_at t id) q name (form_at t id) p ∙ ap (λ b. if b then member_in (tags t) (number_at t id) name else None) x.form)
+
+pub seen_missing : (t : Table) (id q : ℕ) (name : List ℕ) → AreOpen t t.completed → id < length t.forms → members_among t.completed id ≡ None → IsOver id (form_at t id) → is_qualified (form_at t id) ≡ false →
+    None ≡ member_of (tags t) (qualify q (type_at t id)) name
+seen_missing t id q name o w m v p =
+    let e = type_by_form t id (form_at t id) (slice_get-get_or t.forms id form.Void w) v in
+    sym (ap (λ z. member_of (tags t) (qualify q z) name) e ∙ member_formed (tags t) (types t) (number_at t id) q name (form_at t id) p ∙ by (is_open_form (form_at t id)) refl)
+  where
+    by : (b : Bool) → is_open_form (form_at t id) ≡ b → (if b then member_in (tags t) (number_at t id) name else None) ≡ None
+    by true h = member_apart (tags t) (number_at t id) name (apart t t.completed id o w (open_tagged (form_at t id) h) m)
+    by false h = refl

@@ -1,6 +1,7 @@
 -- What a later table keeps of an earlier one, and so what is known of types and definitions.
 use Rattle.std.proofs.Common.{◌≡◌, ℕ, suc, ◌<◌, ◌≤◌, Bool, true, false, List, [], ◌∷◌, ◌++◌, length, refl, sym, ap, ◌∙◌, subst, true≢false, arith}
 use Rattle.std.specs.Prelude.{slice_get, Some, is_some, nat_eq}
+use Rattle.std.specs.Option.{option_map}
 use Rattle.std.proofs.lemmas.List.{length-append, get_or_append_left, take-append-le}
 use Rattle.std.proofs.lemmas.Bool.Decides.{nat_tests}
 use Rattle.c_types.specs.declared.type_form.TypeForm.{TypeForm}
@@ -10,17 +11,22 @@ use Rattle.c_types.specs.declared.extent.Extent.{Extent}
 use Rattle.c_types.specs.declared.type_table.Facts.{Facts}
 use Rattle.c_types.specs.declared.definition.Definition.{Definition}
 use Rattle.c_types.specs.CType.{CType, qualify, depth}
-use Rattle.c_types.specs.Layout.{known, extent_by, fields, no_object}
-use Rattle.c_types.specs.Table.{Table, Completed, tags, tags_of, tag_of, form_at, type_at, type_in, types, number_at, fields_at, member_types, is_qualified, is_open_form, is_union, are_objects, places_of, AreMembersBelow}
+use Rattle.c_types.specs.Layout.{known, extent_by, fields, no_object, start, spots}
+use Rattle.c_types.specs.Members.{member_in, named}
+use Rattle.c_types.specs.Constness.{const_known}
+use Rattle.c_types.specs.Table.{Table, Completed, tags, tags_of, tag_of, form_at, type_at, type_in, types, number_at, fields_at, member_types, is_qualified, is_open_form, is_union, are_objects, member_seen, places_of, AreMembersBelow}
 use Rattle.c_types.specs.Keeps.{IsFact, IsDefinition, IsSettled, completed_in}
 use Rattle.c_types.proofs.Growing.{type_stays}
 use Rattle.c_types.proofs.Known.{Stay, settled_extent, settled_stays, fields_stay, tags_push}
+use Rattle.c_types.proofs.Seen.{placed_seen}
 
 pub record Stays (old new : Table) : Type 0 where
   pub longer : length old.forms ≤ length new.forms
   pub forms : (j : ℕ) → j < length old.forms → form_at new j ≡ form_at old j
   pub means : (j : ℕ) → j < length old.forms → type_at new j ≡ type_at old j
   pub numbers : (j : ℕ) → j < length old.forms → number_at new j ≡ number_at old j
+  pub constant : (n : ℕ) → is_some (known (tags old) n).size ≡ true → const_known (tags new) n ≡ const_known (tags old) n
+  pub members : (n : ℕ) → is_some (known (tags old) n).size ≡ true → (name : List ℕ) → member_in (tags new) n name ≡ member_in (tags old) n name
   pub known : Stay (known (tags old)) (known (tags new))
 
 pub fact_stays : (o n : Table) (id : ℕ) (x : Facts) → Stays o n → id < length o.forms → IsFact o id x → IsFact n id x
@@ -57,6 +63,16 @@ fields_same o n ms s b h =
     ap (fields (known (tags n))) (members_stay (types o) (types n) (length o.forms) s.means ms b)
     ∙ fields_stay (known (tags o)) (known (tags n)) s.known (member_types (types o) ms) h
 
+-- and so does what is seen of a member
+seen_stays : (o n : Table) (union : Bool) (ms : List Member) (name : List ℕ) → Stays o n → AreMembersBelow (length o.forms) ms → are_objects (fields_at o ms) ≡ true →
+    option_map (member_seen (types n)) (places_of union (fields_at n ms) ms name) ≡ option_map (member_seen (types o)) (places_of union (fields_at o ms) ms name)
+seen_stays o n union ms name s b h =
+    let ss = spots union start (fields_at o ms) in
+    ap (λ fs. option_map (member_seen (types n)) (places_of union fs ms name)) (fields_same o n ms s b h)
+    ∙ placed_seen (types n) ms ss name
+    ∙ ap (λ xs. named xs ss name) (members_stay (types o) (types n) (length o.forms) s.means ms b)
+    ∙ sym (placed_seen (types o) ms ss name)
+
 pub definition_stays : (o n : Table) (id : ℕ) (d : Definition) → Stays o n → IsDefinition o id d → IsDefinition n id d
 definition_stays o n id d s x =
     let f = fields_same o n d.members s x.members x.objects in
@@ -71,6 +87,12 @@ definition_stays o n id d s x =
       complete = x.complete;
       bounded = x.bounded;
       places = λ name h. x.places name h ∙ sym (ap (λ b. places_of b (fields_at n d.members) d.members name) u ∙ ap (λ fs. places_of (is_union (form_at o id)) fs d.members name) f);
+      seen = λ name.
+          ap (λ b. option_map (member_seen (types n)) (places_of b (fields_at n d.members) d.members name)) u
+          ∙ seen_stays o n (is_union (form_at o id)) d.members name s x.members x.objects
+          ∙ x.seen name
+          ∙ sym (ap (λ k. member_in (tags n) k name) (s.numbers id x.within) ∙ s.members (number_at o id) c name);
+      constant = ap (const_known (tags n)) (s.numbers id x.within) ∙ s.constant (number_at o id) c ∙ x.constant;
     }
 
 -- one more form
@@ -103,6 +125,8 @@ module _ (o : Table) (f : TypeForm) where
         means = λ j l. type_stays o.forms (f ∷ []) j l;
         numbers = numbers_more;
         known = λ n i. ap (λ ts. known ts n) t;
+        constant = λ n i. ap (λ ts. const_known ts n) t;
+        members = λ n i name. ap (λ ts. member_in ts n name) t;
       }
 
 -- one more definition
@@ -125,11 +149,17 @@ module _ (o : Table) (c : Completed) where
         forms = λ j l. refl;
         means = λ j l. refl;
         numbers = λ j l. refl;
-        known = λ n i. ap (λ ts. known ts n) tags_completed ∙ other n i (nat_eq n (number_at o c.place)) refl;
+        known = λ n i. ap (λ ts. known ts n) tags_completed ∙ (rw (other n i) refl);
+        constant = λ n i. ap (λ ts. const_known ts n) tags_completed ∙ (rw (other n i) refl);
+        members = λ n i name. ap (λ ts. member_in ts n name) tags_completed ∙ (rw (other n i) refl);
       }
     where
-      other : (n : ℕ) → is_some (known (tags o) n).size ≡ true → (b : Bool) → nat_eq n (number_at o c.place) ≡ b → known (tag_of o c ∷ tags o) n ≡ known (tags o) n
-      other n i true p =
+      -- what is complete has another number
+      apart : (n : ℕ) → is_some (known (tags o) n).size ≡ true → (b : Bool) → nat_eq n (number_at o c.place) ≡ b → b ≡ false
+      apart n i true p =
           let e : n ≡ number_at o c.place = grind (arith, nat_tests) in
           absurd (true≢false (sym i ∙ ap (λ (x : Extent). is_some x.size) (ap (known (tags o)) e ∙ h)))
-      other n i false p = rw p refl
+      apart n i false p = refl
+
+      other : (n : ℕ) → is_some (known (tags o) n).size ≡ true → nat_eq n (number_at o c.place) ≡ false
+      other n i = apart n i (nat_eq n (number_at o c.place)) refl

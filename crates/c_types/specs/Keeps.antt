@@ -17,7 +17,9 @@ use Rattle.c_types.specs.Bounds.{IsBounded}
 use Rattle.c_types.specs.declared.extent.Extent.{Extent}
 use Rattle.c_types.specs.CType.{CType, Plain, Array, Structure, Union, qualify, depth}
 use Rattle.c_types.specs.Layout.{extent_by, known, no_object}
-use Rattle.c_types.specs.Table.{Table, Completed, basic_forms, type_at, form_at, number_at, tags, extent_at, fields_at, is_qualified, is_open_form, is_union, places_of, IsOver, AreMembersBelow, are_objects}
+use Rattle.c_types.specs.Members.{member_in}
+use Rattle.c_types.specs.Constness.{const_known}
+use Rattle.c_types.specs.Table.{Table, Completed, basic_forms, type_at, types, form_at, number_at, tags, extent_at, fields_at, is_qualified, is_open_form, is_union, places_of, member_seen, IsOver, AreMembersBelow, are_objects}
 
 -- the form isn't that of a basic type
 abbrev pub is_formed : TypeForm → Bool
@@ -84,6 +86,8 @@ pub record IsDefinition (t : Table) (id : ℕ) (d : Definition) : Type 0 where
   pub complete : is_some d.extent.size ≡ true
   pub bounded : IsBounded d.extent
   pub places : (name : List ℕ) → name ≢ [] → place_named d.places name ≡ places_of (is_union (form_at t id)) (fields_at t d.members) d.members name
+  pub seen : (name : List ℕ) → option_map (member_seen (types t)) (places_of (is_union (form_at t id)) (fields_at t d.members) d.members name) ≡ member_in (tags t) (number_at t id) name
+  pub constant : const_known (tags t) (number_at t id) ≡ d.constant
 
 pub record Keeps (basics : List TypeForm) (entries : List (FormKey × Formed)) (definitions : List (ℕ × Definition)) (t : Table) : Type 0 where
   pub basic : basics ≡ basic_forms

@@ -8,3 +8,5 @@ pub mod Table
 pub mod Readings
 pub mod Keeps
 pub mod Facts
+pub mod Members
+pub mod Constness

@@ -11,6 +11,7 @@ use Rattle.c_types.specs.CType.{Void, Char, SignedChar, UnsignedChar, Short, Uns
 use Rattle.c_types.specs.declared.extent.Extent.{Extent}
 use Rattle.c_types.specs.declared.room.Spot.{Spot}
 use Rattle.c_types.specs.Layout.{Field, MemberType, Tag, start, structure_extent, spots, fields, known, extent}
+use Rattle.c_types.specs.Members.{MemberAt}
 
 -- which structure or union was completed, and with which members
 pub record Completed : Type 0 where
@@ -252,6 +253,10 @@ abbrev pub place_of_member : Table → CType → List ℕ → Option MemberPlace
 place_of_member t (Plain qualifiers (Structure number)) name = place_among t false (definition_of t t.completed number) name
 place_of_member t (Plain qualifiers (Union number)) name = place_among t true (definition_of t t.completed number) name
 place_of_member t other name = None
+
+-- a member's place, and the type that stands at its type's
+abbrev pub member_seen : List CType → MemberPlace → MemberAt
+member_seen types p = record { of = type_in types p.of; offset = p.offset; first = p.first; width = p.width }
 
 abbrev pub list_or_none : Option (List Member) → List Member
 list_or_none None = []

@@ -10,4 +10,6 @@ pub(crate) struct Definition {
     /// The place of the first member of each name.
     pub(crate) places: IndexMap<Vec<u8>, MemberPlace>,
     pub(crate) extent: Extent,
+    /// Whether something of one of the members is const.
+    pub(crate) constant: bool,
 }

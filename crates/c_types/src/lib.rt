@@ -4,6 +4,7 @@
 
 mod compatible;
 mod composite;
+mod constness;
 mod conversions;
 mod definition;
 mod extent;

@@ -164,17 +164,25 @@ fn push_member(
     })
 }
 
+/// A structure whose one member, m, has this type.
+fn structure_of(types: &mut TypeTable, alloc: Global, of: TypeId) -> Result<TypeId, TypeFault>
+    requires { of < length types.old.forms }
+    ensures { IfOk result (λ id. id < length types.new.forms) }
+{
+    let id = types.add(TypeForm::Structure)?;
+    let mut members = Items::new(alloc);
+    push_member(&mut members, alloc, b"m", of)?;
+    types.complete(id, members)?;
+    Ok(id)
+}
+
 /// The outermost of so many structures, the innermost of which holds a char.
 fn structures(types: &mut TypeTable, alloc: Global, count: u32) -> Result<TypeId, TypeFault>
     ensures { IfOk result (λ id. id < length types.new.forms) }
 {
     let mut top = types.basic_type(1);
     for _ in 0..count {
-        let id = types.add(TypeForm::Structure)?;
-        let mut members = Items::new(alloc);
-        push_member(&mut members, alloc, b"m", top)?;
-        types.complete(id, members)?;
-        top = id;
+        top = structure_of(types, alloc, top)?;
     }
     Ok(top)
 }
@@ -297,5 +305,59 @@ fn linked_structures(rt: HostRuntime) -> Result<(), Fail> {
     assert_eq!(rt; types.size(c), Some(12));
     assert_eq!(rt; types.align(c), Some(4));
     assert_eq!(rt; offsets(&types, c), [Some(0), Some(4), Some(8)]);
+    Ok(())
+}
+
+/// The const type of a type.
+fn const_of(types: &mut TypeTable, of: TypeId) -> Result<TypeId, TypeFault>
+    requires { of < length types.old.forms }
+    ensures { IfOk result (λ id. id < length types.new.forms) }
+{
+    types.add(TypeForm::Qualified {
+        of,
+        qualifiers: Qualifiers::CONST,
+    })
+}
+
+/// The types of `const int a`, `const int *b` and `const int *const c`.
+#[test]
+fn const_types(rt: HostRuntime) -> Result<(), Fail> {
+    let mut types = TypeTable::new(rt.alloc());
+    let int = types.basic_type(6);
+    assert!(rt; !types.has_const(int));
+    let constant = const_of(&mut types, int)?;
+    assert!(rt; types.has_const(constant));
+    let to = types.add(TypeForm::Pointer { to: constant })?;
+    assert!(rt; !types.has_const(to));
+    let pointer = const_of(&mut types, to)?;
+    assert!(rt; types.has_const(pointer));
+    Ok(())
+}
+
+/// Structures, of which the last has nothing const, and an array:
+///
+/// ```c
+/// struct a { const int m; };
+/// struct a b[3];
+/// struct c { struct a m[3]; };
+/// struct d { struct c *m; };
+/// ```
+#[test]
+fn const_members(rt: HostRuntime) -> Result<(), Fail> {
+    let mut types = TypeTable::new(rt.alloc());
+    let int = types.basic_type(6);
+    let constant = const_of(&mut types, int)?;
+    let inner = structure_of(&mut types, rt.alloc(), constant)?;
+    assert!(rt; types.has_const(inner));
+    let array = types.add(TypeForm::Array {
+        of: inner,
+        length: Some(3),
+    })?;
+    assert!(rt; types.has_const(array));
+    let outer = structure_of(&mut types, rt.alloc(), array)?;
+    assert!(rt; types.has_const(outer));
+    let to = types.add(TypeForm::Pointer { to: outer })?;
+    let other = structure_of(&mut types, rt.alloc(), to)?;
+    assert!(rt; !types.has_const(other));
     Ok(())
 }

@@ -1,11 +1,12 @@
-ghost use Rattle.std.specs.Prelude.{◌≡◌, ◌≢◌, ◌<◌, ◌≤◌, ◌*◌, ◌↔◌, ◌++◌, ◌∷◌, ℕ, Bool, [], Some, None, length, true, false, slice_get, IsTrue, IfOk, IfErr, IfSome, IfNone, OnOk, OnErr};
+ghost use Rattle.std.specs.Prelude.{◌≡◌, ◌≢◌, ◌<◌, ◌≤◌, ◌*◌, ◌↔◌, ◌++◌, ◌∷◌, ℕ, Bool, [], Some, None, length, true, false, slice_get, IsTrue, IfOk, IfErr, IfSome, IfNone, OnOk, OnErr, option_map};
 ghost use Rattle.c_types.specs.declared.type_fault.TypeFault.TheVariants as fault;
 ghost use Rattle.c_types.specs.declared.type_form.TypeForm.TheVariants as form;
 ghost use Rattle.c_types.specs.declared.extent.Extent.{Extent as ExtentValue};
 ghost use Rattle.c_types.specs.Bounds.{IsBounded};
 ghost use Rattle.c_types.specs.CType.{qualify, depth, greatest_depth, parameters_depth};
 ghost use Rattle.c_types.specs.Layout.{extent_by, known, no_object, object_align, structure_extent};
-ghost use Rattle.c_types.specs.Table.{Adds, AreBelow, AreMembersBelow, AreSomeBelow, Extends, IsOpen, IsOver, IsRefusal, are_objects, basic_forms, extent_at, fields_at, form_at, form_refusal, formed, is_above, is_open_form, is_qualified, is_union, list_or_none, members_at, members_refusal, number_at, parameters_in, place_of_member, tag_of, tagged, tags, type_at, type_in, types, types_in, types_of};
+ghost use Rattle.c_types.specs.Members.{member_of};
+ghost use Rattle.c_types.specs.Table.{Adds, AreBelow, AreMembersBelow, AreSomeBelow, Extends, IsOpen, IsOver, IsRefusal, are_objects, basic_forms, extent_at, fields_at, form_at, form_refusal, formed, is_above, is_open_form, is_qualified, is_union, list_or_none, member_seen, members_at, members_refusal, number_at, parameters_in, place_of_member, tag_of, tagged, tags, type_at, type_in, types, types_in, types_of};
 ghost use Rattle.c_types.specs.Keeps.{IsFact, IsKeyOf, is_formed};
 ghost use Rattle.c_types.specs.Facts.{AreBounded, IsFactOf, IsLaid};
 
@@ -234,7 +235,8 @@ impl TypeTable {
     pub fn member(&self, id: TypeId, name: &[u8]) -> Option<MemberPlace>
         requires id { id < length self.now.forms }
         requires name { name.now ≢ [] }
-        ensures { result ≡ place_of_member self.now (type_at self.now id) name.now }
+        ensures is { result ≡ place_of_member self.now (type_at self.now id) name.now }
+        ensures seen { option_map (member_seen (types self.now)) result ≡ member_of (tags self.now) (type_at self.now id) name.now }
     {
         let (base, _) = self.unqualified(id);
         match self.definitions.get(&base) {
@@ -493,7 +495,9 @@ impl TypeTable {
         ensures extends { OnOk result (Extends self.old self.new) }
         ensures err { OnErr result (self.new ≡ self.old) }
     {
-        let laying = self.laying_of(id, members.as_slice())?;
+        let list = members.as_slice();
+        let laying = self.laying_of(id, list)?;
+        let constant = self.some_const(list);
         let extent = laying.extent();
         let places = laying.into_places();
         self.definitions.insert(
@@ -502,6 +506,7 @@ impl TypeTable {
                 members,
                 places,
                 extent,
+                constant,
             },
         )?;
         Ok(())

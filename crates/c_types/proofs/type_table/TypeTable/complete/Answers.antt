@@ -3,7 +3,8 @@ use Rattle.std.specs.Prelude.{None}
 use Rattle.indexmap.proofs.CallerLemmas.{insert_entry-new}
 use Rattle.c_types.specs.declared.definition.Definition.{Definition}
 use Rattle.c_types.specs.declared.type_form.Member.{Member}
-use Rattle.c_types.specs.Table.{Table, Completed, AreMembersBelow, Extends, IsOpen, fields_at, form_at, is_union, members_refusal, tags}
+use Rattle.c_types.specs.Table.{Table, Completed, AreMembersBelow, Extends, IsOpen, fields_at, form_at, is_union, member_types, members_refusal, tags, types}
+use Rattle.c_types.specs.Constness.{const_known, some_const}
 use Rattle.c_types.specs.Keeps.{Keeps, IsDefinition}
 use Rattle.c_types.specs.Facts.{IsLaid}
 use Rattle.c_types.proofs.Insides.{table_of}
@@ -13,7 +14,7 @@ use Rattle.c_types.proofs.type_table.TypeTable.complete.Goals.{Joined-branch-3}
 use Rattle.c_types.proofs.type_table.TypeTable.complete.Goals as goal
 
 abbrev definition : Joined-branch-3 → Definition
-definition c = record { members = c.args.members; places = c.into_places-places.result; extent = c.extent-extent.result }
+definition c = record { members = c.args.members; places = c.into_places-places.result; extent = c.extent-extent.result; constant = c.some_const-constant.result }
 
 abbrev open_before : (c : Joined-branch-3) → IsOpen (table_of c.self.inside.basic c.self.inside.formed.entries c.self.inside.definitions.entries) c.args.id
 open_before c = subst (λ (t : Table). IsOpen t c.args.id) (sym c.self.view_is) c.requires.id
@@ -32,12 +33,15 @@ defined c =
     let ms = c.args.members in
     let l = c.in_ok-laying.laying in
     let m : AreMembersBelow (length T.forms) ms = subst (λ (t : Table). AreMembersBelow (length t.forms) ms) (sym c.self.view_is) c.requires.members in
-    let r : members_refusal T id ms ≡ None = subst (λ (t : Table). members_refusal t id ms ≡ None) (sym c.self.view_is) (subst (λ (xs : List Member). members_refusal c.args.self.now id xs ≡ None) c.as_slice.ensures c.in_ok-laying.ensures.accepted) in
+    let r : members_refusal T id ms ≡ None = subst (λ (t : Table). members_refusal t id ms ≡ None) (sym c.self.view_is) (subst (λ (xs : List Member). members_refusal c.args.self.now id xs ≡ None) c.as_slice-list.ensures c.in_ok-laying.ensures.accepted) in
     let h : IsLaid l (is_union (form_at T id)) (fields_at T ms) ms =
     subst (λ (t : Table). IsLaid l (is_union (form_at t id)) (fields_at t ms) ms) (sym c.self.view_is)
-    (subst (λ (xs : List Member). IsLaid l (is_union (form_at c.args.self.now id)) (fields_at c.args.self.now xs) xs) c.as_slice.ensures c.in_ok-laying.ensures.ok) in
+    (subst (λ (xs : List Member). IsLaid l (is_union (form_at c.args.self.now id)) (fields_at c.args.self.now xs) xs) c.as_slice-list.ensures c.in_ok-laying.ensures.ok) in
     let x = extent_laid l (is_union (form_at T id)) (fields_at T ms) ms c.extent-extent.result h c.extent-extent.ensures.size c.extent-extent.ensures.align c.extent-extent.ensures.nesting in
-    defined_now i.basic i.formed.entries i.definitions.entries id (definition c) c.self.invariant (open_before c) m r l h x c.into_places-places.ensures
+    let s : c.some_const-constant.result ≡ some_const (const_known (tags T)) (member_types (types T) ms) =
+    subst (λ (t : Table). c.some_const-constant.result ≡ some_const (const_known (tags t)) (member_types (types t) ms)) (sym c.self.view_is)
+    (subst (λ (xs : List Member). c.some_const-constant.result ≡ some_const (const_known (tags c.args.self.now)) (member_types (types c.args.self.now) xs)) c.as_slice-list.ensures c.some_const-constant.ensures) in
+    defined_now i.basic i.formed.entries i.definitions.entries id (definition c) c.self.invariant (open_before c) m r l h x c.into_places-places.ensures s
 
 view : (c : Joined-branch-3) → table_of c.self.inside.basic c.self.inside.formed.entries c.insert.new.self.entries ≡ with c.args.self.now (record { place = c.args.id; members = c.args.members })
 view c =
@@ -52,7 +56,7 @@ invariant_of-self-2 c =
     (keeps_completed i.basic i.formed.entries i.definitions.entries c.args.id (definition c) c.self.invariant (open_before c) (defined c))
 
 pub returns-clause-accepted : goal.returns-clause-accepted
-returns-clause-accepted c = subst (λ (xs : List Member). members_refusal c.args.self.now c.args.id xs ≡ None) c.as_slice.ensures c.in_ok-laying.ensures.accepted
+returns-clause-accepted c = subst (λ (xs : List Member). members_refusal c.args.self.now c.args.id xs ≡ None) c.as_slice-list.ensures c.in_ok-laying.ensures.accepted
 
 pub returns-clause-completed : goal.returns-clause-completed
 returns-clause-completed c = view c
