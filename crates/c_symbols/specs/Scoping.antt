@@ -4,10 +4,12 @@ use Rattle.std.specs.Str.{bytes_eq}
 use Rattle.c_symbols.specs.declared.symbol.Symbol.{Symbol}
 
 -- The scopes around the innermost, the outermost first, and the innermost one: each the names declared in it, in
--- order, with the places of their symbols. And the symbols.
+-- order, with the places of their symbols. The names with linkage (C89 3.1.2.2), each with the symbol that stands for
+-- what all its declarations name. And the symbols.
 pub record Scoping : Type 0 where
   pub outer : List (List (List ℕ × ℕ))
   pub inner : List (List ℕ × ℕ)
+  pub links : List (List ℕ × ℕ)
   pub symbols : List Symbol
 
 -- the symbol of a name in one scope

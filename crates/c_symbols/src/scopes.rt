@@ -12,14 +12,16 @@ use std::marker::Model;
 /// The place of a symbol.
 pub type SymbolId = usize;
 
-/// The scopes that are open, and each symbol that was declared. Contracts see the innermost scope and
-/// those around it, the outermost first, each as the list of its names with their symbols; and the
-/// list of the symbols, which leaving a scope doesn't change.
+/// The scopes that are open, the names with linkage, and each symbol that was declared. Contracts see
+/// the innermost scope and those around it, the outermost first, each as the list of its names with
+/// their symbols; the names with linkage likewise; and the list of the symbols, which leaving a scope
+/// doesn't change.
 #[derive(Drop)]
 pub struct Scopes {
     alloc: Global,
     outer: Vec<Scope>,
     inner: Scope,
+    links: Scope,
     symbols: Vec<Symbol>,
 }
 
@@ -28,7 +30,7 @@ impl Model for Scopes {
 
     ghost Value = { Scoping };
 
-    ghost view = { λ s. record { outer = s.outer.items; inner = s.inner; symbols = s.symbols.items } };
+    ghost view = { λ s. record { outer = s.outer.items; inner = s.inner; links = s.links; symbols = s.symbols.items } };
 }
 
 impl Scopes {
@@ -36,12 +38,14 @@ impl Scopes {
     pub fn new(alloc: Global) -> Result<Self, Memory>
         ensures outer { IfOk result (λ s. s.outer ≡ []) }
         ensures inner { IfOk result (λ s. s.inner ≡ []) }
+        ensures links { IfOk result (λ s. s.links ≡ []) }
         ensures symbols { IfOk result (λ s. s.symbols ≡ []) }
     {
         Ok(Scopes {
             alloc,
             outer: Vec::new(alloc),
             inner: Scope::new(alloc),
+            links: Scope::new(alloc),
             symbols: Vec::new(alloc),
         })
     }
@@ -50,6 +54,7 @@ impl Scopes {
     pub fn enter(&mut self) -> Result<(), Memory>
         ensures outer { OnOk result (self.new.outer ≡ self.old.outer ++ self.old.inner ∷ []) }
         ensures inner { OnOk result (self.new.inner ≡ []) }
+        ensures links { OnOk result (self.new.links ≡ self.old.links) }
         ensures symbols { OnOk result (self.new.symbols ≡ self.old.symbols) }
         ensures err { OnErr result (self.new ≡ self.old) }
     {
@@ -69,6 +74,7 @@ impl Scopes {
     pub fn leave(&mut self)
         requires { self.old.outer ≢ [] }
         ensures scopes { self.old.outer ≡ self.new.outer ++ self.new.inner ∷ [] }
+        ensures links { self.new.links ≡ self.old.links }
         ensures symbols { self.new.symbols ≡ self.old.symbols }
     {
         match self.outer.pop() {
@@ -85,21 +91,56 @@ impl Scopes {
         ensures outer { OnOk result (self.new.outer ≡ self.old.outer) }
         ensures inner { IfOk result (λ id. self.new.inner ≡ self.old.inner ++ (name.now, id) ∷ []) }
         ensures symbols { OnOk result (self.new.symbols ≡ self.old.symbols ++ symbol ∷ []) }
+        ensures links { OnOk result (self.new.links ≡ self.old.links) }
         ensures redeclared { IfErr result (λ e. e ≢ NoMemory → (old : ℕ) × (e ≡ Redeclared old) × (symbol_named self.old.inner name.now ≡ Some old)) }
         ensures err { OnErr result (self.new ≡ self.old) }
     {
-        if let Some(old) = self.inner.find(name) {
-            return Err(Declare::Redeclared { old });
-        }
-        let id = self.symbols.len();
-        if self.symbols.push(symbol).is_err() {
-            return Err(Declare::Memory);
-        }
-        if self.inner.add(self.alloc, name, id).is_err() {
-            self.symbols.pop();
-            return Err(Declare::Memory);
-        }
-        Ok(id)
+        declare_in(self.alloc, &mut self.inner, &mut self.symbols, name, symbol)
+    }
+
+    /// Gives a name with linkage the symbol that stands for what all its declarations name (C89
+    /// 3.1.2.2). Redeclared comes exactly where it has one, with that one. After an error the scopes
+    /// are as before.
+    pub fn link(&mut self, name: &[u8], symbol: Symbol) -> Result<SymbolId, Declare>
+        ensures id { IfOk result (λ id. id ≡ length self.old.symbols) }
+        ensures new_name { OnOk result (symbol_named self.old.links name.now ≡ None) }
+        ensures outer { OnOk result (self.new.outer ≡ self.old.outer) }
+        ensures inner { OnOk result (self.new.inner ≡ self.old.inner) }
+        ensures links { IfOk result (λ id. self.new.links ≡ self.old.links ++ (name.now, id) ∷ []) }
+        ensures symbols { OnOk result (self.new.symbols ≡ self.old.symbols ++ symbol ∷ []) }
+        ensures redeclared { IfErr result (λ e. e ≢ NoMemory → (old : ℕ) × (e ≡ Redeclared old) × (symbol_named self.old.links name.now ≡ Some old)) }
+        ensures err { OnErr result (self.new ≡ self.old) }
+    {
+        declare_in(self.alloc, &mut self.links, &mut self.symbols, name, symbol)
+    }
+
+    /// The symbol of a name with linkage, in whichever scopes it was declared. None exactly where `link`
+    /// gave it none.
+    pub fn linked(&self, name: &[u8]) -> Option<SymbolId>
+        ensures { result ≡ symbol_named self.now.links name.now }
+    {
+        self.links.find(name)
+    }
+
+    /// How many scopes stand around the innermost: 0 at file scope.
+    pub fn level(&self) -> usize
+        ensures { result ≡ length self.now.outer }
+    {
+        self.outer.len()
+    }
+
+    /// How many symbols were declared.
+    pub fn count(&self) -> usize
+        ensures { result ≡ length self.now.symbols }
+    {
+        self.symbols.len()
+    }
+
+    /// The symbol of the name in the innermost scope. None exactly where that scope doesn't have it.
+    pub fn find_here(&self, name: &[u8]) -> Option<SymbolId>
+        ensures { result ≡ symbol_named self.now.inner name.now }
+    {
+        self.inner.find(name)
     }
 
     /// The symbol of the innermost declaration of the name. None exactly where no scope has it.
@@ -125,6 +166,7 @@ impl Scopes {
         requires { id < length self.old.symbols }
         ensures outer { self.new.outer ≡ self.old.outer }
         ensures inner { self.new.inner ≡ self.old.inner }
+        ensures links { self.new.links ≡ self.old.links }
         ensures symbols { self.new.symbols ≡ slice_set self.old.symbols id symbol }
     {
         self.symbols[id] = symbol;
@@ -143,4 +185,34 @@ fn find_around(scopes: &[Scope], name: &[u8]) -> Option<SymbolId>
         }
     }
     None
+}
+
+/// Declares the name in this scope.
+fn declare_in(
+    alloc: Global,
+    scope: &mut Scope,
+    symbols: &mut Vec<Symbol>,
+    name: &[u8],
+    symbol: Symbol,
+) -> Result<SymbolId, Declare>
+    ensures id { IfOk result (λ id. id ≡ length symbols.old.items) }
+    ensures new_name { OnOk result (symbol_named scope.old name.now ≡ None) }
+    ensures scope { IfOk result (λ id. scope.new ≡ scope.old ++ (name.now, id) ∷ []) }
+    ensures symbols { OnOk result (symbols.new.items ≡ symbols.old.items ++ symbol ∷ []) }
+    ensures redeclared { IfErr result (λ e. e ≢ NoMemory → (old : ℕ) × (e ≡ Redeclared old) × (symbol_named scope.old name.now ≡ Some old)) }
+    ensures scope_stays { OnErr result (scope.new ≡ scope.old) }
+    ensures symbols_stay { OnErr result (symbols.new.items ≡ symbols.old.items) }
+{
+    if let Some(old) = scope.find(name) {
+        return Err(Declare::Redeclared { old });
+    }
+    let id = symbols.len();
+    if symbols.push(symbol).is_err() {
+        return Err(Declare::Memory);
+    }
+    if scope.add(alloc, name, id).is_err() {
+        symbols.pop();
+        return Err(Declare::Memory);
+    }
+    Ok(id)
 }
