@@ -1,0 +1,3 @@
+pub mod Threads
+pub mod TypingRows
+pub mod TypingFaults

@@ -1,0 +1,17 @@
+//! What C means: checked programs, and which programs are right. So far the checked form of a program, and the
+//! typing of its expressions and types.
+#![tactic(auto)]
+
+mod built_in;
+mod core_expr;
+mod core_stmt;
+mod core_unit;
+mod filled_place;
+mod laws;
+
+pub use built_in::BuiltIn;
+pub use core_expr::{Change, Conversion, CoreExpr, CoreKind};
+pub use core_stmt::{CoreCase, CoreStmt};
+pub use core_unit::{Core, CoreFunction, CoreObject};
+pub use filled_place::FilledPlace;
+pub use laws::{typing_is_a_function, typing_is_decided};
