@@ -1,0 +1,3 @@
+mod Folding
+mod Integers
+mod Signs
