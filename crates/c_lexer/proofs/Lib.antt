@@ -9,15 +9,15 @@ mod Starts
 mod Lists
 mod Lengths
 mod Values
-pub mod Literals
-pub mod OneUnit
-pub mod PlacedTokens
-pub mod ByteValues
-pub mod GoodLexemes
-pub mod ReadLexemes
-pub mod ReadWords
-pub mod ReadCharacters
-pub mod ReadTexts
-pub mod ReadSigns
-pub mod ReadIntegers
-pub mod PrintedTokens
+mod Literals
+mod OneUnit
+mod PlacedTokens
+mod ByteValues
+mod GoodLexemes
+mod ReadLexemes
+mod ReadWords
+mod ReadCharacters
+mod ReadTexts
+mod ReadSigns
+mod ReadIntegers
+mod PrintedTokens

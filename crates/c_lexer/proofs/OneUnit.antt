@@ -1,8 +1,8 @@
 -- A source's tokens are one list of lexemes.
-use Rattle.std.proofs.Common.{◌≡◌, ◌+◌, ℕ, List, [], ◌∷◌, drop, refl, sym, ap, ◌∙◌, subst}
+use Rattle.std.proofs.Common.{◌≡◌, ◌+◌, ℕ, List, [], ◌∷◌, drop, refl, sym, ap, ◌∙◌}
 use Rattle.c_ast.specs.declared.class.Class.{Class}
 use Rattle.c_ast.specs.declared.class.Class.TheVariants as class
-use Rattle.c_ast.specs.Lexemes.{Lexeme, Name, Keyword, Integer, Character, Text, Sign, Placed}
+use Rattle.c_ast.specs.Lexemes.{Lexeme, Text, Placed}
 use Rattle.c_lexer.specs.declared.token.Token.{Token}
 use Rattle.c_lexer.specs.SourceUnits.{IsLexeme, AreLexemes}
 use Rattle.c_lexer.proofs.Values.{one_values}

@@ -1,6 +1,6 @@
 -- Which unit of C's grammar a source denotes.
 -- Source: C89 2.1.1.2 and 3.7.
-use Rattle.std.specs.Prelude.{◌≡◌, ◌-◌, ℕ, Option, None, List, [], ◌∷◌, take, drop}
+use Rattle.std.specs.Prelude.{◌≡◌, ◌-◌, ℕ, None, List, [], ◌∷◌, take, drop}
 use Rattle.c_ast.specs.declared.class.Class.{Class}
 use Rattle.c_ast.specs.declared.class.Class.TheVariants as class
 use Rattle.c_ast.specs.Lexemes.{Lexeme, Name, Keyword, Integer, Character, Text, Sign, Placed}

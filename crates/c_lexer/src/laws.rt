@@ -3,6 +3,7 @@ ghost use Rattle.c_lexer.specs.declared.lex_fault.LexFault.{LexFault as Fault};
 ghost use Rattle.c_lexer.specs.declared.place.Place.{Place as Places};
 ghost use Rattle.c_lexer.specs.declared.token.Token.{Token as Tokens};
 ghost use Rattle.lcc_text.specs.Classes.{AllIn};
+ghost use Rattle.c_ast.specs.Lexemes.{Placed};
 ghost use Rattle.c_ast.specs.Signs.{sign_of};
 ghost use Rattle.c_lexer.specs.Runs.{run};
 ghost use Rattle.c_lexer.specs.LongestSigns.{longest_sign};
@@ -23,6 +24,11 @@ pub fn one_cut()
 /// A source has one list of tokens, and one fault behind them or none.
 pub fn one_list()
     ensures { (source : List ℕ) (p : Places) (ts us : List Tokens) (e f : Option Fault) → AreTokens source p ts e → AreTokens source p us f → (ts ≡ us) × (e ≡ f) }
+{}
+
+/// A source's tokens are one list of lexemes.
+pub fn one_lexing()
+    ensures { (source : List ℕ) (ts : List Tokens) (ps qs : List Placed) → AreLexemes source ts ps → AreLexemes source ts qs → ps ≡ qs }
 {}
 
 /// No front that a class makes is longer than the run that is taken, and no sign is longer than

@@ -24,7 +24,8 @@ mod tests;
 mod token;
 
 pub use laws::{
-    longest, one_cut, one_list, one_source_unit, one_text, placed_tokens, printed_tokens,
+    longest, one_cut, one_lexing, one_list, one_source_unit, one_text, placed_tokens,
+    printed_tokens,
 };
 pub use lex_fault::{LexFault, LexFaultKind};
 pub use lexer::Lexer;

@@ -15,7 +15,6 @@ use Rattle.c_lexer.specs.declared.token.Token.{Token}
 use Rattle.c_lexer.specs.PlacedTokens.{placed}
 use Rattle.c_lexer.specs.SourceUnits.{AreLexemes, DenotesUnit}
 use Rattle.c_lexer.specs.Tokens.{first_place, AreTokens}
-use Rattle.c_lexer.proofs.OneUnit.{one_lexemes}
 use Rattle.c_readings.specs.Exact.{RunsOn}
 use Rattle.c_readings.specs.Reading.{State}
 use Rattle.c_readings.specs.Readers.{readers}
@@ -45,7 +44,7 @@ no_memory h = absurd cc
 no_some : {A : Type 0} {a : A} {C : Type 0} → None ≡ Some a → C
 no_some h = absurd cc
 
-module _ (exact : UnitsAreExact (readers 500) 500) (runs : (ts : List Placed) (u : UnitTree) → Denotes ts u ↔ (FitsUnit u × (unit_height u ≤ 500) × Runs (marks.unit u) nothing_in_force ts)) (source : List ℕ) (p : MParser) (new : IsNew source p) (cut : AreTokens source first_place p.tokens None) (are : AreLexemes source p.tokens (placed source p.tokens)) where
+module _ (exact : UnitsAreExact (readers 500) 500) (runs : (ts : List Placed) (u : UnitTree) → Denotes ts u ↔ (FitsUnit u × (unit_height u ≤ 500) × Runs (marks.unit u) nothing_in_force ts)) (source : List ℕ) (p : MParser) (new : IsNew source p) (cut : AreTokens source first_place p.tokens None) (are : AreLexemes source p.tokens (placed source p.tokens)) (one : (ts us : List Token) (e f : Option LexFault) → AreTokens source first_place ts e → AreTokens source first_place us f → (ts ≡ us) × (e ≡ f)) (lexed : (ts : List Token) (ps qs : List Placed) → AreLexemes source ts ps → AreLexemes source ts qs → ps ≡ qs) where
   read_denotes : (u : UnitTree) (t : State) → unit (readers 500) 500 (ahead p) ≡ Some (u, t) → DenotesUnit source u
   read_denotes u t y =
       let f = exact.unit_fits (ahead p) u t y in
@@ -62,18 +61,18 @@ module _ (exact : UnitsAreExact (readers 500) 500) (runs : (ts : List Placed) (u
   if_denoted behind (Ok u) y = read_denotes (unit_of u) (ahead behind) y
   if_denoted behind (Err e) y = tt
 
-  denoted_read : ((ts us : List Token) (e f : Option LexFault) → AreTokens source first_place ts e → AreTokens source first_place us f → (ts ≡ us) × (e ≡ f)) → (u : UnitTree) → DenotesUnit source u → unit (readers 500) 500 (ahead p) ≡ None → ⊥
-  denoted_read one u d y =
+  denoted_read : (u : UnitTree) → DenotesUnit source u → unit (readers 500) 500 (ahead p) ≡ None → ⊥
+  denoted_read u d y =
       let same : d.tokens ≡ p.tokens = (one d.tokens p.tokens None None d.cut cut).0 in
-      let lexemes : d.placed ≡ placed source p.tokens = one_lexemes source p.tokens d.placed (placed source p.tokens) (subst (λ (ts : List Token). AreLexemes source ts d.placed) same d.are) are in
+      let lexemes : d.placed ≡ placed source p.tokens = lexed p.tokens d.placed (placed source p.tokens) (subst (λ (ts : List Token). AreLexemes source ts d.placed) same d.are) are in
       let f = (runs (placed source p.tokens) u).0 (subst (λ (ps : List Placed). Denotes ps u) lexemes d.denotes) in
       let found = exact.unit_found (ahead p) u f.0 f.1 (subst (λ (s : State). RunsOn (marks.unit u) s) (sym (begins source p new)) f.2) in
       no_some (sym y ∙ found.1)
 
-  pub if_refused : ((ts us : List Token) (e f : Option LexFault) → AreTokens source first_place ts e → AreTokens source first_place us f → (ts ≡ us) × (e ≡ f)) → (behind : MParser) (r : Result UnitValue SyntaxFault) → IfErr r (λ e. Fails e (unit (readers 500) 500 (ahead p))) → IfErr r (λ e. Breaks p behind e) → IfErr r (λ e. Refuses source e)
-  if_refused one behind (Ok u) h b = tt
-  if_refused one behind (Err (NoParse line)) h b =
+  pub if_refused : (behind : MParser) (r : Result UnitValue SyntaxFault) → IfErr r (λ e. Fails e (unit (readers 500) 500 (ahead p))) → IfErr r (λ e. Breaks p behind e) → IfErr r (λ e. Refuses source e)
+  if_refused behind (Ok u) h b = tt
+  if_refused behind (Err (NoParse line)) h b =
       let y : unit (readers 500) 500 (ahead p) ≡ None = elim h [ inl m ↦ no_memory m | inr n ↦ n ] in
-      (p.tokens, cut, λ u d. denoted_read one u d y, b.3)
-  if_refused one behind (Err Memory) h b = tt
-  if_refused one behind (Err (Lex fault)) h b = absurd b.3
+      (p.tokens, cut, λ u d. denoted_read u d y, b.3)
+  if_refused behind (Err Memory) h b = tt
+  if_refused behind (Err (Lex fault)) h b = absurd b.3

@@ -14,7 +14,7 @@ use crate::nodes::unit_of;
 use c_ast::{Unit, marks_run};
 use c_decl::{first, keep, line_at, refuse};
 use c_expr::{Parser, SyntaxFault};
-use c_lexer::{one_list, placed_tokens};
+use c_lexer::{one_lexing, one_list, placed_tokens};
 use c_readings::units_are_exact;
 use lcc_base::Items;
 use std::alloc::Global;
@@ -29,6 +29,7 @@ pub fn unit(alloc: Global, source: &[u8]) -> Result<Unit, SyntaxFault>
 {
     marks_run();
     one_list();
+    one_lexing();
     placed_tokens();
     units_are_exact();
     let mut parser = Parser::new(alloc, source)?;

@@ -1,4 +1,4 @@
-use Rattle.std.proofs.Common.{◌≡◌, List, subst, sym}
+use Rattle.std.proofs.Common.{List, subst, sym}
 use Rattle.c_ast.specs.Lexemes.{Placed}
 use Rattle.c_ast.specs.Spell.{Denotes}
 use Rattle.c_lexer.specs.declared.token.Token.{Token}
