@@ -20,7 +20,6 @@ mod Expressions
 mod Rounds
 mod Fronts
 mod Lows
-pub mod Loops
 mod Initialisers
 mod Declarations
 mod Conditions

@@ -2,7 +2,7 @@
 use Rattle.std.proofs.Common.{sym, ◌∙◌, arith}
 use Rattle.c_decl.specs.Seen.{declaration_seen}
 use Rattle.c_decl.specs.GoingLaws.{err, passed, goes_then}
-use Rattle.c_readings.proofs.Loops.{goes, stops, ends, seen_more}
+use Rattle.c_readings.specs.Loops.{goes, stops, ends, seen_more}
 use Rattle.c_decl.proofs.declarations.declarations_to.Goals as goal
 
 pub returns-in_err-declaration-clause-none : goal.returns-in_err-declaration-clause-none

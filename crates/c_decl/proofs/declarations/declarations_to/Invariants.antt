@@ -7,7 +7,7 @@ use Rattle.c_readings.specs.DeclarationReaders as reader
 use Rattle.c_expr.specs.State.{ahead}
 use Rattle.c_decl.specs.Going.{Goes}
 use Rattle.c_decl.specs.Seen.{declaration_seen}
-use Rattle.c_readings.proofs.Loops.{Left}
+use Rattle.c_readings.specs.Loops.{Left}
 use Rattle.c_decl.proofs.declarations.declarations_to.Given as goal
 
 abbrev pub invariant-loop-p : goal.invariant-loop-p

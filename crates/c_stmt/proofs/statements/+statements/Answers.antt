@@ -4,7 +4,7 @@ use Rattle.c_ast.specs.Marks.{IsSign}
 use Rattle.c_readings.specs.Reading.{State, Read, answer, beyond, bind, gives, here, open_state}
 use Rattle.c_readings.specs.Readers.{readers}
 use Rattle.c_readings.specs.StatementReaders as reader
-use Rattle.c_readings.proofs.Loops.{goes, stops, ends, seen_more}
+use Rattle.c_readings.specs.Loops.{goes, stops, ends, seen_more}
 use Rattle.c_ast.specs.Trees.{StatementTree, Compound}
 use Rattle.c_expr.specs.State.{ahead}
 use Rattle.c_decl.specs.Going.{Fails}

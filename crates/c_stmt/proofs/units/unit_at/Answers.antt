@@ -3,7 +3,7 @@ use Rattle.std.proofs.Common.{map, Some, inr, sym, ap, ◌∙◌, arith}
 use Rattle.c_ast.specs.Trees.{UnitTree}
 use Rattle.c_lexer.specs.PlacedTokens.{placed_of}
 use Rattle.c_readings.specs.Reading.{beyond, here}
-use Rattle.c_readings.proofs.Loops.{goes, stops, ends, seen_more}
+use Rattle.c_readings.specs.Loops.{goes, stops, ends, seen_more}
 use Rattle.c_expr.specs.State.{ahead}
 use Rattle.c_decl.specs.GoingLaws.{err, passed}
 use Rattle.c_stmt.specs.Seen.{external_seen}
