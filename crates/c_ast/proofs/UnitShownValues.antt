@@ -1,6 +1,7 @@
 -- The texts of declarations and statements as values, one layer at a time.
 use Rattle.std.proofs.Common.{◌≡◌, ℕ, ◌++◌, Option, Some, None, List, [], ◌∷◌, map, flat_map, drop, refl, sym, ap, ◌∙◌, append_assoc}
 use Rattle.std.proofs.lemmas.List.{append-nil}
+use Rattle.std.specs.Global.{Box}
 use Rattle.c_ast.specs.declared.expr.Specifiers.{Specifiers}
 use Rattle.c_ast.specs.declared.statement.InitialiserForm.{InitialiserForm, InitialiserForm-F, fold_out-InitialiserForm}
 use Rattle.c_ast.specs.declared.statement.InitialiserForm.TheVariants as initialiser_form
@@ -18,10 +19,10 @@ use Rattle.c_ast.specs.declared.unit.Unit.{Unit as UnitValue}
 use Rattle.c_ast.specs.Printed.{printed}
 use Rattle.c_ast.specs.Trees.{InitialiserTree, StatementTree, BlockTree}
 use Rattle.c_ast.specs.Views.{specifiers_of, declarator_of}
-use Rattle.c_ast.specs.UnitViews.{initialisers_of, initialiser_form_layer, initialiser_layer, initialiser_form_of, initialiser_of, option_of, init_of, declaration_of, statements_of, maybe_of, statement_form_layer, block_layer, statement_layer, statement_form_of, block_of, statement_of, external_form_of, external_of, unit_of}
+use Rattle.c_ast.specs.UnitViews.{initialisers_of, initialiser_form_layer, initialiser_layer, initialiser_form_of, initialiser_of, boxed_initialiser_of, option_of, init_of, declaration_of, statements_of, maybe_of, statement_form_layer, block_layer, statement_layer, statement_form_of, block_of, statement_of, external_form_of, external_of, unit_of}
 use Rattle.c_ast.specs.TreeTexts.{behind_comma, listed, sign_text, word_text, name_text, end_text, maybe_expr_text, specifiers_text, declarator_text, initialiser_text, initialisers_text, more_initialisers_text, maybe_initialiser_text, init_text, declaration_text, statement_text, statements_text, block_text, maybe_specifiers_text, external_text}
 use Rattle.c_ast.specs.ValueTexts.{shown_if_any, expr_shown, specifiers_shown, declarator_shown}
-use Rattle.c_ast.specs.UnitValueTexts.{initialiser_shown, shown_initialiser, init_shown, declaration_shown, statement_shown, shown_else, block_shown, external_shown}
+use Rattle.c_ast.specs.UnitValueTexts.{initialiser_shown, shown_initialiser, init_shown, declaration_shown, statement_shown, shown_else, block_shown, function_shown, external_shown}
 use Rattle.c_ast.specs.UnitLayers.{block_is, initialiser_is, statement_is, is_expr, is_list, is_label, is_case, is_default, is_expression, is_block, is_if, is_if_else, is_switch, is_while, is_do, is_for, is_goto, is_continue, is_break, is_return}
 use Rattle.c_ast.proofs.ShownValues.{any_expr}
 use Rattle.c_ast.proofs.SpelledTexts.{unit_printed}
@@ -63,7 +64,7 @@ unfolding external_shown
 externals_each [] = refl
 externals_each (x ∷ xs) = ap (λ t. external_text (external_of x) ++ t) (externals_each xs)
 
-any_initialiser : (i : Option Initialiser) → maybe_initialiser_text (option_of initialiser_of i) ≡ shown_initialiser i
+any_initialiser : (i : Option (Box Initialiser)) → maybe_initialiser_text (option_of boxed_initialiser_of i) ≡ shown_initialiser i
 unfolding initialiser_shown
 any_initialiser None = refl
 any_initialiser (Some i) = refl
@@ -210,7 +211,7 @@ unfoldable pub external_form_shown : ExternalForm → List ℕ
 external_form_shown f = external_text (external_form_of f 0)
 
 external_lines : (f : ExternalForm) (line : ℕ) → external_text (external_form_of f line) ≡ external_text (external_form_of f 0)
-external_lines (external_form.Function s d ps b) line = refl
+external_lines (external_form.Function f) line = refl
 external_lines (external_form.Declaration d) line = refl
 external_lines external_form.Empty line = refl
 
@@ -218,10 +219,12 @@ pub external_form_shown_is : (x : External) → external_shown x ≡ external_fo
 unfolding external_shown external_form_shown
 external_form_shown_is x = external_lines x.form x.line
 
-pub external_form_function : (s : _) (d : _) (ps : _) (b : _) → external_form_shown (external_form.Function s d ps b) ≡ shown_if_any specifiers_shown s ++ declarator_shown d ++ flat_map declaration_shown ps ++ block_shown b
+pub external_form_function : (f : _) → external_form_shown (external_form.Function f) ≡ function_shown f.value
 unfolding external_form_shown declarator_shown block_shown
-external_form_function s d ps b =
-    ap (λ t. t ++ declarator_text (declarator_of d) ++ flat_map declaration_text (map declaration_of ps) ++ block_text (block_of b)) (any_specifiers s) ∙ ap (λ t. shown_if_any specifiers_shown s ++ declarator_text (declarator_of d) ++ t ++ block_text (block_of b)) (declarations_each ps)
+external_form_function f =
+    let d = declarator_text (declarator_of f.value.declarator) in
+    let b = block_text (block_of f.value.body) in
+    ap (λ t. t ++ d ++ flat_map declaration_text (map declaration_of f.value.parameters) ++ b) (any_specifiers f.value.specifiers) ∙ ap (λ t. shown_if_any specifiers_shown f.value.specifiers ++ d ++ t ++ b) (declarations_each f.value.parameters)
 
 pub external_form_declaration : (d : _) → external_form_shown (external_form.Declaration d) ≡ declaration_shown d
 unfolding external_form_shown declaration_shown

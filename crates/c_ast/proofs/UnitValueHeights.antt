@@ -1,6 +1,7 @@
 -- The heights of declarations and statements as values, one layer at a time.
 use Rattle.std.proofs.Common.{◌≡◌, ℕ, ◌+◌, max, Option, Some, None, List, [], ◌∷◌, map, refl, sym, ap, ◌∙◌}
 use Rattle.std.proofs.Math.Nat.{max-zero}
+use Rattle.std.specs.Global.{Box}
 use Rattle.c_ast.specs.declared.expr.Specifiers.{Specifiers}
 use Rattle.c_ast.specs.declared.statement.InitialiserForm.{InitialiserForm, InitialiserForm-F, fold_out-InitialiserForm}
 use Rattle.c_ast.specs.declared.statement.InitialiserForm.TheVariants as initialiser_form
@@ -17,10 +18,10 @@ use Rattle.c_ast.specs.declared.unit.External.{External}
 use Rattle.c_ast.specs.declared.unit.Unit.{Unit as UnitValue}
 use Rattle.c_ast.specs.Trees.{InitialiserTree, StatementTree, BlockTree}
 use Rattle.c_ast.specs.Views.{specifiers_of, declarator_of}
-use Rattle.c_ast.specs.UnitViews.{initialisers_of, initialiser_form_layer, initialiser_layer, initialiser_form_of, initialiser_of, option_of, init_of, declaration_of, statements_of, maybe_of, statement_form_layer, block_layer, statement_layer, statement_form_of, block_of, statement_of, external_form_of, external_of, unit_of}
-use Rattle.c_ast.specs.Heights.{height, maybe_height, specifiers_height, maybe_specifiers_height, declarator_height, initialiser_height, initialisers_height, option_height, init_height, inits_height, declaration_height, declarations_height, statement_height, statements_height, block_height, external_height, externals_height, unit_height}
+use Rattle.c_ast.specs.UnitViews.{initialisers_of, initialiser_form_layer, initialiser_layer, initialiser_form_of, initialiser_of, boxed_initialiser_of, option_of, init_of, declaration_of, statements_of, maybe_of, statement_form_layer, block_layer, statement_layer, statement_form_of, block_of, statement_of, external_form_of, external_of, unit_of}
+use Rattle.c_ast.specs.Heights.{maybe_height, specifiers_height, maybe_specifiers_height, declarator_height, initialiser_height, initialisers_height, option_height, init_height, inits_height, declaration_height, declarations_height, statement_height, statements_height, block_height, external_height, externals_height, unit_height}
 use Rattle.c_ast.specs.ValueHeights.{most, if_any, expr_high, specifiers_high, declarator_high}
-use Rattle.c_ast.specs.UnitValueHeights.{initialiser_high, init_high, declaration_high, statement_high, else_high, block_high, external_high}
+use Rattle.c_ast.specs.UnitValueHeights.{initialiser_high, maybe_initialiser_high, init_high, declaration_high, statement_high, else_high, block_high, function_high, external_high}
 use Rattle.c_ast.specs.UnitLayers.{block_is, initialiser_is, is_block, is_break, is_case, is_continue, is_default, is_do, is_expr, is_expression, is_for, is_goto, is_if, is_if_else, is_label, is_list, is_return, is_switch, is_while, statement_is}
 use Rattle.c_ast.proofs.ValueHeights.{any_expr}
 
@@ -56,7 +57,7 @@ unfolding specifiers_high
 any_specifiers None = refl
 any_specifiers (Some s) = refl
 
-any_initialiser : (i : Option Initialiser) → option_height (option_of initialiser_of i) ≡ if_any initialiser_high i
+any_initialiser : (i : Option (Box Initialiser)) → option_height (option_of boxed_initialiser_of i) ≡ maybe_initialiser_high i
 unfolding initialiser_high
 any_initialiser None = refl
 any_initialiser (Some i) = refl
@@ -88,7 +89,7 @@ initialiser_form_list is comma = ap (λ g. initialiser_height (g 0)) (is_list is
 
 pub ruleset initialiser_forms = (initialiser_form_high, initialiser_form_expr, initialiser_form_list)
 
-pub init_parts : (i : InitDeclarator) → init_high i ≡ max (declarator_high i.declarator) (if_any initialiser_high i.initialiser)
+pub init_parts : (i : InitDeclarator) → init_high i ≡ max (declarator_high i.declarator) (maybe_initialiser_high i.initialiser)
 unfolding init_high declarator_high
 init_parts i = ap (max (declarator_height (declarator_of i.declarator))) (any_initialiser i.initialiser)
 
@@ -198,7 +199,7 @@ unfoldable pub external_form_height : ExternalForm → ℕ
 external_form_height f = external_height (external_form_of f 0)
 
 external_lines : (f : ExternalForm) (line : ℕ) → external_height (external_form_of f line) ≡ external_height (external_form_of f 0)
-external_lines (external_form.Function s d ps b) line = refl
+external_lines (external_form.Function f) line = refl
 external_lines (external_form.Declaration d) line = refl
 external_lines external_form.Empty line = refl
 
@@ -206,10 +207,12 @@ pub external_form_high : (x : External) → external_high x ≡ external_form_he
 unfolding external_high external_form_height
 external_form_high x = external_lines x.form x.line
 
-pub external_form_function : (s : _) (d : _) (ps : _) (b : _) → external_form_height (external_form.Function s d ps b) ≡ max (max (max (if_any specifiers_high s) (declarator_high d)) (most declaration_high ps)) (block_high b) + 1
+pub external_form_function : (f : _) → external_form_height (external_form.Function f) ≡ function_high f.value
 unfolding external_form_height declarator_high block_high
-external_form_function s d ps b =
-    ap (λ n. max (max (max n (declarator_height (declarator_of d))) (declarations_height (map declaration_of ps))) (block_height (block_of b)) + 1) (any_specifiers s) ∙ ap (λ n. max (max (max (if_any specifiers_high s) (declarator_height (declarator_of d))) n) (block_height (block_of b)) + 1) (declarations_most ps)
+external_form_function f =
+    let d = declarator_height (declarator_of f.value.declarator) in
+    let b = block_height (block_of f.value.body) in
+    ap (λ n. max (max (max n d) (declarations_height (map declaration_of f.value.parameters))) b + 1) (any_specifiers f.value.specifiers) ∙ ap (λ n. max (max (max (if_any specifiers_high f.value.specifiers) d) n) b + 1) (declarations_most f.value.parameters)
 
 pub external_form_declaration : (d : _) → external_form_height (external_form.Declaration d) ≡ declaration_high d + 1
 unfolding external_form_height declaration_high

@@ -1,5 +1,5 @@
 -- The texts of initialisers, declarations and statements as values: those of the trees that they are.
-use Rattle.std.specs.Prelude.{ℕ, Option, Some, None, List, [], ◌++◌}
+use Rattle.std.specs.Prelude.{ℕ, Option, Some, None, List, [], ◌++◌, flat_map}
 use Rattle.std.specs.Global.{Box}
 use Rattle.c_ast.specs.declared.statement.Initialiser.{Initialiser}
 use Rattle.c_ast.specs.declared.statement.InitDeclarator.{InitDeclarator}
@@ -7,7 +7,9 @@ use Rattle.c_ast.specs.declared.statement.Declaration.{Declaration}
 use Rattle.c_ast.specs.declared.statement.Statement.{Statement}
 use Rattle.c_ast.specs.declared.statement.Block.{Block}
 use Rattle.c_ast.specs.declared.unit.External.{External}
+use Rattle.c_ast.specs.declared.unit.FunctionDefinition.{FunctionDefinition}
 use Rattle.c_ast.specs.UnitViews.{initialiser_of, init_of, declaration_of, statement_of, block_of, external_of}
+use Rattle.c_ast.specs.ValueTexts.{shown_if_any, specifiers_shown, declarator_shown}
 use Rattle.c_ast.specs.TreeTexts.{initialiser_text, init_text, declaration_text, statement_text, block_text, external_text, sign_text, word_text}
 
 unfoldable pub initialiser_shown : Initialiser → List ℕ
@@ -25,13 +27,17 @@ statement_shown v = statement_text (statement_of v)
 unfoldable pub block_shown : Block → List ℕ
 block_shown v = block_text (block_of v)
 
+-- the text of a function's definition, which is an external declaration
+abbrev pub function_shown : FunctionDefinition → List ℕ
+function_shown f = shown_if_any specifiers_shown f.specifiers ++ declarator_shown f.declarator ++ flat_map declaration_shown f.parameters ++ block_shown f.body
+
 unfoldable pub external_shown : External → List ℕ
 external_shown v = external_text (external_of v)
 
 -- what may be left out, with the token before it
-abbrev pub shown_initialiser : Option Initialiser → List ℕ
+abbrev pub shown_initialiser : Option (Box Initialiser) → List ℕ
 shown_initialiser None = []
-shown_initialiser (Some i) = sign_text 34 ++ initialiser_shown i
+shown_initialiser (Some i) = sign_text 34 ++ initialiser_shown i.value
 
 abbrev pub shown_else : Option (Box Statement) → List ℕ
 shown_else None = []

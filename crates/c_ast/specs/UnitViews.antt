@@ -1,5 +1,6 @@
 -- The trees that values of the declared types are, from declarations upwards.
 use Rattle.std.specs.Prelude.{ℕ, Option, Some, None, List, [], ◌∷◌, map}
+use Rattle.std.specs.Global.{Box}
 use Rattle.c_ast.specs.declared.statement.InitialiserForm.{InitialiserForm as InitialiserFormValue, InitialiserForm-F, fold-InitialiserForm}
 use Rattle.c_ast.specs.declared.statement.Initialiser.{Initialiser as InitialiserValue, Initialiser-F, fold-Initialiser}
 use Rattle.c_ast.specs.declared.statement.InitDeclarator.{InitDeclarator}
@@ -40,8 +41,11 @@ abbrev pub option_of : {A B : Type 0} → (A → B) → Option A → Option B
 option_of f None = None
 option_of f (Some x) = Some (f x)
 
+abbrev pub boxed_initialiser_of : Box InitialiserValue → InitialiserTree
+boxed_initialiser_of b = initialiser_of b.value
+
 abbrev pub init_of : InitDeclarator → InitTree
-init_of i = record { line = i.line; declarator = declarator_of i.declarator; initialiser = option_of initialiser_of i.initialiser }
+init_of i = record { line = i.line; declarator = declarator_of i.declarator; initialiser = option_of boxed_initialiser_of i.initialiser }
 
 abbrev pub declaration_of : Declaration → DeclarationTree
 declaration_of d = record { line = d.line; specifiers = specifiers_of d.specifiers; declarators = map init_of d.declarators }
@@ -91,7 +95,7 @@ statement_of = fold-Statement (ℕ → StatementTree) BlockTree StatementTree st
 -- ---- units
 
 abbrev pub external_form_of : ExternalForm → ℕ → ExternalTree
-external_form_of (external_form.Function s d ps b) line = Function line (option_of specifiers_of s) (declarator_of d) (map declaration_of ps) (block_of b)
+external_form_of (external_form.Function f) line = Function line (option_of specifiers_of f.value.specifiers) (declarator_of f.value.declarator) (map declaration_of f.value.parameters) (block_of f.value.body)
 external_form_of (external_form.Declaration d) line = Declares line (declaration_of d)
 external_form_of external_form.Empty line = Empty line
 

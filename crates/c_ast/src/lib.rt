@@ -40,6 +40,6 @@ pub use statement::{
     Block, Declaration, InitDeclarator, Initialiser, InitialiserForm, Statement, StatementForm,
 };
 pub use tree_height::{declarator_height, expr_height, specifiers_height};
-pub use unit::{External, ExternalForm, Unit};
+pub use unit::{External, ExternalForm, FunctionDefinition, Unit};
 pub use unit_height::{declaration_height, height};
 pub use worked::{nearest_if, scopes_and_types, typedef_names};

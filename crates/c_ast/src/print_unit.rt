@@ -3,7 +3,7 @@ ghost use Rattle.std.specs.Prelude.{◌≡◌, ◌<◌, ◌++◌, drop, flat_map
 ghost use Rattle.c_ast.specs.Printed.{printed};
 ghost use Rattle.c_ast.specs.TreeTexts.{listed, name_text, sign_text, word_text};
 ghost use Rattle.c_ast.specs.ValueTexts.{shown_if_any, expr_shown, specifiers_shown};
-ghost use Rattle.c_ast.specs.UnitValueTexts.{initialiser_shown, shown_initialiser, init_shown, declaration_shown, statement_shown, shown_else, block_shown, external_shown};
+ghost use Rattle.c_ast.specs.UnitValueTexts.{initialiser_shown, shown_initialiser, init_shown, declaration_shown, statement_shown, shown_else, block_shown, function_shown, external_shown};
 ghost use Rattle.c_ast.specs.UnitViews.{unit_of};
 
 use crate::expr::{Expr, Specifiers};
@@ -12,7 +12,7 @@ use crate::statement::{
     Block, Declaration, InitDeclarator, Initialiser, InitialiserForm, Statement, StatementForm,
 };
 use crate::token_text::{push_keyword, push_name, push_sign};
-use crate::unit::{External, ExternalForm, Unit};
+use crate::unit::{External, ExternalForm, FunctionDefinition, Unit};
 use crate::{keyword, sign};
 use lcc_base::{Bytes, Memory};
 use std::alloc::Global;
@@ -59,7 +59,10 @@ fn push_init(out: &mut Bytes, init: &InitDeclarator) -> Result<(), Memory>
 }
 
 /// Adds a `=` and an initialiser, if there is one.
-fn push_maybe_initialiser(out: &mut Bytes, initialiser: &Option<Initialiser>) -> Result<(), Memory>
+fn push_maybe_initialiser(
+    out: &mut Bytes,
+    initialiser: &Option<Box<Initialiser>>,
+) -> Result<(), Memory>
     ensures { OnOk result (out.new ≡ out.old ++ shown_initialiser initialiser.now) }
 {
     match initialiser {
@@ -268,23 +271,23 @@ fn push_maybe_specifiers(out: &mut Bytes, specifiers: &Option<Specifiers>) -> Re
     }
 }
 
+/// Adds a function's definition.
+fn push_function(out: &mut Bytes, function: &FunctionDefinition) -> Result<(), Memory>
+    ensures { OnOk result (out.new ≡ out.old ++ function_shown function.now) }
+{
+    push_maybe_specifiers(out, &function.specifiers)?;
+    push_declarator(out, &function.declarator)?;
+    push_declarations(out, function.parameters.as_slice())?;
+    push_block(out, &function.body)
+}
+
 /// Adds an external declaration.
 #[tactic(auto, using(std::proofs::lemmas::Grind::common_steps, crate::proofs::UnitShownValues::external_forms))]
 fn push_external(out: &mut Bytes, external: &External) -> Result<(), Memory>
     ensures { OnOk result (out.new ≡ out.old ++ external_shown external.now) }
 {
     match &external.form {
-        ExternalForm::Function {
-            specifiers,
-            declarator,
-            parameters,
-            body,
-        } => {
-            push_maybe_specifiers(out, specifiers)?;
-            push_declarator(out, declarator)?;
-            push_declarations(out, parameters.as_slice())?;
-            push_block(out, body)
-        }
+        ExternalForm::Function(function) => push_function(out, function),
         ExternalForm::Declaration(declaration) => push_declaration(out, declaration),
         ExternalForm::Empty => push_sign(out, sign::SEMICOLON),
     }

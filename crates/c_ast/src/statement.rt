@@ -16,7 +16,7 @@ pub struct InitDeclarator {
     /// The line of its first token.
     pub line: u32,
     pub declarator: Declarator,
-    pub initialiser: Option<Initialiser>,
+    pub initialiser: Option<Box<Initialiser>>,
 }
 
 /// An initialiser. Source: C89 3.5.7.

@@ -37,19 +37,20 @@ fn returning(alloc: Global, e: Expr) -> Result<Unit, Memory> {
         line: 1,
         form: StatementForm::Return(Some(e)),
     })?;
+    let function = FunctionDefinition {
+        specifiers: None,
+        declarator: function_named(alloc, b"main")?,
+        parameters: Items::new(alloc),
+        body: Block {
+            line: 1,
+            declarations: Items::new(alloc),
+            statements,
+        },
+    };
     let mut externals = Items::new(alloc);
     externals.push(External {
         line: 1,
-        form: ExternalForm::Function {
-            specifiers: None,
-            declarator: function_named(alloc, b"main")?,
-            parameters: Items::new(alloc),
-            body: Block {
-                line: 1,
-                declarations: Items::new(alloc),
-                statements,
-            },
-        },
+        form: ExternalForm::Function(Box::new(alloc, function)?),
     })?;
     Ok(Unit { line: 1, externals })
 }

@@ -21,14 +21,18 @@ pub struct External {
 /// What an external declaration is.
 #[derive(Drop)]
 pub enum ExternalForm {
-    /// A function's definition, with the declarations of old-style parameters.
-    Function {
-        specifiers: Option<Specifiers>,
-        declarator: Declarator,
-        parameters: Items<Declaration>,
-        body: Block,
-    },
+    Function(Box<FunctionDefinition>),
     Declaration(Declaration),
     /// A lone `;`, which isn't the first.
     Empty,
+}
+
+/// A function's definition. Source: C89 3.7.1.
+#[derive(Drop)]
+pub struct FunctionDefinition {
+    pub specifiers: Option<Specifiers>,
+    pub declarator: Declarator,
+    /// The declarations of old-style parameters.
+    pub parameters: Items<Declaration>,
+    pub body: Block,
 }

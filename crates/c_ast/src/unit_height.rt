@@ -3,13 +3,13 @@ ghost use Rattle.std.specs.Prelude.{◌≡◌};
 ghost use Rattle.c_ast.specs.Heights.{unit_height};
 ghost use Rattle.c_ast.specs.UnitViews.{unit_of};
 ghost use Rattle.c_ast.specs.ValueHeights.{capped, most};
-ghost use Rattle.c_ast.specs.UnitValueHeights.{initialiser_high, init_high, declaration_high, statement_high, else_high, block_high, external_high};
+ghost use Rattle.c_ast.specs.UnitValueHeights.{initialiser_high, init_high, declaration_high, statement_high, else_high, block_high, function_high, external_high};
 
 use crate::statement::{
     Block, Declaration, InitDeclarator, Initialiser, InitialiserForm, Statement, StatementForm,
 };
 use crate::tree_height::{declarator_height, expr_height, maybe_expr_height, specifiers_height};
-use crate::unit::{External, ExternalForm, Unit};
+use crate::unit::{External, ExternalForm, FunctionDefinition, Unit};
 
 /// The height of an initialiser.
 #[cycle(initialisers)]
@@ -151,27 +151,27 @@ fn block_height(block: &Block) -> u32
         .saturating_add(1)
 }
 
+/// The height of a function's definition.
+fn function_height(function: &FunctionDefinition) -> u32
+    ensures { result ≡ capped (function_high function.now) }
+{
+    let first = match &function.specifiers {
+        Some(specifiers) => specifiers_height(specifiers),
+        None => 0,
+    };
+    let head = first.max(declarator_height(&function.declarator));
+    head.max(declarations_height(function.parameters.as_slice()))
+        .max(block_height(&function.body))
+        .saturating_add(1)
+}
+
 /// The height of an external declaration.
 #[tactic(auto, using(crate::proofs::UnitValueHeights::external_forms))]
 fn external_height(external: &External) -> u32
     ensures { result ≡ capped (external_high external.now) }
 {
     match &external.form {
-        ExternalForm::Function {
-            specifiers,
-            declarator,
-            parameters,
-            body,
-        } => {
-            let first = match specifiers {
-                Some(specifiers) => specifiers_height(specifiers),
-                None => 0,
-            };
-            let head = first.max(declarator_height(declarator));
-            head.max(declarations_height(parameters.as_slice()))
-                .max(block_height(body))
-                .saturating_add(1)
-        }
+        ExternalForm::Function(function) => function_height(function),
         ExternalForm::Declaration(declaration) => declaration_height(declaration).saturating_add(1),
         ExternalForm::Empty => 1,
     }

@@ -1,14 +1,15 @@
 -- The trees of initialisers and declarations, one layer at a time, as contracts speak of them.
 use Rattle.std.proofs.Common.{◌≡◌, ℕ, Option, Some, None, map, refl, ap}
+use Rattle.std.specs.Global.{Box}
 use Rattle.c_ast.specs.declared.statement.Initialiser.{Initialiser as InitialiserValue, out-Initialiser}
 use Rattle.c_ast.specs.declared.statement.InitialiserForm.TheVariants as initialiser_form
 use Rattle.c_ast.specs.declared.statement.InitDeclarator.{InitDeclarator}
 use Rattle.c_ast.specs.declared.statement.Declaration.{Declaration}
 use Rattle.c_ast.specs.Trees.{InitialiserTree, ByExpr, Braced}
-use Rattle.c_ast.specs.UnitViews.{initialiser_of, initialisers_of, option_of}
+use Rattle.c_ast.specs.UnitViews.{boxed_initialiser_of, initialisers_of, option_of}
 use Rattle.c_ast.specs.UnitLayers.{initialiser_is, is_expr, is_list}
 use Rattle.c_expr.specs.Seen.{declarator_seen, expr_seen, specifiers_seen}
-use Rattle.c_decl.specs.Seen.{declaration_seen, init_seen, initialiser_form_seen, initialiser_seen}
+use Rattle.c_decl.specs.Seen.{boxed_initialiser_seen, declaration_seen, init_seen, initialiser_form_seen, initialiser_seen}
 
 pub initialiser_parts : (v : InitialiserValue) → initialiser_seen v ≡ initialiser_form_seen (out-Initialiser v).form (out-Initialiser v).line
 unfolding initialiser_seen initialiser_form_seen
@@ -24,12 +25,12 @@ form_list is comma line = ap (λ (g : ℕ → InitialiserTree). g line) (is_list
 
 pub ruleset initialiser_forms = (initialiser_parts, form_expr, form_list)
 
-any_initialiser : (o : Option InitialiserValue) → option_of initialiser_of o ≡ option_of initialiser_seen o
+any_initialiser : (o : Option (Box InitialiserValue)) → option_of boxed_initialiser_of o ≡ option_of boxed_initialiser_seen o
 unfolding initialiser_seen
 any_initialiser None = refl
 any_initialiser (Some i) = refl
 
-pub init_parts : (v : InitDeclarator) → init_seen v ≡ record { line = v.line; declarator = declarator_seen v.declarator; initialiser = option_of initialiser_seen v.initialiser }
+pub init_parts : (v : InitDeclarator) → init_seen v ≡ record { line = v.line; declarator = declarator_seen v.declarator; initialiser = option_of boxed_initialiser_seen v.initialiser }
 unfolding init_seen declarator_seen
 init_parts v = ap (λ (o : Option InitialiserTree). record { line = v.line; declarator = declarator_seen v.declarator; initialiser = o }) (any_initialiser v.initialiser)
 

@@ -1,5 +1,6 @@
 -- The trees that values are, as contracts of readers speak of them: they are not unfolded there.
 use Rattle.std.specs.Prelude.{ℕ}
+use Rattle.std.specs.Global.{Box}
 use Rattle.c_ast.specs.declared.statement.InitialiserForm.{InitialiserForm}
 use Rattle.c_ast.specs.declared.statement.Initialiser.{Initialiser}
 use Rattle.c_ast.specs.declared.statement.InitDeclarator.{InitDeclarator}
@@ -9,6 +10,9 @@ use Rattle.c_ast.specs.UnitViews.{initialiser_of, initialiser_form_of, init_of, 
 
 unfoldable pub initialiser_seen : Initialiser → InitialiserTree
 initialiser_seen v = initialiser_of v
+
+abbrev pub boxed_initialiser_seen : Box Initialiser → InitialiserTree
+boxed_initialiser_seen b = initialiser_seen b.value
 
 unfoldable pub initialiser_form_seen : InitialiserForm → ℕ → InitialiserTree
 initialiser_form_seen v line = initialiser_form_of v line

@@ -7,14 +7,14 @@ ghost use Rattle.c_expr.specs.Seen.{declarator_seen};
 ghost use Rattle.c_expr.specs.State.{ahead, Took};
 ghost use Rattle.c_decl.specs.Going.{Goes, Breaks, Fails};
 ghost use Rattle.c_decl.specs.Productions as production;
-ghost use Rattle.c_decl.specs.Seen.{declaration_seen, init_seen, initialiser_seen};
+ghost use Rattle.c_decl.specs.Seen.{boxed_initialiser_seen, declaration_seen, init_seen};
 ghost use Rattle.c_decl.specs.Stopping.{Stopped};
 
 use crate::initialisers::initialiser_at;
 use crate::next::{begins_declaration, line_at};
 use crate::nodes::{declared, init};
 use crate::parts::{low_specifiers, whole_declarator};
-use crate::steps::{expect, keep, refuse, takes};
+use crate::steps::{alone, boxed, expect, keep, refuse, takes};
 use c_ast::{Declaration, Declarator, InitDeclarator, Initialiser, sign};
 use c_expr::{Parser, SyntaxFault, has_typedef};
 use c_readings::units_are_exact;
@@ -48,16 +48,17 @@ pub fn old_parameters(p: &mut Parser) -> Result<Items<Declaration>, SyntaxFault>
 
 /// `=` and an initialiser, or neither.
 #[tactic(auto, unfolding(c_readings::specs::DeclarationReaders::maybe_initialiser))]
-fn maybe_initialiser_at(p: &mut Parser, limit: u32) -> Result<Option<Initialiser>, SyntaxFault>
+fn maybe_initialiser_at(p: &mut Parser, limit: u32) -> Result<Option<Box<Initialiser>>, SyntaxFault>
     requires sound { p.old.fault ≡ None }
     requires limit { limit ≤ 500 }
-    ensures ok { IfOk result (λ o. reader.maybe_initialiser (readers 500) limit (ahead p.old) ≡ Some (option_of initialiser_seen o, ahead p.new)) }
+    ensures ok { IfOk result (λ o. reader.maybe_initialiser (readers 500) limit (ahead p.old) ≡ Some (option_of boxed_initialiser_seen o, ahead p.new)) }
     ensures none { IfErr result (λ e. Fails e (reader.maybe_initialiser (readers 500) limit (ahead p.old))) }
     ensures going { IfOk result (λ o. Goes 0 p.old p.new) }
     ensures broken { IfErr result (λ e. Breaks p.old p.new e) }
 {
     if takes(p, sign::EQUALS) {
-        return Ok(Some(initialiser_at(p, limit)?));
+        let initialiser = initialiser_at(p, limit)?;
+        return Ok(Some(boxed(p, initialiser)?));
     }
     Ok(None)
 }
@@ -114,8 +115,7 @@ pub fn inits_behind(
     ensures broken { IfErr result (λ e. Breaks p.old p.new e) }
 {
     let first = init_behind(p, limit, line, declarator)?;
-    let mut list = Items::new(p.alloc());
-    keep(p, &mut list, first)?;
+    let mut list = alone(p, first)?;
     while takes(p, sign::COMMA) {
         let other = init_at(p, limit, typedef)?;
         keep(p, &mut list, other)?;

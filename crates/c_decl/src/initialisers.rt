@@ -12,7 +12,7 @@ ghost use Rattle.c_decl.specs.Stopping.{Stopped};
 use crate::next::line_at;
 use crate::nodes::{braced, by_expr};
 use crate::parts::low_assignment;
-use crate::steps::{expect, keep, refuse, takes, takes_comma};
+use crate::steps::{alone, expect, keep, refuse, takes, takes_comma};
 use c_ast::{Initialiser, sign};
 use c_expr::{Parser, SyntaxFault};
 use c_readings::units_are_exact;
@@ -77,8 +77,7 @@ fn initialisers_at(p: &mut Parser, limit: u32) -> Result<Initialisers, SyntaxFau
     ensures broken { IfErr result (λ e. Breaks p.old p.new e) }
 {
     let first = initialiser_at(p, limit)?;
-    let mut items = Items::new(p.alloc());
-    keep(p, &mut items, first)?;
+    let mut items = alone(p, first)?;
     while takes_comma(p, sign::CLOSE_BRACE) {
         let item = initialiser_at(p, limit)?;
         keep(p, &mut items, item)?;

@@ -3,7 +3,7 @@ ghost use Rattle.std.specs.Prelude.{◌≡◌, map};
 ghost use Rattle.c_ast.specs.Trees.{ByExpr, Braced};
 ghost use Rattle.c_ast.specs.UnitViews.{initialisers_of, option_of};
 ghost use Rattle.c_expr.specs.Seen.{declarator_seen, expr_seen, specifiers_seen};
-ghost use Rattle.c_decl.specs.Seen.{declaration_seen, init_seen, initialiser_seen};
+ghost use Rattle.c_decl.specs.Seen.{boxed_initialiser_seen, declaration_seen, init_seen, initialiser_seen};
 
 use c_ast::{
     Declaration, Declarator, Expr, InitDeclarator, Initialiser, InitialiserForm, Specifiers,
@@ -37,9 +37,9 @@ pub(crate) fn braced(line: u32, items: Items<Initialiser>, comma: bool) -> Initi
 pub(crate) fn init(
     line: u32,
     declarator: Declarator,
-    initialiser: Option<Initialiser>,
+    initialiser: Option<Box<Initialiser>>,
 ) -> InitDeclarator
-    ensures { init_seen result ≡ record { line = line; declarator = declarator_seen declarator; initialiser = option_of initialiser_seen initialiser } }
+    ensures { init_seen result ≡ record { line = line; declarator = declarator_seen declarator; initialiser = option_of boxed_initialiser_seen initialiser } }
 {
     InitDeclarator {
         line,

@@ -137,6 +137,20 @@ pub fn keep<T: Drop>(p: &mut Parser, list: &mut Items<T>, item: T) -> Result<(),
     Ok(())
 }
 
+/// A list of one item, with room for no other.
+pub(crate) fn alone<T: Drop>(p: &mut Parser, item: T) -> Result<Items<T>, SyntaxFault>
+    ensures list { IfOk result (λ list. list ≡ item ∷ []) }
+    ensures same { OnOk result (p.new ≡ p.old) }
+    ensures memory { IfErr result (λ e. e ≡ OutOfMemory) }
+    ensures broken { IfErr result (λ e. Breaks p.old p.new e) }
+{
+    let Ok(mut list) = Items::with_capacity(p.alloc(), 1) else {
+        return Err(run_out(p));
+    };
+    keep(p, &mut list, item)?;
+    Ok(list)
+}
+
 /// A value in a place of its own.
 pub fn boxed<T: Drop>(p: &mut Parser, value: T) -> Result<Box<T>, SyntaxFault>
     ensures value { IfOk result (λ b. b.value ≡ value) }

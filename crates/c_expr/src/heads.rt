@@ -59,7 +59,7 @@ fn literals_at<'t>(
     ensures rest { IfOk result (λ r. placed text.now r.1.now ≡ (texts_on (placed text.now tokens.now)).1) }
     ensures shorter { IfOk result (λ r. length r.1.now ≤ length tokens.now) }
 {
-    let mut literals = Items::new(text.alloc);
+    let mut literals = Items::with_capacity(text.alloc, 1)?;
     literals.push(text.values(token)?)?;
     let mut rest = tokens;
     while let Some((other, behind)) = next_literal(text, rest) {

@@ -99,7 +99,7 @@ pub(crate) fn parameters_at<'t>(
     ensures shorter { IfOk result (λ f. length f.rest.now < length tokens.now) }
 {
     let begun = parameter_at(text, names, tokens, limit)?;
-    let mut list = Items::new(text.alloc);
+    let mut list = Items::with_capacity(text.alloc, 1)?;
     list.push(begun.tree)?;
     let mut height = begun.height;
     let mut rest = begun.rest;

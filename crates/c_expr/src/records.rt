@@ -153,7 +153,7 @@ fn fields_at<'t>(
     ensures shorter { IfOk result (λ f. length f.rest.now < length tokens.now) }
 {
     let begun = field_at(text, names, tokens, limit)?;
-    let mut fields = Items::new(text.alloc);
+    let mut fields = Items::with_capacity(text.alloc, 1)?;
     fields.push(begun.tree)?;
     let mut height = begun.height;
     let mut rest = begun.rest;

@@ -45,7 +45,7 @@ pub(crate) fn specifiers_at<'t>(
     ensures shorter { IfOk result (λ f. length f.rest.now < length tokens.now) }
 {
     let line = line_of(tokens);
-    let mut list = Items::new(text.alloc);
+    let mut list = Items::with_capacity(text.alloc, 1)?;
     let mut typed = false;
     let mut height: u32 = 0;
     let mut rest = tokens;

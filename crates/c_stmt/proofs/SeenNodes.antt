@@ -102,9 +102,9 @@ block_parts v = block_is v
 
 -- ---- external declarations and units
 
-pub external_function : (line : ℕ) (s : _) (d : _) (ps : _) (b : _) → external_seen record { line = line; form = external_form.Function s d ps b } ≡ Function line (option_of specifiers_seen s) (declarator_seen d) (map declaration_seen ps) (block_seen b)
+pub external_function : (line : ℕ) (f : _) → external_seen record { line = line; form = external_form.Function f } ≡ Function line (option_of specifiers_seen f.value.specifiers) (declarator_seen f.value.declarator) (map declaration_seen f.value.parameters) (block_seen f.value.body)
 unfolding external_seen declarator_seen declaration_seen block_seen
-external_function line s d ps b = ap (λ (o : Option SpecifiersTree). Function line o (declarator_seen d) (map declaration_seen ps) (block_seen b)) (any_specifiers s)
+external_function line f = ap (λ (o : Option SpecifiersTree). Function line o (declarator_seen f.value.declarator) (map declaration_seen f.value.parameters) (block_seen f.value.body)) (any_specifiers f.value.specifiers)
 
 pub external_declaration : (line : ℕ) (d : _) → external_seen record { line = line; form = external_form.Declaration d } ≡ Declares line (declaration_seen d)
 unfolding external_seen declaration_seen

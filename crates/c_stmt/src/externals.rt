@@ -12,9 +12,12 @@ ghost use Rattle.c_stmt.specs.Seen.{block_seen, external_seen};
 
 use crate::nodes::{declares, empty, function};
 use crate::statements::block_inside;
-use c_ast::{Block, Declarator, External, InitDeclarator, Specifiers, declaration_height, sign};
+use c_ast::{
+    Block, Declarator, External, FunctionDefinition, InitDeclarator, Specifiers,
+    declaration_height, sign,
+};
 use c_decl::{
-    begins_specifier, declarations_to, declared, expect, inits_behind, is_sign, line_at,
+    begins_specifier, boxed, declarations_to, declared, expect, inits_behind, is_sign, line_at,
     low_specifiers, refuse, reopen_scope, takes, whole_declarator,
 };
 use c_expr::{Parser, SyntaxFault, has_typedef};
@@ -58,7 +61,13 @@ fn function_at(
     reopen_scope(p)?;
     let parameters = declarations_to(p, limit)?;
     let body = function_body(p, limit)?;
-    Ok(function(line, specifiers, declarator, parameters, body))
+    let definition = FunctionDefinition {
+        specifiers,
+        declarator,
+        parameters,
+        body,
+    };
+    Ok(function(line, boxed(p, definition)?))
 }
 
 /// The declaration of these parts, which has specifiers and is no higher than the limit.

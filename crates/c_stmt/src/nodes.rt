@@ -8,8 +8,8 @@ ghost use Rattle.c_decl.specs.Seen.{declaration_seen};
 ghost use Rattle.c_stmt.specs.Seen.{block_seen, external_seen, statement_seen, unit_seen};
 
 use c_ast::{
-    Block, Declaration, Declarator, Expr, External, ExternalForm, Specifiers, Statement,
-    StatementForm, Unit,
+    Block, Declaration, Expr, External, ExternalForm, FunctionDefinition, Statement, StatementForm,
+    Unit,
 };
 use lcc_base::{Bytes, Items};
 
@@ -206,23 +206,12 @@ pub(crate) fn block(
 
 /// A function's definition.
 #[tactic(auto, using(crate::proofs::SeenNodes::external_forms))]
-pub(crate) fn function(
-    line: u32,
-    specifiers: Option<Specifiers>,
-    declarator: Declarator,
-    parameters: Items<Declaration>,
-    body: Block,
-) -> External
-    ensures { external_seen result ≡ Function line (option_of specifiers_seen specifiers) (declarator_seen declarator) (map declaration_seen parameters) (block_seen body) }
+pub(crate) fn function(line: u32, definition: Box<FunctionDefinition>) -> External
+    ensures { external_seen result ≡ Function line (option_of specifiers_seen definition.value.specifiers) (declarator_seen definition.value.declarator) (map declaration_seen definition.value.parameters) (block_seen definition.value.body) }
 {
     External {
         line,
-        form: ExternalForm::Function {
-            specifiers,
-            declarator,
-            parameters,
-            body,
-        },
+        form: ExternalForm::Function(definition),
     }
 }
 

@@ -149,10 +149,10 @@ fn units(rt: HostRuntime) {
 /// The form of the expression that the first statement of the last function gives back.
 fn returned(unit: &Unit) -> Option<&ExprForm> {
     let external = unit.externals.as_slice().last()?;
-    let ExternalForm::Function { body, .. } = &external.form else {
+    let ExternalForm::Function(function) = &external.form else {
         return None;
     };
-    let statement = body.statements.as_slice().first()?;
+    let statement = function.body.statements.as_slice().first()?;
     match &statement.form {
         StatementForm::Return(Some(e)) => Some(&e.form),
         _ => None,

@@ -45,7 +45,7 @@ enumerations::enumerators_at-returns-clause-ok b c = ends c.loop-behind.invarian
 pub parameters::parameters_at-loop-behind-init : goal.parameters::parameters_at-loop-behind-init
 unfolding parameters
 parameters::parameters_at-loop-behind-init b c =
-    rw (c.in_ok-push.ensures.ok, c.new-list.ensures) (
+    rw (c.in_ok-push.ensures.ok, c.in_ok-list.ensures) (
       c.in_ok-begun.ensures.shorter,
       c.in_ok-begun.ensures.low,
       most_one (λ v. parameter_height (parameter_seen v)) c.in_ok-begun.begun.tree c.in_ok-begun.begun.height c.in_ok-begun.ensures.high,
@@ -136,7 +136,7 @@ specifiers::specifiers_at-loop-names-preserved b c =
     )
 
 pub specifiers::specifiers_at-returns-in_err-found-clause-none : goal.specifiers::specifiers_at-returns-in_err-found-clause-none
-specifiers::specifiers_at-returns-in_err-found-clause-none b c = passed c.from_residual.result c.from_residual.ensures.1 (err c.in_err-found.ensures.none (λ z. stops c.loop-names.invariant.3 (sym c.begins_specifier.ensures ∙ c.loop-names-test.true) z))
+specifiers::specifiers_at-returns-in_err-found-clause-none b c = passed c.from_residual-in_err-found.result c.from_residual-in_err-found.ensures.1 (err c.in_err-found.ensures.none (λ z. stops c.loop-names.invariant.3 (sym c.begins_specifier.ensures ∙ c.loop-names-test.true) z))
 
 pub specifiers::specifiers_at-returns-clause-ok : goal.specifiers::specifiers_at-returns-clause-ok
 specifiers::specifiers_at-returns-clause-ok b c =
