@@ -1,7 +1,8 @@
 //! Expressions, specifiers and declarators that are no higher than a limit.
 ghost use Rattle.std.specs.Prelude.{◌≡◌, ◌≤◌, None, Some, IfOk, IfErr};
 ghost use Rattle.c_ast.specs.Heights.{height};
-ghost use Rattle.c_readings.specs.Reading.{no_higher};
+ghost use Rattle.c_ast.specs.Trees.{ExprTree};
+ghost use Rattle.c_readings.specs.Reading.{Read, State, no_higher};
 ghost use Rattle.c_readings.specs.Readers.{readers};
 ghost use Rattle.c_readings.specs.DeclarationReaders.{low_specifiers, whole_declarator};
 ghost use Rattle.c_readings.specs.StatementReaders.{low_expression};
@@ -12,6 +13,20 @@ ghost use Rattle.c_decl.specs.Going.{Goes, Breaks, Fails};
 use crate::steps::{put, refuse};
 use c_ast::{Declarator, Expr, Specifiers, declarator_height, expr_height, specifiers_height};
 use c_expr::{Parser, SyntaxFault, declared_name};
+
+/// An expression that was read, if it is no higher than the limit.
+fn if_low(p: &mut Parser, expression: Expr, limit: u32) -> Result<Expr, SyntaxFault>
+    requires limit { limit ≤ 500 }
+    ensures ok { IfOk result (λ e. (o : Read ExprTree) → o ≡ Some (expr_seen expression, ahead p.old) → no_higher height limit o ≡ Some (expr_seen e, ahead p.new)) }
+    ensures none { IfErr result (λ e. (o : Read ExprTree) (s : State) → o ≡ Some (expr_seen expression, s) → Fails e (no_higher height limit o)) }
+    ensures same { IfOk result (λ e. p.new ≡ p.old) }
+    ensures broken { IfErr result (λ e. Breaks p.old p.new e) }
+{
+    if expr_height(&expression) > limit {
+        return Err(refuse(p));
+    }
+    Ok(expression)
+}
 
 /// The expression at the place, perhaps with commas, if it is no higher than the limit.
 #[tactic(auto, unfolding(c_readings::specs::StatementReaders::low_expression))]
@@ -24,10 +39,7 @@ pub fn low_expression(p: &mut Parser, limit: u32) -> Result<Expr, SyntaxFault>
     ensures broken { IfErr result (λ e. Breaks p.old p.new e) }
 {
     let expression = p.expression()?;
-    if expr_height(&expression) > limit {
-        return Err(refuse(p));
-    }
-    Ok(expression)
+    if_low(p, expression, limit)
 }
 
 /// The assignment expression at the place, if it is no higher than the limit.
@@ -40,10 +52,7 @@ pub(crate) fn low_assignment(p: &mut Parser, limit: u32) -> Result<Expr, SyntaxF
     ensures broken { IfErr result (λ e. Breaks p.old p.new e) }
 {
     let expression = p.assignment()?;
-    if expr_height(&expression) > limit {
-        return Err(refuse(p));
-    }
-    Ok(expression)
+    if_low(p, expression, limit)
 }
 
 /// The constant expression at the place, if it is no higher than the limit.
@@ -56,10 +65,7 @@ pub fn low_constant(p: &mut Parser, limit: u32) -> Result<Expr, SyntaxFault>
     ensures broken { IfErr result (λ e. Breaks p.old p.new e) }
 {
     let expression = p.constant()?;
-    if expr_height(&expression) > limit {
-        return Err(refuse(p));
-    }
-    Ok(expression)
+    if_low(p, expression, limit)
 }
 
 /// The specifiers at the place, if they are no higher than the limit.

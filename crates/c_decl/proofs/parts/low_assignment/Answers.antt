@@ -1,16 +1,10 @@
-use Rattle.std.proofs.Common.{inr, arith}
-use Rattle.c_ast.specs.Heights.{height}
-use Rattle.c_ast.specs.ValueHeights.{expr_high}
+use Rattle.std.proofs.lemmas.Result.{IfOk-weaker, IfErr-weaker}
 use Rattle.c_readings.specs.Readers.{readers}
-use Rattle.c_expr.specs.Seen.{expr_seen}
 use Rattle.c_expr.specs.State.{ahead}
-use Rattle.c_decl.proofs.Lows.{low_read, high_read, measured_high, measured_low}
 use Rattle.c_decl.proofs.parts.low_assignment.Goals as goal
 
-pub returns-then-expr_height-limit-clause-none : goal.returns-then-expr_height-limit-clause-none
-unfolding expr_seen expr_high
-returns-then-expr_height-limit-clause-none c = inr (high_read height c.args.limit ((readers 500).piece 1 (ahead c.args.p.now)) (expr_seen c.in_ok-expression.expression) (ahead c.assignment.new.self) c.in_ok-expression.ensures.ok.reads (measured_high c.args.limit c.expr_height.result _ c.expr_height.ensures c.if-expr_height-limit.true))
-
 pub returns-clause-ok : goal.returns-clause-ok
-unfolding expr_seen expr_high
-returns-clause-ok c = low_read height c.args.limit ((readers 500).piece 1 (ahead c.args.p.now)) (expr_seen c.in_ok-expression.expression) (ahead c.assignment.new.self) c.in_ok-expression.ensures.ok.reads (measured_low c.args.limit c.expr_height.result _ c.requires.limit c.expr_height.ensures (omega (arith, c.if-expr_height-limit.false)))
+returns-clause-ok c = IfOk-weaker c.if_low.result _ _ (λ e f. f ((readers 500).piece 1 (ahead c.args.p.now)) c.in_ok-expression.ensures.ok.reads) c.if_low.ensures.ok
+
+pub returns-clause-none : goal.returns-clause-none
+returns-clause-none c = IfErr-weaker c.if_low.result _ _ (λ e f. f ((readers 500).piece 1 (ahead c.args.p.now)) (ahead c.assignment.new.self) c.in_ok-expression.ensures.ok.reads) c.if_low.ensures.none
