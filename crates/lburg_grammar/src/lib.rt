@@ -14,7 +14,7 @@ pub use lburg_faults::DescFault;
 pub use lburg_model::{
     Derivation, Description, Pattern, Range, Rule, Terminal, TextTree, TreeNode,
 };
-pub use lburg_trees::{TreeFault, read_trees};
+pub use lburg_trees::{TreeFault, TreeTaker, read_trees, take_trees};
 pub use printed_text::print;
 
 #[cfg(test)]

@@ -9,3 +9,4 @@ pub mod Parts
 pub mod Whole
 pub mod Names
 pub mod Tails
+pub mod Taken

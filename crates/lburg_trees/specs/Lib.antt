@@ -10,3 +10,4 @@ pub mod Rows
 pub mod FirstFault
 pub mod TailText
 pub mod Reading
+pub mod Taking

@@ -7,7 +7,9 @@ mod stop;
 mod tail;
 mod tree_fault;
 mod tree_reader;
+mod tree_taker;
 
 pub use row::Row;
-pub use tail::read_trees;
+pub use tail::{read_trees, take_trees};
 pub use tree_fault::TreeFault;
+pub use tree_taker::TreeTaker;

@@ -7,11 +7,13 @@ ghost use Rattle.lburg_model.specs.Description.{AreDistinct, terminal_names};
 ghost use Rattle.lburg_trees.specs.FirstFault.{IsTailOf, FirstFault};
 ghost use Rattle.lburg_trees.specs.TailText.{IsLineOf, AreTrees, IsTail};
 ghost use Rattle.lburg_trees.specs.Reading.{IsFineLine, LineFails, AreFine, FailsAt};
+ghost use Rattle.lburg_trees.specs.Taking.{Takes};
 
 use crate::name_table::Names;
 use crate::stop::Stop;
 use crate::tree_fault::TreeFault;
 use crate::tree_reader::line_tree;
+use crate::tree_taker::TreeTaker;
 use indexmap::IndexSet;
 use lburg_lines::{Section, Token, line_tokens, one_spelling, one_text, replace_tokens};
 use lburg_model::{Description, Terminal, TextTree};
@@ -60,53 +62,93 @@ fn names_of<'a>(alloc: Global, terminals: &'a [Terminal]) -> Result<IndexSet<&'a
     Ok(names)
 }
 
-/// Adds the tree of a line that isn't blank. The line's tokens are put into a list that serves line after line.
-fn add_line<'a>(
+/// Hands over the tree of a line that isn't blank, which has this number, and returns the number of the next. The line's
+/// tokens are put into a list that serves line after line.
+fn take_line<'a, T: TreeTaker>(
     alloc: Global,
     d: &Description,
     names: &Names<'a>,
     found: &mut Vec<Token<'a>>,
-    trees: &mut Items<TextTree>,
+    taker: &mut T,
+    number: u32,
     line: &'a [u8],
-) -> Result<(), Stop>
-    requires { bytes_of names.now.set ≡ terminal_names d.now }
-    ensures found { OnOk result ((here : List MTree) × IsLineOf d.now line.now here × (trees.new ≡ trees.old ++ here)) }
+) -> Result<u32, Stop>
+    requires names { bytes_of names.now.set ≡ terminal_names d.now }
+    requires ready { T.ready taker.old number }
+    requires within { number ≤ 16777216 }
+    ensures found { IfOk result (λ next. (here : List MTree) × IsLineOf d.now line.now here × Takes T.takes number here taker.old taker.new × (next ≡ number + length here)) }
+    ensures ready { IfOk result (λ next. T.ready taker.new next) }
+    ensures next { IfOk result (λ next. next ≤ number + 1) }
     ensures fine { IfOk result (λ _. IsFineLine d.now line.now) }
     ensures fault { IfErr result (λ s. LineFails d.now line.now s) }
 {
     replace_tokens(found, line)?;
-    if let Some(tree) = line_tree(alloc, d, names, found)? {
-        trees.push(tree)?;
+    match line_tree(alloc, d, names, found)? {
+        None => Ok(number),
+        Some((tree, count)) => {
+            taker.take_tree(number, tree, count)?;
+            Ok(number + 1)
+        }
     }
-    Ok(())
 }
 
-/// The trees of the tail.
-fn trees_in<'a>(
+/// Hands over the trees of the tail.
+fn take_lines<'a, T: TreeTaker>(
     alloc: Global,
     d: &Description,
     names: &Names<'a>,
     tail: Tail<'a>,
-) -> Result<Items<TextTree>, TreeFault>
+    taker: &mut T,
+) -> Result<(), TreeFault>
     requires names { bytes_of names.now.set ≡ terminal_names d.now }
     requires within { tail.before + length tail.text.now ≤ 16777216 }
-    ensures found { IfOk result (λ trees. AreTrees d.now (lines_of tail.entry.text.now) trees) }
+    requires ready { T.ready taker.old 1 }
+    ensures found { OnOk result ((trees : List MTree) × AreTrees d.now (lines_of tail.entry.text.now) trees × Takes T.takes 1 trees taker.old taker.new) }
     ensures fine { IfOk result (λ _. AreFine d.now (lines_of tail.entry.text.now) (length (lines_of tail.entry.text.now))) }
     ensures fault { IfErr result (λ f. (f ≡ TreeFault.Memory) ⊎ FailsAt d.now tail.entry.before (lines_of tail.entry.text.now) f) }
 {
-    let mut trees = Items::new(alloc);
     let mut found = Vec::new(alloc);
     let mut rest = tail.text;
     let mut number = tail.before;
+    let mut tree = 1;
     while let Some((line, behind)) = next_line(rest) {
         number += 1;
-        match add_line(alloc, d, names, &mut found, &mut trees, line) {
-            Ok(()) => {}
+        match take_line(alloc, d, names, &mut found, taker, tree, line) {
+            Ok(next) => tree = next,
             Err(stop) => return Err(stop.told(number)),
         }
         rest = behind;
     }
-    Ok(trees)
+    Ok(())
+}
+
+/// Hands the trees of the text's tail, one a line, to a taker, each as soon as it is read; without a tail none. Otherwise
+/// the tail's first fault, behind the trees of the lines before it, as `read_trees` tells it.
+pub fn take_trees<T: TreeTaker>(
+    alloc: Global,
+    d: &Description,
+    text: &[u8],
+    taker: &mut T,
+) -> Result<(), TreeFault>
+    requires within { length text.now ≤ 16777216 }
+    requires ready { T.ready taker.old 1 }
+    // It took the tail's trees.
+    ensures found { OnOk result ((trees : List MTree) × IsTail d.now trees text.now × Takes T.takes 1 trees taker.old taker.new) }
+    // A tail spells one list of trees.
+    ensures one { (trees : List MTree) → IsTail d.now trees text.now → OnOk result (Takes T.takes 1 trees taker.old taker.new) }
+    // No fault stands in what is read.
+    ensures fine { IfOk result (λ _. (f : _) → FirstFault d.now text.now f → ⊥) }
+    // A fault is the first.
+    ensures fault { IfErr result (λ f. (f ≡ TreeFault.Memory) ⊎ FirstFault d.now text.now f) }
+    // Trees of the description are read, unless memory ran out.
+    ensures only { (trees : List MTree) → IsTail d.now trees text.now → IfErr result (λ e. e ≡ TreeFault.Memory) }
+{
+    let set = names_of(alloc, d.terminals())?;
+    let names = Names::new(set, d.terminals());
+    let tail = tail_of(alloc, text)?;
+    one_spelling();
+    one_text();
+    take_lines(alloc, d, &names, tail, taker)
 }
 
 /// The trees of the text's tail, one a line; without a tail none. Otherwise the tail's first fault: the first in the
@@ -125,10 +167,7 @@ pub fn read_trees(alloc: Global, d: &Description, text: &[u8]) -> Result<Items<T
     // Trees of the description are read, unless memory ran out.
     ensures only { (trees : List MTree) → IsTail d.now trees text.now → IfErr result (λ e. e ≡ TreeFault.Memory) }
 {
-    let set = names_of(alloc, d.terminals())?;
-    let names = Names::new(set, d.terminals());
-    let tail = tail_of(alloc, text)?;
-    one_spelling();
-    one_text();
-    trees_in(alloc, d, &names, tail)
+    let mut trees = Items::new(alloc);
+    take_trees(alloc, d, text, &mut trees)?;
+    Ok(trees)
 }

@@ -2,12 +2,12 @@
 ghost use Rattle.std.specs.Prelude.{◌≡◌, ◌≢◌, ◌≤◌, ◌<◌, ◌+◌, ◌∷◌, [], ℕ, List, Option, Some, None, length, slice_get, false, IsTrue, IfOk, IfErr, IfSome, IfNone};
 ghost use Rattle.lcc_text.specs.Names.{bytes_of};
 ghost use Rattle.lcc_text.specs.Stops.{next};
-ghost use Rattle.lburg_lines.specs.Tokens.{Mark, views};
+ghost use Rattle.lburg_lines.specs.Tokens.{Tok, Mark, views};
 ghost use Rattle.lburg_lines.specs.Numbers.{MNumber};
 ghost use Rattle.lburg_model.specs.declared.terminal.Terminal.{Terminal as Terminals};
 ghost use Rattle.lburg_model.specs.Description.{IsDescription, terminal_names};
 ghost use Rattle.lburg_model.specs.Tree.{nodes, op_of};
-ghost use Rattle.lburg_trees.specs.Setting.{placed};
+ghost use Rattle.lburg_trees.specs.Setting.{placed, Before as Settings};
 ghost use Rattle.lburg_trees.specs.UnknownOp.{IsNamed};
 ghost use Rattle.lburg_trees.specs.Reading.{IsFine, LineStops, ReadsTree, StopsTree};
 ghost use Rattle.lburg_trees.specs.Reading.{IsHead, ReadsHead, ReadsConstant, StopsConstant, opened};
@@ -183,6 +183,23 @@ fn check_arity<'t, 'a>(d: &Description, found: &Found<'t, 'a>) -> Result<(), Sto
     }
 }
 
+/// Looks at what stands behind a tree that is an operand, and at the number of its own operands. Behind it the
+/// parenthesis closes or, if it isn't the last, a comma may stand.
+fn check_operand<'t, 'a>(d: &Description, found: &Found<'t, 'a>, last: bool) -> Result<(), Stop>
+    requires { IsKnown d.now (op_of found.now.tree) }
+    ensures found { (before : Settings) (line : List Tok) → ReadsTree d.now before line (views found.now.rest.now) found.now.tree
+        → IfOk result (λ _. ReadsOperand d.now before last line (views found.now.rest.now) found.now.tree) }
+    ensures is { IfOk result (λ _. IsDescription d.now) }
+    ensures stops { (before : Settings) (line : List Tok) → ReadsTree d.now before line (views found.now.rest.now) found.now.tree
+        → IfErr result (λ s. StopsOperand d.now before last line s) }
+{
+    if ends_operand(found.rest, last) {
+        check_arity(d, found)
+    } else {
+        Err(Stop::Fault(Row::BadTree, found.rest.len()))
+    }
+}
+
 /// One operand.
 fn one_kid(alloc: Global, a: TextTree) -> Result<Items<TextTree>, Memory>
     ensures { IfOk result (λ kids. kids ≡ a ∷ []) }
@@ -265,7 +282,8 @@ fn operands<'t, 'a>(
         opened: before.opened + 1,
         names: before.names + 1,
     };
-    let first = operand(alloc, d, names, inside, head.rest, false)?;
+    let first = tree_at(alloc, d, names, inside, head.rest)?;
+    check_operand(d, &first, false)?;
     if let Ok(rest) = after_sign(first.rest, Sign::Close) {
         let kids = one_kid(alloc, first.tree)?;
         return Ok(Found {
@@ -279,7 +297,8 @@ fn operands<'t, 'a>(
         opened: before.opened + 1,
         names: first.names,
     };
-    let second = operand(alloc, d, names, inside, rest, true)?;
+    let second = tree_at(alloc, d, names, inside, rest)?;
+    check_operand(d, &second, true)?;
     let (_, rest) = second.rest.split_at(1);
     let kids = two_kids(alloc, first.tree, second.tree)?;
     Ok(Found {
@@ -289,44 +308,17 @@ fn operands<'t, 'a>(
     })
 }
 
-/// The operand that is next: a tree with as many operands as it may have. Behind it the parenthesis closes or,
-/// if it isn't the last, a comma may stand.
-#[cycle(tree)]
-fn operand<'t, 'a>(
-    alloc: Global,
-    d: &Description,
-    names: &Names<'a>,
-    before: Before,
-    tokens: &'t [Token<'a>],
-    last: bool,
-) -> Result<Found<'t, 'a>, Stop>
-    requires names { bytes_of names.now.set ≡ terminal_names d.now }
-    requires open { before.opened ≤ 499 }
-    ensures found { IfOk result (λ f. ReadsOperand d.now (placed before.opened before.names) last (views tokens.now) (views f.rest.now) f.tree) }
-    ensures is { IfOk result (λ _. IsDescription d.now) }
-    ensures counted { IfOk result (λ f. f.names ≡ before.names + nodes f.tree) }
-    ensures shorter { IfOk result (λ f. length f.rest.now < length tokens.now) }
-    ensures stops { IfErr result (λ s. StopsOperand d.now (placed before.opened before.names) last (views tokens.now) s) }
-{
-    let found = tree_at(alloc, d, names, before, tokens)?;
-    if ends_operand(found.rest, last) {
-        check_arity(d, &found)?;
-        Ok(found)
-    } else {
-        Err(Stop::Fault(Row::BadTree, found.rest.len()))
-    }
-}
-
-/// The tree of a line, or none where it is blank.
+/// The tree of a line and how many nodes it has, or none where the line is blank.
 pub(crate) fn line_tree<'t, 'a>(
     alloc: Global,
     d: &Description,
     names: &Names<'a>,
     tokens: &'t [Token<'a>],
-) -> Result<Option<TextTree>, Stop>
+) -> Result<Option<(TextTree, usize)>, Stop>
     requires { bytes_of names.now.set ≡ terminal_names d.now }
     ensures blank { IfOk result (λ o. o ≡ None → views tokens.now ≡ []) }
-    ensures tree { IfOk result (λ o. (t : _) → o ≡ Some t → IsTree d.now (views tokens.now) t) }
+    ensures tree { IfOk result (λ o. (t : _) → o ≡ Some t → IsTree d.now (views tokens.now) t.0) }
+    ensures counted { IfOk result (λ o. (t : _) → o ≡ Some t → t.1 ≡ nodes t.0) }
     ensures fine { IfOk result (λ _. IsFine d.now (views tokens.now)) }
     ensures fault { IfErr result (λ s. LineStops d.now (views tokens.now) s) }
 {
@@ -342,7 +334,7 @@ pub(crate) fn line_tree<'t, 'a>(
         Err(error) => Err(broken(error)),
         Ok(()) => {
             check_arity(d, &found)?;
-            Ok(Some(found.tree))
+            Ok(Some((found.tree, found.names)))
         }
     }
 }

@@ -1,64 +1,22 @@
-use Rattle.std.proofs.Common.{◌≡◌, ◌⊎◌, ℕ, ◌+◌, List, sym, subst, inl, inr, length, arith}
-use Rattle.std.proofs.lemmas.Result.{IfOk-weaker, IfErr-weaker}
-use Rattle.lcc_text.specs.Lines.{lines_of}
-use Rattle.lburg_lines.specs.Tokens.{Tok}
+use Rattle.std.proofs.Common.{◌≡◌, ◌∙◌, ℕ, List, [], ◌++◌, sym, ap, subst}
+use Rattle.std.proofs.lemmas.Result.{err_from_is_err_and}
 use Rattle.lburg_model.specs.Tree.{MTree}
-use Rattle.lburg_model.specs.Description.{MDescription, IsDescription}
-use Rattle.lburg_trees.specs.declared.tree_fault.TreeFault.{TreeFault}
-use Rattle.lburg_trees.specs.declared.tree_fault.TreeFault.TheVariants.{Memory}
-use Rattle.lburg_trees.specs.Rows.{Stands}
-use Rattle.lburg_trees.specs.FirstFault.{IsTailOf, FirstFault}
-use Rattle.lburg_trees.specs.TailText.{AreTrees, IsTail}
-use Rattle.lburg_trees.specs.Reading.{AreFine, FailsAt}
-use Rattle.lburg_trees.proofs.Tails.{OneSpelling, OneText, one_tail, same_trees, trees_fine, fine_none, first_fault}
+use Rattle.lburg_trees.specs.TailText.{IsTail}
+use Rattle.lburg_trees.proofs.Taken.{takes_listed}
 use Rattle.lburg_trees.proofs.tail.read_trees.Goals as goal
 
--- the trees of a tail are those of its lines
-trees_of : (d : MDescription) (text : List ℕ) (before : ℕ) (lines : List (List ℕ)) (trees : List MTree) → OneText → IsTailOf text before lines → IsTail d trees text → AreTrees d lines trees
-trees_of d text before lines trees law tail h =
-    let e = one_tail text h.before before h.lines lines law h.tail tail in
-    subst (λ (l : List (List ℕ)). AreTrees d l trees) e.1 h.spelled
+pub returns-in_err-take_trees-clause-only : goal.returns-in_err-take_trees-clause-only
+returns-in_err-take_trees-clause-only c = λ trees h.
+    let p = err_from_is_err_and c.from_residual.result c.from_residual.ensures.1 in
+    rw (p.1, p.2) (c.in_err-take_trees.ensures.only trees h)
 
--- no first fault stands in lines without one
-none_first : (d : MDescription) (text : List ℕ) (before : ℕ) (lines : List (List ℕ)) (f : TreeFault) → OneText → OneSpelling → IsTailOf text before lines → AreFine d lines (length lines) → FirstFault d text f → ⊥
-none_first d text before lines f law one tail fine h =
-    let e = one_tail text h.before before h.lines lines law h.tail tail in
-    fine_none d h.before h.lines h.place one (subst (λ (l : List (List ℕ)). AreFine d l (length l)) (sym e.1) fine) h.first.stands
-
--- where the lines spell trees, none of them fails
-only_memory : (d : MDescription) (before : ℕ) (lines : List (List ℕ)) (trees : List MTree) (f : TreeFault) → OneSpelling → IsDescription d → AreTrees d lines trees → (f ≡ Memory) ⊎ FailsAt d before lines f → f ≡ Memory
-only_memory d before lines trees f one is a (inl e) = e
-only_memory d before lines trees f one is a (inr h) =
-    absurd (let k = trees_fine d lines trees (h.index + 1) is a h.index h.line (omega arith) h.there in k.2 h.which h.place (subst (λ (z : List Tok). Stands d h.which z h.place) (one h.tokens k.0 h.line h.spelled k.1) h.fault.stands))
+pub returns-clause-found : goal.returns-clause-found
+returns-clause-found c =
+    let (trees, is, run) = c.in_ok-take_trees.ensures.found in
+    let from_none : c.take_trees.new.taker ≡ trees = takes_listed trees 1 _ _ run ∙ ap (λ (l : List MTree). l ++ trees) c.new-trees.ensures in
+    let Tail : List MTree → Type 0 = λ ts. IsTail c.args.d.now ts c.args.text.now in
+    subst Tail (sym from_none) is
 
 pub returns-clause-one : goal.returns-clause-one
 returns-clause-one c = λ trees h.
-    let d = c.args.d.now in
-    let lines = lines_of c.in_ok-tail.tail.text.now in
-    let a = trees_of d c.args.text.now c.in_ok-tail.tail.before lines trees c.one_text.ensures c.in_ok-tail.ensures.is h in
-    IfOk-weaker c.trees_in.result (λ r. AreTrees d lines r) (λ r. r ≡ trees) (λ r k. same_trees d lines r trees c.one_spelling.ensures c.terminals.ensures.is k a) c.trees_in.ensures.found
-
-pub returns-clause-fine : goal.returns-clause-fine
-returns-clause-fine c =
-    let d = c.args.d.now in
-    let lines = lines_of c.in_ok-tail.tail.text.now in
-    IfOk-weaker c.trees_in.result (λ _. AreFine d lines (length lines)) (λ _. (f : TreeFault) → FirstFault d c.args.text.now f → ⊥)
-    (λ _ k f h. none_first d c.args.text.now c.in_ok-tail.tail.before lines f c.one_text.ensures c.one_spelling.ensures c.in_ok-tail.ensures.is k h) c.trees_in.ensures.fine
-
-pub returns-clause-fault : goal.returns-clause-fault
-returns-clause-fault c =
-    let d = c.args.d.now in
-    let text = c.args.text.now in
-    let before = c.in_ok-tail.tail.before in
-    let lines = lines_of c.in_ok-tail.tail.text.now in
-    IfErr-weaker c.trees_in.result (λ f. (f ≡ Memory) ⊎ FailsAt d before lines f) (λ f. (f ≡ Memory) ⊎ FirstFault d text f)
-    (λ f k. elim k [ inl e ↦ inl e | inr h ↦ inr (first_fault d text before lines f c.one_spelling.ensures c.in_ok-tail.ensures.is h) ]) c.trees_in.ensures.fault
-
-pub returns-clause-only : goal.returns-clause-only
-returns-clause-only c = λ trees h.
-    let d = c.args.d.now in
-    let before = c.in_ok-tail.tail.before in
-    let lines = lines_of c.in_ok-tail.tail.text.now in
-    let a = trees_of d c.args.text.now before lines trees c.one_text.ensures c.in_ok-tail.ensures.is h in
-    IfErr-weaker c.trees_in.result (λ f. (f ≡ Memory) ⊎ FailsAt d before lines f) (λ f. f ≡ Memory)
-    (λ f k. only_memory d before lines trees f c.one_spelling.ensures c.terminals.ensures.is a k) c.trees_in.ensures.fault
+    takes_listed trees 1 _ _ (c.in_ok-take_trees.ensures.one trees h) ∙ ap (λ (l : List MTree). l ++ trees) c.new-trees.ensures

@@ -2,10 +2,7 @@ use Rattle.std.proofs.Common.{◌+◌, ◌*◌, length}
 use Rattle.lburg_trees.proofs.tree_reader.+tree.Given as goal
 
 abbrev pub decreases-operands : goal.decreases-operands
-decreases-operands l = 3 * length l.head.rest.now + 2
-
-abbrev pub decreases-operand : goal.decreases-operand
-decreases-operand l = 3 * length l.tokens.now + 1
+decreases-operands l = 2 * length l.head.rest.now + 1
 
 abbrev pub decreases-tree_at : goal.decreases-tree_at
-decreases-tree_at l = 3 * length l.tokens.now
+decreases-tree_at l = 2 * length l.tokens.now
