@@ -1,25 +1,32 @@
--- Lines of a cover, one more at the end.
-use Rattle.std.proofs.Common.{◌≡◌, ℕ, ◌+◌, ◌<◌, List, [], ◌∷◌, ◌++◌, length, take, get_or, refl, sym, ap, subst, ◌∙◌, append_assoc, append-nil, arith}
-use Rattle.std.proofs.lemmas.List.{take_more, length-take}
+-- The lines of trees that were covered one after another.
+use Rattle.std.proofs.Common.{◌≡◌, ◌∙◌, ℕ, ◌+◌, false, List, [], ◌∷◌, ◌++◌, refl, sym, ap, subst, append_assoc, append-nil, arith}
 use Rattle.lburg_model.specs.Tree.{MTree}
 use Rattle.lburg_model.specs.Description.{MDescription}
 use Rattle.lburg_model.specs.CoverText.{IsCoverLine, AreCoverLines}
+use Rattle.lburg_trees.specs.Taking.{Takes}
+use Rattle.lcc_top.specs.declared.printer.Printer.{Printer}
+use Rattle.lcc_top.specs.Printing.{Covers}
 
-line_at_end : (d : MDescription) (k j : ℕ) (ts : List MTree) (t : MTree) (text line : List ℕ) (n here : ℕ) → j ≡ k + length ts → AreCoverLines d k ts text n → IsCoverLine d j t line here → AreCoverLines d k (ts ++ t ∷ []) (text ++ line) (n + here)
-line_at_end d k j [] t text line n here e (is, none) h =
-    let Line : ℕ → Type 0 = λ i. IsCoverLine d i t line here in
-    let at_k : j ≡ k = omega arith in
-    (line, [], here, 0, subst Line at_k h, (refl, refl), ap (λ (l : List ℕ). l ++ line) is ∙ sym (append-nil line), omega arith)
-line_at_end d k j (u ∷ us) t text line n here e (first, rest, one, others, is, more, parts, sum) h =
-    (first, rest ++ line, one, others + here, is, line_at_end d (k + 1) j us t rest line others here (omega arith) more h, ap (λ (l : List ℕ). l ++ line) parts ∙ append_assoc first rest line, omega arith)
+-- a tree was covered, with the same description before and after
+abbrev pub Step : {C : Type 0} → (C → MDescription) → (C → Printer) → (C → ℕ) → C → ℕ → MTree → C → Type 0
+Step d printer uncovered old k t new = Covers (d old) k t (printer old) (uncovered old) (printer new) (uncovered new) × (d new ≡ d old)
 
--- the line of the tree at a place behind those before it
-pub next_line : (d : MDescription) (trees : List MTree) (i k : ℕ) (t : MTree) (text line new : List ℕ) (n here : ℕ) → i < length trees → t ≡ get_or trees i t → k ≡ i + 1 → AreCoverLines d 1 (take i trees) text n → IsCoverLine d k t line here → new ≡ text ++ line → AreCoverLines d 1 (take (i + 1) trees) new (n + here)
-next_line d trees i k t text line new n here inside at e lines is parts =
-    let taken = length-take i trees in
-    let place : k ≡ 1 + length (take i trees) = omega arith in
-    let more = line_at_end d 1 k (take i trees) t text line n here place lines is in
-    let Text : List ℕ → Type 0 = λ l. AreCoverLines d 1 (take (i + 1) trees) l (n + here) in
-    let Trees : List MTree → Type 0 = λ l. AreCoverLines d 1 l (text ++ line) (n + here) in
-    let all : take (i + 1) trees ≡ take i trees ++ t ∷ [] = take_more trees i t inside ∙ ap (λ (u : MTree). take i trees ++ u ∷ []) (sym at) in
-    subst Text (sym parts) (subst Trees (sym all) more)
+-- the trees' lines were added, unless an allocation was refused
+pub covered : {C : Type 0} (new old : C) (d : C → MDescription) (printer : C → Printer) (uncovered : C → ℕ) (trees : List MTree) (k : ℕ) → Takes (Step d printer uncovered) k trees old new → (printer new).is_refused ≡ false
+    → ((printer old).is_refused ≡ false) × (text : List ℕ) × (many : ℕ) × AreCoverLines (d old) k trees text many × ((printer new).text ≡ (printer old).text ++ text) × (uncovered new ≡ uncovered old + many)
+covered {C} new old d printer uncovered [] k same fine =
+    let Fine : C → Type 0 = λ c. (printer c).is_refused ≡ false in
+    let count : uncovered old ≡ uncovered new = ap uncovered same in
+    (subst Fine (sym same) fine, [], 0, (refl, refl), ap (λ (c : C). (printer c).text) (sym same) ∙ sym (append-nil (printer old).text), omega arith)
+covered new old d printer uncovered (t ∷ ts) k (mid, ((here, (line, is, adds), more), same), others) fine =
+    let (fine_mid, text, many, are, parts, sum) = covered new mid d printer uncovered ts (k + 1) others fine in
+    let (fine_old, added) = adds fine_mid in
+    let Lines : MDescription → Type 0 = λ e. AreCoverLines e (k + 1) ts text many in
+    let first : uncovered mid ≡ uncovered old + here = more in (
+      fine_old,
+      line ++ text,
+      here + many,
+      (line, text, here, many, is, subst Lines same are, refl, refl),
+      parts ∙ ap (λ (l : List ℕ). l ++ text) added ∙ append_assoc (printer old).text line text,
+      omega arith,
+    )

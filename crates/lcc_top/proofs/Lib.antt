@@ -3,7 +3,6 @@ pub mod Refused
 pub mod SomeWords
 pub mod Printed
 pub mod CoverLines
-pub mod Tails
 pub mod CommandLaws
 pub mod Causes
 pub mod Running

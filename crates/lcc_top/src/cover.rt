@@ -1,15 +1,16 @@
-ghost use Rattle.std.specs.Prelude.{◌≡◌, ◌+◌, ◌<◌, ◌≤◌, ◌-◌, All, length, IfOk, IfErr, IsErrOf};
-ghost use Rattle.lburg_model.specs.Tree.{nodes};
+ghost use Rattle.std.specs.Prelude.{◌≡◌, ◌+◌, ◌<◌, ◌≤◌, ◌-◌, List, length, IfOk, OnOk, IsErrOf};
+ghost use Rattle.lburg_model.specs.Tree.{MTree, nodes};
 ghost use Rattle.lburg_model.specs.CoverText.{IsCoverText, no_cover_line};
 ghost use Rattle.lburg_model.specs.Derivation.{MDerivation, cost};
 ghost use Rattle.lburg_model.specs.Best.{IsBest};
+ghost use Rattle.lburg_trees.specs.TailText.{IsTail};
 ghost use Rattle.lburg_grammar.specs.DescriptionText.{IsText};
 ghost use Rattle.tree_labeller.specs.IsLabelled.{IsLabelled};
 ghost use Rattle.tree_labeller.specs.MCells.{room, HasRoom};
-ghost use Rattle.lcc_top.specs.Printing.{Adds, AddsNumber, AddsLine};
+ghost use Rattle.lcc_top.specs.Printing.{Adds, AddsNumber, AddsLine, IsReady, Covers};
 ghost use Rattle.lcc_top.specs.Cover.{IsCover, CoverEnds, RefusesTail, RefusesCover};
 ghost use Rattle.lcc_top.specs.Work.{IsWorked};
-ghost use Rattle.lcc_top.specs.declared.text_fault.TextFault.TheVariants.{Refused, Memory};
+ghost use Rattle.lcc_top.specs.declared.text_fault.TextFault.TheVariants.{Refused};
 ghost use Rattle.lcc_top.specs.declared.outcome.Refusal.{Refusal as Refusals};
 
 use crate::outcome::{End, Outcome};
@@ -17,14 +18,14 @@ use crate::printer::Printer;
 use crate::text_fault::TextFault;
 use crate::words::Command;
 use crate::writing::write_text;
-use lburg_grammar::{Description, TextTree, TreeNode, read, read_trees};
+use lburg_grammar::{Description, TextTree, TreeNode, TreeTaker, read, take_trees};
 use lburg_tables::{Tables, build};
-use lcc_base::{Bytes, Sink, Steps};
+use lcc_base::{Bytes, Memory, Sink, Steps};
 use reducer::{Cost, Visitor, best, reduce};
 use std::alloc::Global;
 use std::marker::Brand;
 use std::sync::ledger::{Blank, Ledger};
-use tree_labeller::{Cells, label, most_nodes};
+use tree_labeller::{Cells, label};
 
 /// The text of a cover, and how many trees have no derivation.
 #[derive(Drop)]
@@ -37,8 +38,7 @@ impl<N> Visitor<N> for Printer {
     ghost takes = { AddsNumber };
 
     fn rule(&mut self, number: u16, _node: &N) {
-        self.print(b" ");
-        self.print_number(u64::from(number));
+        self.print_behind_blank(number);
     }
 }
 
@@ -99,52 +99,84 @@ fn cover_tree<N: TreeNode, L: Ledger>(
     }
 }
 
-/// The lines of all trees.
+/// Makes room for a tree of so many nodes. New room is for twice as many, so that it is made seldom.
+fn make_room(alloc: Global, cells: &mut Cells, count: usize) -> Result<(), Memory>
+    requires small { count ≤ 65535 }
+    requires few { cells.old.nonterminals ≤ 127 }
+    ensures room { OnOk result (count ≤ room cells.new) }
+    ensures width { OnOk result (cells.new.nonterminals ≡ cells.old.nonterminals) }
+{
+    if count > cells.nodes() {
+        *cells = Cells::reserve(alloc, 2 * count, cells.nonterminals())?;
+    }
+    Ok(())
+}
+
+/// Covers trees as they come, and gathers their lines.
+#[derive(Drop)]
+struct Coverer<'a, L: Ledger> {
+    alloc: Global,
+    tables: &'a Tables<'a>,
+    cells: Cells,
+    steps: Steps<L>,
+    printer: Printer,
+    /// How many trees had no derivation.
+    uncovered: u64,
+}
+
+impl<'a, L: Ledger> TreeTaker for Coverer<'a, L> {
+    ghost ready = { λ c number. IsReady c.tables.now c.cells c.uncovered number };
+
+    ghost takes = { λ old number tree new. Covers old.tables.now number tree old.printer old.uncovered new.printer new.uncovered × (new.tables.now ≡ old.tables.now) };
+
+    fn take_tree(&mut self, number: u32, tree: TextTree, count: usize) -> Result<(), Memory> {
+        make_room(self.alloc, &mut self.cells, count)?;
+        self.uncovered += cover_tree(
+            self.tables,
+            &tree,
+            u64::from(number),
+            &mut self.cells,
+            &mut self.steps,
+            &mut self.printer,
+        );
+        Ok(())
+    }
+}
+
+/// The lines of the trees in the tail of a description's text, which are covered one by one.
 fn cover_trees<L: Ledger>(
     alloc: Global,
-    tables: &Tables,
-    trees: &[TextTree],
-    cells: &mut Cells,
-    steps: &mut Steps<L>,
+    blank: Blank,
+    description: &Description,
+    input: &[u8],
 ) -> Result<Cover, TextFault>
-    requires nodes { All (λ t. nodes t ≤ room cells.old) trees.now }
-    requires nonterminals { length tables.now.nonterminals ≤ cells.old.nonterminals }
-    ensures found { IfOk result (λ c. IsCoverText tables.now trees.now c.text c.uncovered) }
-    ensures only { IfErr result (λ e. e ≡ Memory) }
+    requires name { blank.name ≡ L.name }
+    requires parts { blank.parts ≡ L.parts }
+    requires some { 0 < blank.parts }
+    requires within { length input.now ≤ 16777216 }
+    ensures found { IfOk result (λ c. (trees : List MTree) × IsTail description.now trees input.now × IsCoverText description.now trees c.text c.uncovered) }
+    ensures refused { (why : Refusals) → IsErrOf result (Refused why) → RefusesTail description.now input.now why }
 {
-    let mut printer = Printer::new(alloc);
-    let mut uncovered = 0;
-    let mut number = 1;
-    for tree in trees {
-        uncovered += cover_tree(tables, tree, number, cells, steps, &mut printer);
-        number += 1;
-    }
+    let tables = build(alloc, description)?;
+    let mut coverer = Coverer {
+        alloc,
+        tables: &tables,
+        cells: Cells::reserve(alloc, 0, description.nonterminals().len())?,
+        steps: Steps::<L>::new(blank),
+        printer: Printer::new(alloc),
+        uncovered: 0,
+    };
+    take_trees(alloc, description, input, &mut coverer)?;
+    let Coverer {
+        printer,
+        uncovered,
+        ..
+    } = coverer;
     let Printer { text, is_refused } = printer;
     if is_refused {
         return Err(TextFault::Memory);
     }
     Ok(Cover { text, uncovered })
-}
-
-/// The cover of the trees of a description.
-fn cover_all<L: Ledger>(
-    alloc: Global,
-    blank: Blank,
-    description: &Description,
-    trees: &[TextTree],
-) -> Result<Cover, TextFault>
-    requires name { blank.name ≡ L.name }
-    requires parts { blank.parts ≡ L.parts }
-    requires some { 0 < blank.parts }
-    requires small { All (λ t. nodes t ≤ 65535) trees.now }
-    ensures found { IfOk result (λ c. IsCoverText description.now trees.now c.text c.uncovered) }
-    ensures only { IfErr result (λ e. e ≡ Memory) }
-{
-    let mut steps = Steps::<L>::new(blank);
-    let nonterminals = description.nonterminals().len();
-    let tables = build(alloc, description)?;
-    let mut cells = Cells::reserve(alloc, most_nodes(trees), nonterminals)?;
-    cover_trees(alloc, &tables, trees, &mut cells, &mut steps)
 }
 
 /// The cover of the trees in the tail of a description's text.
@@ -154,8 +186,7 @@ fn cover_tail(alloc: Global, description: &Description, input: &[u8]) -> Result<
     ensures found { IfOk result (λ c. IsCover input.now c.text c.uncovered) }
     ensures refused { (why : Refusals) → IsErrOf result (Refused why) → RefusesTail description.now input.now why }
 {
-    let trees = read_trees(alloc, description, input)?;
-    cover_all::<Brand>(alloc, Blank::new(1), description, trees.as_slice())
+    cover_trees::<Brand>(alloc, Blank::new(1), description, input)
 }
 
 /// The cover that a description's text with a tail of trees asks for.

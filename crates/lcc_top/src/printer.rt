@@ -41,4 +41,16 @@ impl Printer {
         let mut buffer = Buffer::new();
         self.print(buffer.format(number).as_bytes());
     }
+
+    /// Adds a blank and a decimal number at the end. Numbers of one digit take no buffer.
+    pub(crate) fn print_behind_blank(&mut self, number: u16)
+        ensures { Adds self.old self.new (codes " " ++ decimal number) }
+    {
+        if number < 10 {
+            self.print(&[b' ', b'0' + number as u8]);
+        } else {
+            self.print(b" ");
+            self.print_number(u64::from(number));
+        }
+    }
 }
