@@ -9,5 +9,6 @@ mod symbol;
 mod tests;
 
 pub use declare::Declare;
+pub use scope::Scope;
 pub use scopes::{Scopes, SymbolId};
 pub use symbol::{Storage, Symbol};

@@ -10,7 +10,7 @@ use std::marker::Model;
 /// The names of one scope, which contracts see as the list of the names, in the order of their
 /// declarations, each with its symbol.
 #[derive(Drop)]
-pub(crate) struct Scope {
+pub struct Scope {
     names: IndexMap<Vec<u8>, SymbolId>,
 }
 

@@ -58,15 +58,7 @@ impl Scopes {
         ensures symbols { OnOk result (self.new.symbols ≡ self.old.symbols) }
         ensures err { OnErr result (self.new ≡ self.old) }
     {
-        self.outer.reserve(1)?;
-        let scope = std::mem::replace(&mut self.inner, Scope::new(self.alloc));
-        match self.outer.push(scope) {
-            Ok(()) => Ok(()),
-            Err(failed) => {
-                self.inner = failed.value;
-                Err(Memory)
-            }
-        }
+        self.reopen(Scope::new(self.alloc))
     }
 
     /// Closes the innermost scope, which has one around it. That one is again as it was when the scope
@@ -77,9 +69,40 @@ impl Scopes {
         ensures links { self.new.links ≡ self.old.links }
         ensures symbols { self.new.symbols ≡ self.old.symbols }
     {
+        let _names = self.close();
+    }
+
+    /// Closes the innermost scope, as `leave` does, and gives its names. The names of a prototype's
+    /// parameters are in force again in the body of the function (C89 3.1.2.1).
+    pub fn close(&mut self) -> Scope
+        requires { self.old.outer ≢ [] }
+        ensures names { result ≡ self.old.inner }
+        ensures scopes { self.old.outer ≡ self.new.outer ++ self.new.inner ∷ [] }
+        ensures links { self.new.links ≡ self.old.links }
+        ensures symbols { self.new.symbols ≡ self.old.symbols }
+    {
         match self.outer.pop() {
-            Some(scope) => self.inner = scope,
+            Some(scope) => std::mem::replace(&mut self.inner, scope),
             None => unreachable!(),
+        }
+    }
+
+    /// Opens a scope with the names of one that was closed. After an error the scopes are as before.
+    pub fn reopen(&mut self, names: Scope) -> Result<(), Memory>
+        ensures outer { OnOk result (self.new.outer ≡ self.old.outer ++ self.old.inner ∷ []) }
+        ensures inner { OnOk result (self.new.inner ≡ names) }
+        ensures links { OnOk result (self.new.links ≡ self.old.links) }
+        ensures symbols { OnOk result (self.new.symbols ≡ self.old.symbols) }
+        ensures err { OnErr result (self.new ≡ self.old) }
+    {
+        self.outer.reserve(1)?;
+        let scope = std::mem::replace(&mut self.inner, names);
+        match self.outer.push(scope) {
+            Ok(()) => Ok(()),
+            Err(failed) => {
+                self.inner = failed.value;
+                Err(Memory)
+            }
         }
     }
 

@@ -29,6 +29,10 @@ fn innermost_declaration(rt: HostRuntime) -> Result<(), Fail> {
     assert_eq!(rt; scopes.find(b"x"), Some(inner));
     scopes.replace(outer, symbol(Storage::Static, 5));
     assert_eq!(rt; scopes.symbol(inner).line, 4);
+    let names = scopes.close();
+    assert_eq!(rt; scopes.find(b"x"), Some(outer));
+    scopes.reopen(names)?;
+    assert_eq!(rt; scopes.find(b"x"), Some(inner));
     scopes.leave();
     assert_eq!(rt; scopes.find(b"x"), Some(outer));
     assert_eq!(rt; scopes.symbol(outer).line, 5);

@@ -1,25 +1,45 @@
 -- Composite types one by one: what their parts give, in a table that grows.
 use Rattle.std.proofs.Common.{◌≡◌, inl, inr, ℕ, zero, suc, ◌+◌, ◌<◌, ◌≤◌, Bool, false, List, [], ◌∷◌, ◌++◌, length, drop, get_or, refl, sym, ap, ◌∙◌, true≢false, append_assoc, drop_of_length-le, arith}
-use Rattle.std.specs.Prelude.{◌⊎◌, All, Contains, Some, None, Option, bit_or, is_some}
+use Rattle.std.specs.Prelude.{◌⊎◌, All, Contains, Some, None, Option, bit_or, is_some, if◌then◌else◌, Result, Ok, Err, IfOk, OnOk}
 use Rattle.std.proofs.lemmas.List.Elements.{All-contains, All-weaker}
 use Rattle.std.proofs.lemmas.List.{drop_more, length-append}
 use Rattle.c_types.specs.declared.type_form.TypeForm.{TypeForm}
+use Rattle.c_types.specs.declared.type_fault.TypeFault.{TypeFault}
 use Rattle.c_types.specs.declared.extent.Extent.{Extent}
 use Rattle.c_types.specs.CType.{CType, Plain, Array, Kind, Simple, Pointer, Function, Structure, Union, Enumeration, Parameters, Open, Listed, CTypes, NoType, And, qualify, unqualified, parameters_weight}
 use Rattle.c_types.specs.Composite.{composite, kinds_composite, parameters_composite, all_composite, known_length}
 use Rattle.c_types.specs.Layout.{Tag}
 use Rattle.c_types.specs.Readings.{is_array, is_function, is_pointer}
-use Rattle.c_types.specs.Table.{Table, Completed, Adds, AreBelow, AreSomeBelow, Extends, parameters_in, tags, type_at, type_in, types, types_in}
-use Rattle.c_types.specs.Facts.{AreMade, Grows, IsMade, first_composite}
-use Rattle.c_types.proofs.Bits.{qualify_none}
+use Rattle.c_types.specs.Table.{Table, Completed, Adds, AreBelow, AreSomeBelow, Extends, Grows, counted, is_tagged, parameters_in, tag_of, tagged, tags, tags_of, type_at, type_in, types, types_in}
+use Rattle.c_types.specs.Extending.{extends_longer}
+use Rattle.c_types.specs.Facts.{AreMade, IsMade, first_composite}
+use Rattle.c_types.specs.Qualifying.{qualify_none}
 use Rattle.c_types.proofs.Below.{below_more, some_below_more}
 use Rattle.c_types.proofs.Pairs.{still_all}
 use Rattle.c_types.proofs.Placed.{extends_itself}
 
 -- ---- a table that grows
 
+tags_long : (t : Table) (cs : List Completed) → length (tags_of t cs) ≡ length cs
+tags_long t [] = refl
+tags_long t (c ∷ cs) = let h = tags_long t cs in omega (arith, h, length-append (tags_of t cs) (tag_of t c ∷ []))
+
+none_longer : (xs ys zs : List Tag) → zs ≡ xs ++ ys → length zs ≡ length ys → zs ≡ ys
+none_longer [] ys zs e l = e
+none_longer (x ∷ xs) ys zs e l = absurd (omega (arith, l, ap length e, length-append xs ys))
+
+-- where nothing is completed, what was defined stays
+same_tags : (a b : Table) → Extends a b → b.completed ≡ a.completed → tags b ≡ tags a
+same_tags a b h e =
+    none_longer h.tags_stay.0 (tags a) (tags b) h.tags_stay.1
+    (tags_long b b.completed ∙ ap (λ (cs : List Completed). length cs) e ∙ sym (tags_long a a.completed))
+
+tagged-push : (fs : List TypeForm) (f : TypeForm) → tagged (fs ++ f ∷ []) ≡ tagged fs + counted f
+tagged-push [] f = omega arith
+tagged-push (g ∷ fs) f = let h = tagged-push fs f in omega (arith, h)
+
 pub grows_itself : (t : Table) → Grows t t
-grows_itself t = record { extends = extends_itself t; completed = refl }
+grows_itself t = record { extends = extends_itself t; completed = refl; tags_same = refl; count_same = refl }
 
 pub extends_twice : (a b c : Table) → Extends a b → Extends b c → Extends a c
 extends_twice a b c h k =
@@ -33,16 +53,32 @@ extends_twice a b c h k =
     }
 
 pub grows_twice : (a b c : Table) → Grows a b → Grows b c → Grows a c
-grows_twice a b c h k = record { extends = extends_twice a b c h.extends k.extends; completed = k.completed ∙ h.completed }
+grows_twice a b c h k =
+    record {
+      extends = extends_twice a b c h.extends k.extends;
+      completed = k.completed ∙ h.completed;
+      tags_same = k.tags_same ∙ h.tags_same;
+      count_same = k.count_same ∙ h.count_same;
+    }
 
 added_only : (a b : Table) (f : TypeForm) (id : ℕ) → Adds a f id b → b.completed ≡ a.completed
 added_only a b f id h = elim h [ inl x ↦ ap (λ (t : Table). t.completed) x.2 | inr y ↦ ap (λ (t : Table). t.completed) y.2 ]
 
-pub grows_add : (a b : Table) (f : TypeForm) (id : ℕ) → Adds a f id b → Extends a b → Grows a b
-grows_add a b f id h e = record { extends = e; completed = added_only a b f id h }
+count_added : (a b : Table) (f : TypeForm) (id : ℕ) → is_tagged f ≡ false → Adds a f id b → tagged b.forms ≡ tagged a.forms
+count_added a b f id u h =
+    elim h [
+      | inl x ↦ ap (λ (t : Table). tagged t.forms) x.2
+      | inr y ↦ ap (λ (t : Table). tagged t.forms) y.2 ∙ tagged-push a.forms f ∙ (let e : counted f ≡ 0 = ap (λ b. if b then 1 else 0) u in omega (arith, e))
+    ]
 
-pub extends_longer : (a b : Table) → Extends a b → length a.forms ≤ length b.forms
-extends_longer a b h = omega (arith, ap length h.forms.1, length-append a.forms h.forms.0)
+pub grows_add : (a b : Table) (f : TypeForm) (id : ℕ) → is_tagged f ≡ false → Adds a f id b → Extends a b → Grows a b
+grows_add a b f id u h e =
+    let o = added_only a b f id h in
+    record { extends = e; completed = o; tags_same = same_tags a b e o; count_same = count_added a b f id u h }
+
+pub result_grows : (a b : Table) (f : TypeForm) (r : Result ℕ TypeFault) → IfOk r (λ id. Adds a f id b) → OnOk r (Extends a b) → OnOk r (is_tagged f ≡ false → Grows a b)
+result_grows a b f (Ok id) h e = λ u. grows_add a b f id u h e
+result_grows a b f (Err x) h e = tt
 
 pub longer : (a b : Table) → Grows a b → length a.forms ≤ length b.forms
 longer a b h = extends_longer a b h.extends

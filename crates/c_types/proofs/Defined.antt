@@ -1,6 +1,6 @@
 -- Looking up what completed a structure or union.
-use Rattle.std.proofs.Common.{◌≡◌, ℕ, suc, ◌<◌, Bool, true, false, cond, List, [], ◌∷◌, length, refl, sym, ap, ◌∙◌, true≢false, arith}
-use Rattle.std.specs.Prelude.{slice_get, Some, None, nat_eq}
+use Rattle.std.proofs.Common.{◌≡◌, ℕ, suc, ◌<◌, Bool, true, false, cond, List, [], ◌∷◌, ◌++◌, length, refl, sym, ap, ◌∙◌, true≢false, arith}
+use Rattle.std.specs.Prelude.{slice_get, Some, None, nat_eq, ◌||◌, is_some}
 use Rattle.std.specs.Option.{option_map}
 use Rattle.std.proofs.lemmas.Option.{slice_get-get_or}
 use Rattle.std.proofs.lemmas.Bool.Decides.{nat_tests}
@@ -8,7 +8,8 @@ use Rattle.std.specs.Map.{lookup}
 use Rattle.c_types.specs.declared.type_form.TypeForm.{TypeForm}
 use Rattle.c_types.specs.declared.type_form.TypeForm.TheVariants as form
 use Rattle.c_types.specs.declared.definition.Definition.{Definition}
-use Rattle.c_types.specs.Layout.{known, extent_by}
+use Rattle.c_types.specs.Layout.{Tag, known, extent_by}
+use Rattle.c_types.specs.Members.{is_defined}
 use Rattle.c_types.specs.Table.{Table, Completed, tags, tags_of, tag_of, is_tagged, is_open_form, is_qualified, form_at, number_at, extent_at, members_among}
 use Rattle.c_types.specs.declared.type_table.Facts.{Facts}
 use Rattle.c_types.specs.Keeps.{IsDefinition, IsFact, completed_in}
@@ -87,6 +88,34 @@ apart t (c ∷ cs) id o l g h = by (nat_eq id c.place) refl (apart t cs id o.2 l
     by false p rest =
         let e : members_among cs id ≡ None = sym (ap (λ b. cond b (Some c.members) (members_among cs id)) p) ∙ h in
         apart_push (tags_of t cs) (tag_of t c) (number_at t id) (rest e) (number_test t id c.place l g o.0 (open_tagged _ o.1) ∙ p)
+
+or_none : (b : Bool) → (b || false) ≡ b
+or_none true = refl
+or_none false = refl
+
+or_true : (b : Bool) → (b || true) ≡ true
+or_true true = refl
+or_true false = refl
+
+or_last : (a b c : Bool) → (a || (b || c)) ≡ ((a || b) || c)
+or_last true b c = refl
+or_last false b c = refl
+
+defined_push : (tags : List Tag) (tag : Tag) (n : ℕ) → is_defined (tags ++ tag ∷ []) n ≡ (is_defined tags n || nat_eq n tag.number)
+defined_push [] tag n = or_none (nat_eq n tag.number)
+defined_push (t ∷ ts) tag n = ap (λ b. nat_eq n t.number || b) (defined_push ts tag n) ∙ or_last (nat_eq n t.number) (is_defined ts n) (nat_eq n tag.number)
+
+-- the number of a place is defined where the place was completed
+pub defined_at : (t : Table) (cs : List Completed) (id : ℕ) → AreOpen t cs → id < length t.forms → is_tagged (form_at t id) ≡ true → is_defined (tags_of t cs) (number_at t id) ≡ is_some (members_among cs id)
+defined_at t [] id o l g = refl
+defined_at t (c ∷ cs) id o l g =
+    let n = number_at t id in
+    let e : nat_eq n (number_at t c.place) ≡ nat_eq id c.place = number_test t id c.place l g o.0 (open_tagged _ o.1) in
+    defined_push (tags_of t cs) (tag_of t c) n ∙ ap (λ b. is_defined (tags_of t cs) n || b) e ∙ by (nat_eq id c.place) (defined_at t cs id o.2 l g)
+  where
+    by : (b : Bool) → is_defined (tags_of t cs) (number_at t id) ≡ is_some (members_among cs id) → (is_defined (tags_of t cs) (number_at t id) || b) ≡ is_some (cond b (Some c.members) (members_among cs id))
+    by true rest = or_true (is_defined (tags_of t cs) (number_at t id))
+    by false rest = or_none (is_defined (tags_of t cs) (number_at t id)) ∙ rest
 
 -- the extent of a structure or union is what is known of its number
 pub open_extent : (t : Table) (id : ℕ) (f : TypeForm) → slice_get t.forms id ≡ Some f → is_open_form f ≡ true → extent_at t id ≡ known (tags t) (number_at t id)

@@ -1,7 +1,6 @@
 pub mod Alike
 pub mod Bare
 pub mod Below
-pub mod Bits
 pub mod Composed
 pub mod Completing
 pub mod Const

@@ -17,13 +17,13 @@ use Rattle.c_types.specs.Bounds.{IsBounded}
 use Rattle.c_types.specs.CType.{Basic, Void, Char, SignedChar, UnsignedChar, Short, UnsignedShort, Int, Unsigned, Long, UnsignedLong, CType, Plain, Array, Kind, Simple, Pointer, Function, Structure, Union, Enumeration, Parameters, Open, Listed, CTypes, NoType, And, basic, depth, greatest_depth, kind_depth, kind_of, parameters_depth, qualify, unqualified}
 use Rattle.c_types.specs.Compatible.{all_compatible, basic_place, compatible, kind_compatible, kinds_compatible, lengths_fit, parameters_compatible, same_flag}
 use Rattle.c_types.specs.Composite.{all_composite, composite, kinds_composite, known_length, parameters_composite}
-use Rattle.c_types.specs.Facts.{AreListsCompatible, Grows, IsOfObjects, IsWithin, first_compatible}
+use Rattle.c_types.specs.Facts.{AreListsCompatible, IsOfObjects, IsWithin, first_compatible}
 use Rattle.c_types.specs.Keeps.{IsFact, IsSettled, Keeps}
 use Rattle.c_types.specs.Layout.{Tag, array_extent, basic_extent, extent, extent_by, kind_extent, known, no_object, scalar}
 use Rattle.c_types.specs.Readings.{is_array}
-use Rattle.c_types.specs.Table.{AreSomeBelow, Completed, Table, excess, extent_at, form_at, form_refusal, formed, is_above, is_open_form, is_qualified, members_among, parameters_in, tag_of, tagged, tags, tags_of, type_at, type_in, types, types_in}
+use Rattle.c_types.specs.Table.{AreSomeBelow, Grows, Table, excess, extent_at, form_at, form_refusal, formed, is_above, is_open_form, is_qualified, members_among, parameters_in, tagged, tags, type_at, type_in, types, types_in}
 use Rattle.c_types.proofs.Bare.{basic_at}
-use Rattle.c_types.proofs.Bits.{depth_qualify, qualify_none}
+use Rattle.c_types.specs.Qualifying.{depth_qualify, qualify_none}
 use Rattle.c_types.proofs.Composed.{same_types}
 use Rattle.c_types.proofs.Defined.{AreOpen, defined_extent, eq_of, found, members_found, open_all, own_extent}
 use Rattle.c_types.proofs.Insides.{basic_type_at, length-forms, table_of, type_by_form}
@@ -229,21 +229,6 @@ pointer_accepted t to l = not_excessive (1 + depth (type_at t to)) (scalar 4) l 
 pub function_accepted : (t : Table) (r : ℕ) (ps : Option (List ℕ)) (m : Bool) → depth (formed (types t) (tagged t.forms) (form.Function r ps m)) ≤ 500 → form_refusal t (form.Function r ps m) ≡ None
 function_accepted t r ps m l = not_excessive (depth (formed (types t) (tagged t.forms) (form.Function r ps m))) no_object l (record { size = tt; some = omega arith; align = omega arith; nesting = omega arith })
 
--- ---- a table that grows
-
-tags_long : (t : Table) (cs : List Completed) → length (tags_of t cs) ≡ length cs
-tags_long t [] = refl
-tags_long t (c ∷ cs) = let h = tags_long t cs in omega (arith, h, length-append (tags_of t cs) (tag_of t c ∷ []))
-
-none_longer : (xs ys zs : List Tag) → zs ≡ xs ++ ys → length zs ≡ length ys → zs ≡ ys
-none_longer [] ys zs e l = e
-none_longer (x ∷ xs) ys zs e l = absurd (omega (arith, l, ap length e, length-append xs ys))
-
-pub same_tags : (a b : Table) → Grows a b → tags b ≡ tags a
-same_tags a b g =
-    none_longer g.extends.tags_stay.0 (tags a) (tags b) g.extends.tags_stay.1
-    (tags_long b b.completed ∙ ap (λ (cs : List Completed). length cs) g.completed ∙ sym (tags_long a a.completed))
-
 -- ---- the types of a table keep the limits
 
 basic_bounded : (b : Basic) → IsBounded (basic_extent b)
@@ -361,7 +346,7 @@ array_fits t m g p q s u of other n k id e f x y h v =
     let w = composite_within K (qualify p s) (qualify q u) h (within_qualify K p s x) (within_qualify K q u y) in
     let r : composite (qualify p s) (qualify q u) ≡ Array c (known_length n k) = ap (λ (z : CType). composite (qualify p z) (qualify q u)) e ∙ ap (λ (z : CType). composite (qualify p (Array of n)) (qualify q z)) f in
     let a : IsWithin K (Array (type_at m id) (known_length n k)) = subst (λ (z : CType). IsWithin K (Array z (known_length n k))) (sym v) (subst (IsWithin K) r w) in
-    array_accepted m id (known_length n k) (subst (λ (ts : List Tag). IsWithin (known ts) (Array (type_at m id) (known_length n k))) (sym (same_tags t m g)) a)
+    array_accepted m id (known_length n k) (subst (λ (ts : List Tag). IsWithin (known ts) (Array (type_at m id) (known_length n k))) (sym g.tags_same) a)
 
 pub pointer_fits : (m : Table) (s u a b : CType) (id : ℕ) → s ≡ Plain 0 (Pointer a) → u ≡ Plain 0 (Pointer b) → depth s ≤ 500 → depth u ≤ 500 → type_at m id ≡ composite a b → form_refusal m (form.Pointer id) ≡ None
 pointer_fits m s u a b id e f x y v =

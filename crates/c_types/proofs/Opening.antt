@@ -1,6 +1,6 @@
 -- A new structure or union has no members.
-use Rattle.std.proofs.Common.{◌≡◌, ℕ, ◌<◌, ◌≤◌, List, [], ◌∷◌, ◌++◌, length, get_or, Bool, false, refl, sym, ap, ◌∙◌, subst, true, true≢false, arith}
-use Rattle.std.specs.Prelude.{◌↔◌, Err, IsTrue, None, Ok, OnOk, Option, Result, Some, is_some, nat_eq, not}
+use Rattle.std.proofs.Common.{◌≡◌, ℕ, ◌<◌, ◌≤◌, List, [], ◌∷◌, ◌++◌, length, get_or, Bool, false, refl, sym, ap, ◌∙◌, true, true≢false, arith}
+use Rattle.std.specs.Prelude.{◌↔◌, IsTrue, None, Option, Some, is_some, nat_eq, not}
 use Rattle.std.specs.Map.{lookup}
 use Rattle.std.specs.Option.{option_map}
 use Rattle.std.proofs.lemmas.Bool.Decides.{nat_tests}
@@ -9,10 +9,11 @@ use Rattle.c_types.specs.declared.definition.Definition.{Definition}
 use Rattle.c_types.specs.declared.type_form.Member.{Member}
 use Rattle.c_types.specs.declared.type_form.TypeForm.{TypeForm}
 use Rattle.c_types.specs.declared.type_form.TypeForm.TheVariants as form
-use Rattle.c_types.specs.Table.{AreMembersBelow, Completed, IsOpen, Table, form_at, is_open_form, members_among, members_at}
+use Rattle.c_types.specs.Members.{is_defined}
+use Rattle.c_types.specs.Table.{Completed, IsOpen, Table, form_at, is_open_form, members_among, members_at, number_at, tags}
 use Rattle.c_types.specs.Keeps.{completed_in}
 use Rattle.c_types.proofs.Completing.{none_noted}
-use Rattle.c_types.proofs.Defined.{AreOpen, members_found}
+use Rattle.c_types.proofs.Defined.{AreOpen, defined_at, members_found, open_tagged}
 use Rattle.c_types.proofs.Stays.{more}
 
 last_form : (fs : List TypeForm) (f d : TypeForm) → get_or (fs ++ f ∷ []) (length fs) d ≡ f
@@ -53,12 +54,13 @@ open_test t ds id e l f b d = (there b d, back b d)
     back false d o = refl
     back true d o = absurd (true≢false (d ∙ ap (λ (m : Option Definition). is_some m) (none_noted (lookup (nat_eq id) ds) (sym members ∙ o.members))))
 
--- ---- members
+some_mapped : {A B : Type 0} (f : A → B) (o : Option A) → is_some (option_map f o) ≡ is_some o
+some_mapped f None = refl
+some_mapped f (Some x) = refl
 
-pub members_push : (n : ℕ) (ms : List Member) (m : Member) → AreMembersBelow n ms → m.of < n → AreMembersBelow n (ms ++ m ∷ [])
-members_push n [] m h l = (l, tt)
-members_push n (x ∷ ms) m h l = (h.0, members_push n ms m h.1 l)
-
-pub members_pushed : {E : Type 0} (r : Result (Unit {0}) E) (old new : List Member) (m : Member) → OnOk r (new ≡ old ++ m ∷ []) → OnOk r ((n : ℕ) → AreMembersBelow n old → m.of < n → AreMembersBelow n new)
-members_pushed (Ok u) old new m e = λ n h l. subst (AreMembersBelow n) (sym e) (members_push n old m h l)
-members_pushed (Err x) old new m e = tt
+-- it can be completed where no definition has its number
+pub open_number : (t : Table) (ds : List (ℕ × Definition)) (id : ℕ) → t.completed ≡ completed_in ds → AreOpen t t.completed → id < length t.forms → is_open_form (form_at t id) ≡ true → (b : Bool) → b ≡ is_some (lookup (nat_eq id) ds) → not b ≡ not (is_defined (tags t) (number_at t id))
+open_number t ds id e o l f b d =
+    let m : members_at t id ≡ option_map (λ (x : Definition). x.members) (lookup (nat_eq id) ds) = ap (λ (cs : List Completed). members_among cs id) e ∙ members_found ds id in
+    let n : is_defined (tags t) (number_at t id) ≡ is_some (members_at t id) = defined_at t t.completed id o l (open_tagged (form_at t id) f) in
+    ap not (d ∙ sym (some_mapped (λ (x : Definition). x.members) (lookup (nat_eq id) ds)) ∙ sym (ap (λ (x : Option (List Member)). is_some x) m) ∙ sym n)

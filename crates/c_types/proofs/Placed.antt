@@ -20,7 +20,7 @@ use Rattle.c_types.specs.Layout.{known, extent_by}
 use Rattle.c_types.specs.Table.{Table, Extends, basic_forms, form_at, type_at, type_in, types, types_of, formed, tagged, tags, is_qualified, is_open_form, is_tagged, number_at, IsNew, IsOver}
 use Rattle.c_types.specs.Keeps.{Keeps, IsFact, IsKeyOf, IsSettled, forms_in, completed_in, is_formed}
 use Rattle.c_types.specs.Facts.{IsFactOf, type_of}
-use Rattle.c_types.proofs.Bits.{qualify_none}
+use Rattle.c_types.specs.Qualifying.{qualify_none}
 use Rattle.c_types.proofs.Growing.{types_push, length-types}
 use Rattle.c_types.proofs.Insides.{before, behind, form_of_entry, table_of, type_by_form, length-forms}
 use Rattle.c_types.proofs.Known.{settled_extent, settled_stays}

@@ -16,7 +16,7 @@ use Rattle.c_types.specs.CType.{CType, Plain, Array, Function, CTypes, NoType, A
 use Rattle.c_types.specs.Compatible.{all_compatible, compatible, kind_compatible}
 use Rattle.c_types.specs.Composite.{composite}
 use Rattle.c_types.specs.Layout.{Field, start, laid, greatest_align, greatest_nesting, extent, extent_by, known, no_object}
-use Rattle.c_types.specs.Table.{Table, AreSomeBelow, Extends, formed, parameters_in, tagged, tags, types, types_in, type_at, form_at, is_qualified, is_open_form, places_of}
+use Rattle.c_types.specs.Table.{Table, AreSomeBelow, formed, parameters_in, tagged, tags, types, types_in, type_at, form_at, is_qualified, is_open_form, places_of}
 use Rattle.c_types.specs.Keeps.{IsSettled, is_formed, place_named}
 
 -- the type of a form that is added
@@ -58,11 +58,6 @@ pub record IsLaid (l : Laying) (kind : Bool) (fs : List Field) (ms : List Member
 abbrev pub AreBounded : List Field → Type 0
 AreBounded [] = Unit {0}
 AreBounded (f ∷ fs) = IsBounded f.extent × AreBounded fs
-
--- The later table holds more forms, and else is the same.
-pub record Grows (old new : Table) : Type 0 where
-  pub extends : Extends old new
-  pub completed : new.completed ≡ old.completed
 
 abbrev pub items_of : Option (Vec ℕ Global) → Option (List ℕ)
 items_of o = option_map (λ v. v.items) o

@@ -10,3 +10,5 @@ pub mod Keeps
 pub mod Facts
 pub mod Members
 pub mod Constness
+pub mod Qualifying
+pub mod Extending

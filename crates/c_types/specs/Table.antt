@@ -222,6 +222,13 @@ pub record Extends (old new : Table) : Type 0 where
   pub tags_stay : (newer : List Tag) × (tags new ≡ newer ++ tags old)
   pub sizes_stay : (number : ℕ) → is_some (known (tags old) number).size ≡ true → known (tags new) number ≡ known (tags old) number
 
+-- The later table holds more forms, of which none is a structure, a union or an enumeration, and else is the same.
+pub record Grows (old new : Table) : Type 0 where
+  pub extends : Extends old new
+  pub completed : new.completed ≡ old.completed
+  pub tags_same : tags new ≡ tags old
+  pub count_same : tagged new.forms ≡ tagged old.forms
+
 abbrev pub width_or_zero : Option ℕ → ℕ
 width_or_zero None = 0
 width_or_zero (Some n) = n

@@ -65,8 +65,8 @@ impl TypeTable {
         }
     }
 
-    /// The type's place without qualifiers, and its own under these.
-    pub(crate) fn under(&self, id: TypeId, qualifiers: Qualifiers) -> (TypeId, Qualifiers)
+    /// The type's place without qualifiers, and its own beside these. That type is within the limits.
+    pub fn under(&self, id: TypeId, qualifiers: Qualifiers) -> (TypeId, Qualifiers)
         requires { id < length self.now.forms }
         ensures within { result.0 < length self.now.forms }
         ensures means { qualify qualifiers.0 (type_at self.now id) ≡ qualify result.1.0 (type_at self.now result.0) }
@@ -273,8 +273,33 @@ impl TypeTable {
         }
     }
 
+    /// The type under these qualifiers, without its own and these: the place of the type and the
+    /// qualifiers that stay, those of an array's elements (C89 3.5.3).
+    pub fn bare(&self, id: TypeId, qualifiers: Qualifiers) -> (TypeId, Qualifiers)
+        requires { id < length self.now.forms }
+        ensures within { result.0 < length self.now.forms }
+        ensures means { qualify result.1.0 (type_at self.now result.0) ≡ unqualified (qualify qualifiers.0 (type_at self.now id)) }
+        ensures form { is_qualified (form_at self.now result.0) ≡ false }
+    {
+        let (base, all) = self.under(id, qualifiers);
+        match self.form(base) {
+            TypeForm::Array { .. } => (base, all),
+            _ => (base, Qualifiers::none()),
+        }
+    }
+
+    /// Whether two types under these qualifiers are compatible when their own are left away.
+    pub fn alike(&self, a: (TypeId, Qualifiers), b: (TypeId, Qualifiers)) -> bool
+        requires a { a.0 < length self.now.forms }
+        requires b { b.0 < length self.now.forms }
+        ensures { result ≡ compatible (unqualified (qualify a.1.0 (type_at self.now a.0))) (unqualified (qualify b.1.0 (type_at self.now b.0))) }
+    {
+        let mut found = CompatiblePairs::new(self.alloc);
+        self.are_compatible(self.bare(a.0, a.1), self.bare(b.0, b.1), &mut found)
+    }
+
     /// The element and the size of the type, if it is an array.
-    pub(crate) fn array_of(&self, id: TypeId) -> Option<(TypeId, Option<u32>)>
+    pub fn array_of(&self, id: TypeId) -> Option<(TypeId, Option<u32>)>
         requires within { id < length self.now.forms }
         requires plain { is_qualified (form_at self.now id) ≡ false }
         ensures some { IfSome result (λ r. type_at self.now id ≡ Array (type_at self.now r.0) r.1) }
@@ -288,7 +313,7 @@ impl TypeTable {
     }
 
     /// What the type points to, if it is a pointer.
-    pub(crate) fn pointer_to(&self, id: TypeId) -> Option<TypeId>
+    pub fn pointer_to(&self, id: TypeId) -> Option<TypeId>
         requires within { id < length self.now.forms }
         requires plain { is_qualified (form_at self.now id) ≡ false }
         ensures some { IfSome result (λ r. type_at self.now id ≡ Plain 0 (Pointer (type_at self.now r))) }
@@ -302,7 +327,7 @@ impl TypeTable {
     }
 
     /// The result and the parameters of the type, if it is a function.
-    fn function_of(&self, id: TypeId) -> Option<(TypeId, &Option<Items<TypeId>>, bool)>
+    pub fn function_of(&self, id: TypeId) -> Option<(TypeId, &Option<Items<TypeId>>, bool)>
         requires within { id < length self.now.forms }
         requires plain { is_qualified (form_at self.now id) ≡ false }
         ensures some { IfSome result (λ r. type_at self.now id ≡ Plain 0 (Function (type_at self.now r.0) (parameters_in (types self.now) r.1.now r.2))) }

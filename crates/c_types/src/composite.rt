@@ -3,9 +3,9 @@ ghost use Rattle.c_types.specs.declared.type_form.TypeForm.TheVariants as form;
 ghost use Rattle.c_types.specs.CType.{Array as ArrayTree, Function, Plain, depth, kind_of, qualify, unqualified};
 ghost use Rattle.c_types.specs.Compatible.{all_compatible, compatible, kind_compatible};
 ghost use Rattle.c_types.specs.Composite.{all_composite, composite, known_length, parameters_composite};
-ghost use Rattle.c_types.specs.Facts.{AreListsCompatible, AreMade, ArePartsBelow, Grows, first_compatible, first_composite, function_of, items_of, more_of};
+ghost use Rattle.c_types.specs.Facts.{AreListsCompatible, AreMade, ArePartsBelow, first_compatible, first_composite, function_of, items_of, more_of};
 ghost use Rattle.c_types.specs.Readings.{is_array, is_function};
-ghost use Rattle.c_types.specs.Table.{AreBelow, AreSomeBelow, Extends, IsOver, excess_of, form_at, form_refusal, formed, is_qualified, parameters_in, tagged, tags, type_at, types, types_in};
+ghost use Rattle.c_types.specs.Table.{AreBelow, AreSomeBelow, Grows, IsOver, excess_of, form_at, form_refusal, formed, is_qualified, is_tagged, parameters_in, tagged, tags, type_at, types, types_in};
 
 use crate::form_key::copied;
 use crate::notes::Composites;
@@ -55,8 +55,7 @@ impl TypeTable {
         ensures means { IfOk result (λ id. type_at self.new id ≡ composite (type_at self.old a) (type_at self.old b)) }
         ensures within { IfOk result (λ id. id < length self.new.forms) }
         ensures accepted { excess_of (tags self.old) (composite (type_at self.old a) (type_at self.old b)) ≡ None }
-        ensures extends { Extends self.old self.new }
-        ensures completed { self.new.completed ≡ self.old.completed }
+        ensures grows { Grows self.old self.new }
     {
         let mut made = Composites::new(self.alloc);
         self.composite_under((a, Qualifiers::none()), (b, Qualifiers::none()), &mut made)
@@ -337,8 +336,9 @@ impl TypeTable {
         }
     }
 
-    /// The type at the place with these qualifiers beside its own.
-    fn qualified(&mut self, of: TypeId, qualifiers: Qualifiers) -> Result<TypeId, Memory>
+    /// The type at the place with these qualifiers beside its own. It passes no limit. Memory comes only
+    /// where an allocation is refused.
+    pub fn qualified(&mut self, of: TypeId, qualifiers: Qualifiers) -> Result<TypeId, Memory>
         requires { of < length self.old.forms }
         ensures means { IfOk result (λ id. type_at self.new id ≡ qualify qualifiers.0 (type_at self.old of)) }
         ensures within { IfOk result (λ id. id < length self.new.forms) }
@@ -363,9 +363,10 @@ impl TypeTable {
         self.form_place(TypeForm::Array { of, length: count })
     }
 
-    /// The place of a form that passes no limit.
+    /// The place of a form that passes no limit, and that isn't a type by itself.
     fn form_place(&mut self, form: TypeForm) -> Result<TypeId, Memory>
         requires over { IsOver (length self.old.forms) form }
+        requires untagged { is_tagged form ≡ false }
         requires accepted { form_refusal self.old form ≡ None }
         ensures means { IfOk result (λ id. type_at self.new id ≡ formed (types self.old) (tagged self.old.forms) form) }
         ensures within { IfOk result (λ id. id < length self.new.forms) }

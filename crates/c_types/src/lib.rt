@@ -13,8 +13,6 @@ mod layout;
 mod notes;
 mod qualifiers;
 mod room;
-#[cfg(test)]
-mod tests;
 mod type_fault;
 mod type_form;
 mod type_table;

@@ -37,21 +37,21 @@ impl Flags for Qualifiers {
 
 impl Qualifiers {
     /// No qualifiers.
-    pub(crate) fn none() -> Self
+    pub fn none() -> Self
         ensures { result.0 ≡ 0 }
     {
         Qualifiers(0)
     }
 
     /// These and the others.
-    pub(crate) fn with(self, others: Self) -> Self
+    pub fn with(self, others: Self) -> Self
         ensures { result.0 ≡ bit_or self.0 others.0 }
     {
         Qualifiers(self.0 | others.0)
     }
 
     /// They as bits: 1 for const, 2 for volatile.
-    pub(crate) fn number(self) -> u8
+    pub fn number(self) -> u8
         ensures { result ≡ self.0 }
     {
         self.0

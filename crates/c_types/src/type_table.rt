@@ -1,14 +1,14 @@
-ghost use Rattle.std.specs.Prelude.{◌≡◌, ◌≢◌, ◌<◌, ◌≤◌, ◌*◌, ◌↔◌, ◌++◌, ◌∷◌, ℕ, Bool, [], Some, None, length, true, false, slice_get, IsTrue, IfOk, IfErr, IfSome, IfNone, OnOk, OnErr, option_map};
+ghost use Rattle.std.specs.Prelude.{◌≡◌, ◌≢◌, ◌<◌, ◌≤◌, ◌*◌, ◌↔◌, ◌++◌, ◌∷◌, ℕ, Bool, [], Some, None, length, true, false, not, slice_get, IsTrue, IfOk, IfErr, IfSome, IfNone, OnOk, OnErr, option_map};
 ghost use Rattle.c_types.specs.declared.type_fault.TypeFault.TheVariants as fault;
 ghost use Rattle.c_types.specs.declared.type_form.TypeForm.TheVariants as form;
 ghost use Rattle.c_types.specs.declared.extent.Extent.{Extent as ExtentValue};
 ghost use Rattle.c_types.specs.Bounds.{IsBounded};
 ghost use Rattle.c_types.specs.CType.{qualify, depth, greatest_depth, parameters_depth};
 ghost use Rattle.c_types.specs.Layout.{extent_by, known, no_object, object_align, structure_extent};
-ghost use Rattle.c_types.specs.Members.{member_of};
-ghost use Rattle.c_types.specs.Table.{Adds, AreBelow, AreMembersBelow, AreSomeBelow, Extends, IsOpen, IsOver, IsRefusal, are_objects, basic_forms, extent_at, fields_at, form_at, form_refusal, formed, is_above, is_open_form, is_qualified, is_union, list_or_none, member_seen, members_at, members_refusal, number_at, parameters_in, place_of_member, tag_of, tagged, tags, type_at, type_in, types, types_in, types_of};
+ghost use Rattle.c_types.specs.Members.{is_defined, member_of};
+ghost use Rattle.c_types.specs.Table.{Adds, AreBelow, AreMembersBelow, AreSomeBelow, Extends, Grows, IsOpen, IsOver, IsRefusal, are_objects, basic_forms, extent_at, fields_at, form_at, form_refusal, formed, is_above, is_open_form, is_qualified, is_tagged, is_union, list_or_none, member_seen, members_at, members_refusal, number_at, parameters_in, place_of_member, tag_of, tagged, tags, type_at, type_in, types, types_in, types_of};
 ghost use Rattle.c_types.specs.Keeps.{IsFact, IsKeyOf, is_formed};
-ghost use Rattle.c_types.specs.Facts.{AreBounded, IsFactOf, IsLaid};
+ghost use Rattle.c_types.specs.Facts.{AreBounded, IsFactOf, IsLaid, IsWithin};
 
 use crate::definition::Definition;
 use crate::extent::Extent;
@@ -101,7 +101,7 @@ impl TypeTable {
     }
 
     /// The place of a basic type, which it has in each table.
-    pub(crate) fn basic_type(&self, place: TypeId) -> TypeId
+    pub fn basic_type(&self, place: TypeId) -> TypeId
         requires { place < 10 }
         ensures is { result ≡ place }
         ensures means { type_at self.now place ≡ type_in (types_of basic_forms) place }
@@ -112,6 +112,14 @@ impl TypeTable {
         // A field is named, so that what the table keeps is known here.
         let _basic = &self.basic;
         place
+    }
+
+    /// The types of a table are within the limits.
+    pub fn types_are_within_limits(&self)
+        ensures { (id : ℕ) → id < length self.now.forms → IsWithin (known (tags self.now)) (type_at self.now id) }
+    {
+        // A field is named, so that what the table keeps is known here.
+        let _basic = &self.basic;
     }
 
     /// What was added at the place, which isn't a basic type's.
@@ -386,6 +394,7 @@ impl TypeTable {
         ensures open { IfOk result (λ id. is_open_form form ≡ true → IsOpen self.new id) }
         ensures within { IfOk result (λ id. id < length self.new.forms) }
         ensures extends { OnOk result (Extends self.old self.new) }
+        ensures grows { OnOk result (is_tagged form ≡ false → Grows self.old self.new) }
         ensures err { OnErr result (self.new ≡ self.old) }
     {
         match basic_place(&form) {
@@ -477,7 +486,8 @@ impl TypeTable {
     /// Whether the type is a structure or union without members so far, which `complete` can be given.
     pub fn is_open(&self, id: TypeId) -> bool
         requires { id < length self.now.forms }
-        ensures { IsTrue result ↔ IsOpen self.now id }
+        ensures is { IsTrue result ↔ IsOpen self.now id }
+        ensures defined { is_open_form (form_at self.now id) ≡ true → result ≡ not (is_defined (tags self.now) (number_at self.now id)) }
     {
         is_open_form(self.form(id)) && !self.definitions.contains_key(&id)
     }

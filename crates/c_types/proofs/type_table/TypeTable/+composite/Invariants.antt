@@ -1,8 +1,8 @@
 use Rattle.std.proofs.Common.{◌≡◌, ◌+◌, ◌*◌, true, length, drop}
 use Rattle.c_types.specs.CType.{weight, parameters_weight, all_weight}
 use Rattle.c_types.specs.Composite.{all_composite}
-use Rattle.c_types.specs.Facts.{AreMade, Grows, function_of, items_of}
-use Rattle.c_types.specs.Table.{AreBelow, parameters_in, type_at, types, types_in}
+use Rattle.c_types.specs.Facts.{AreMade, function_of, items_of}
+use Rattle.c_types.specs.Table.{Grows, AreBelow, parameters_in, type_at, types, types_in}
 use Rattle.c_types.proofs.Composed.{joined}
 use Rattle.c_types.proofs.type_table.TypeTable.+composite.Given as goal
 

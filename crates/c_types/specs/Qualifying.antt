@@ -1,4 +1,4 @@
--- Sets of qualifiers as bits: no qualifiers, and the order in which they are joined.
+-- Laws of types under qualifiers, whose sets are bits: no qualifiers, and the order in which they are joined.
 use Rattle.std.proofs.Common.{◌≡◌, ◌+◌, ℕ, max, refl, sym, ap, ◌∙◌, arith}
 use Rattle.std.specs.Prelude.{bit_or}
 use Rattle.std.specs.Int.{bit_at}

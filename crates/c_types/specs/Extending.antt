@@ -1,0 +1,18 @@
+-- Laws of what grows: a table that another extends has as many forms at most, and a further member
+-- stands below where its type does.
+use Rattle.std.proofs.Common.{◌≡◌, ℕ, ◌<◌, ◌≤◌, List, [], ◌∷◌, ◌++◌, length, sym, ap, subst, arith}
+use Rattle.std.specs.Prelude.{Err, Ok, OnOk, Result}
+use Rattle.std.proofs.lemmas.List.{length-append}
+use Rattle.c_types.specs.declared.type_form.Member.{Member}
+use Rattle.c_types.specs.Table.{AreMembersBelow, Extends, Table}
+
+pub extends_longer : (a b : Table) → Extends a b → length a.forms ≤ length b.forms
+extends_longer a b h = omega (arith, ap length h.forms.1, length-append a.forms h.forms.0)
+
+pub members_push : (n : ℕ) (ms : List Member) (m : Member) → AreMembersBelow n ms → m.of < n → AreMembersBelow n (ms ++ m ∷ [])
+members_push n [] m h l = (l, tt)
+members_push n (x ∷ ms) m h l = (h.0, members_push n ms m h.1 l)
+
+pub members_pushed : {E : Type 0} (r : Result (Unit {0}) E) (old new : List Member) (m : Member) → OnOk r (new ≡ old ++ m ∷ []) → OnOk r ((n : ℕ) → AreMembersBelow n old → m.of < n → AreMembersBelow n new)
+members_pushed (Ok u) old new m e = λ n h l. subst (AreMembersBelow n) (sym e) (members_push n old m h l)
+members_pushed (Err x) old new m e = tt
