@@ -69,9 +69,9 @@ pub fn offer(row: &mut [Cell], n: usize, new: Cell) -> bool
     ensures offered { Offered (row_of row.old) n new (row_of row.new) }
     ensures stored { IsTrue result ↔ Beats (row_of row.old) n new }
 {
-    let old = row[n];
-    // An empty cell is tested last: by its cost it is mostly the greater one.
-    if old.is_at_most(&new) && old.rule != 0 {
+    let old = &row[n];
+    // Mostly the costs tell: an empty cell's is the greatest.
+    if old.cost <= new.cost && old.is_at_most(&new) && old.rule != 0 {
         return false;
     }
     row[n] = new;

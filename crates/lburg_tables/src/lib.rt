@@ -14,6 +14,3 @@ pub use best_chain::BestChain;
 pub use cell::{Cell, clear_row, offer};
 pub use tables::{Tables, build};
 pub use tables_text::text;
-
-#[cfg(test)]
-mod tests;

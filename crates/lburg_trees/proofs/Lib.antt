@@ -10,3 +10,7 @@ pub mod Whole
 pub mod Names
 pub mod Tails
 pub mod Taken
+pub mod Words
+pub mod KnownNames
+pub mod PlainTrees
+pub mod PlainLines

@@ -11,3 +11,8 @@ pub mod FirstFault
 pub mod TailText
 pub mod Reading
 pub mod Taking
+pub mod Words
+pub mod Known
+pub mod PlainTree
+pub mod PlainLine
+pub mod FirstLine

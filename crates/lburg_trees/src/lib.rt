@@ -1,7 +1,9 @@
 //! The trees of a description's tail, or its first fault with its line.
 #![tactic(auto)]
 
+mod known;
 mod name_table;
+mod plain_tree;
 mod row;
 mod stop;
 mod tail;

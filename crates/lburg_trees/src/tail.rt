@@ -1,5 +1,5 @@
 //! The trees of a description's tail.
-ghost use Rattle.std.specs.Prelude.{◌≡◌, ◌≤◌, ◌⊎◌, ◌+◌, ◌++◌, List, ℕ, length, map, IfOk, IfErr, OnOk};
+ghost use Rattle.std.specs.Prelude.{◌≡◌, ◌<◌, ◌≤◌, ◌⊎◌, ◌+◌, ◌++◌, List, [], ℕ, None, length, map, IfOk, IfErr, IfSome, OnOk};
 ghost use Rattle.lcc_text.specs.Lines.{lines_of};
 ghost use Rattle.lcc_text.specs.Names.{bytes_of};
 ghost use Rattle.lburg_model.specs.Tree.{MTree};
@@ -8,8 +8,11 @@ ghost use Rattle.lburg_trees.specs.FirstFault.{IsTailOf, FirstFault};
 ghost use Rattle.lburg_trees.specs.TailText.{IsLineOf, AreTrees, IsTail};
 ghost use Rattle.lburg_trees.specs.Reading.{IsFineLine, LineFails, AreFine, FailsAt};
 ghost use Rattle.lburg_trees.specs.Taking.{Takes};
+ghost use Rattle.lburg_trees.specs.Known.{AreKnown};
+ghost use Rattle.lburg_trees.specs.FirstLine.{TakesLine, FailsLine};
 
 use crate::name_table::Names;
+use crate::plain_tree::plain_line;
 use crate::stop::Stop;
 use crate::tree_fault::TreeFault;
 use crate::tree_reader::line_tree;
@@ -92,6 +95,41 @@ fn take_line<'a, T: TreeTaker>(
     }
 }
 
+/// Hands over the tree of the first line, unless it is blank, and returns the number of the next tree and the lines
+/// behind. None where there is no line. Only a line that has not the plain form is read by its tokens.
+fn take_first<'a, T: TreeTaker>(
+    alloc: Global,
+    d: &Description,
+    names: &Names<'a>,
+    found: &mut Vec<Token<'a>>,
+    taker: &mut T,
+    number: u32,
+    text: &'a [u8],
+) -> Result<Option<(u32, &'a [u8])>, Stop>
+    requires names { bytes_of names.now.set ≡ terminal_names d.now }
+    requires known { AreKnown d.now.terminals names.now.known }
+    requires ready { T.ready taker.old number }
+    requires within { number + length text.now ≤ 16777217 }
+    ensures taken { IfOk result (λ o. IfSome o (λ x. TakesLine d.now T.takes number x.0 text.now x.1.now taker.old taker.new)) }
+    ensures ready { IfOk result (λ o. IfSome o (λ x. T.ready taker.new x.0)) }
+    ensures shorter { IfOk result (λ o. IfSome o (λ x. length x.1.now < length text.now)) }
+    ensures end { IfOk result (λ o. o ≡ None → lines_of text.now ≡ []) }
+    ensures kept { IfOk result (λ o. o ≡ None → taker.new ≡ taker.old) }
+    ensures fault { IfErr result (λ s. FailsLine d.now text.now s) }
+{
+    if let Some(plain) = plain_line(alloc, d, names, text) {
+        taker.take_tree(number, plain.tree, plain.names)?;
+        return Ok(Some((number + 1, plain.rest)));
+    }
+    match next_line(text) {
+        None => Ok(None),
+        Some((line, behind)) => {
+            let next = take_line(alloc, d, names, found, taker, number, line)?;
+            Ok(Some((next, behind)))
+        }
+    }
+}
+
 /// Hands over the trees of the tail.
 fn take_lines<'a, T: TreeTaker>(
     alloc: Global,
@@ -101,6 +139,7 @@ fn take_lines<'a, T: TreeTaker>(
     taker: &mut T,
 ) -> Result<(), TreeFault>
     requires names { bytes_of names.now.set ≡ terminal_names d.now }
+    requires known { AreKnown d.now.terminals names.now.known }
     requires within { tail.before + length tail.text.now ≤ 16777216 }
     requires ready { T.ready taker.old 1 }
     ensures found { OnOk result ((trees : List MTree) × AreTrees d.now (lines_of tail.entry.text.now) trees × Takes T.takes 1 trees taker.old taker.new) }
@@ -111,15 +150,17 @@ fn take_lines<'a, T: TreeTaker>(
     let mut rest = tail.text;
     let mut number = tail.before;
     let mut tree = 1;
-    while let Some((line, behind)) = next_line(rest) {
+    'lines: loop {
         number += 1;
-        match take_line(alloc, d, names, &mut found, taker, tree, line) {
-            Ok(next) => tree = next,
+        match take_first(alloc, d, names, &mut found, taker, tree, rest) {
+            Ok(None) => return Ok(()),
+            Ok(Some((next, behind))) => {
+                tree = next;
+                rest = behind;
+            }
             Err(stop) => return Err(stop.told(number)),
         }
-        rest = behind;
     }
-    Ok(())
 }
 
 /// Hands the trees of the text's tail, one a line, to a taker, each as soon as it is read; without a tail none. Otherwise

@@ -24,10 +24,10 @@ use lcc_text::find;
 use std::alloc::Global;
 
 /// How many nodes a tree may have.
-const MOST_NODES: usize = 65_535;
+pub(crate) const MOST_NODES: usize = 65_535;
 
 /// No parenthesis opens while so many are open.
-const MOST_OPEN: usize = 499;
+pub(crate) const MOST_OPEN: usize = 499;
 
 /// What stands before tokens in their line: how many parentheses are open, and how many names came.
 #[derive(Clone, Copy, Debug)]
@@ -201,7 +201,7 @@ fn check_operand<'t, 'a>(d: &Description, found: &Found<'t, 'a>, last: bool) -> 
 }
 
 /// One operand.
-fn one_kid(alloc: Global, a: TextTree) -> Result<Items<TextTree>, Memory>
+pub(crate) fn one_kid(alloc: Global, a: TextTree) -> Result<Items<TextTree>, Memory>
     ensures { IfOk result (λ kids. kids ≡ a ∷ []) }
 {
     let mut kids = Items::with_capacity(alloc, 1)?;
@@ -210,7 +210,7 @@ fn one_kid(alloc: Global, a: TextTree) -> Result<Items<TextTree>, Memory>
 }
 
 /// Two operands.
-fn two_kids(alloc: Global, a: TextTree, b: TextTree) -> Result<Items<TextTree>, Memory>
+pub(crate) fn two_kids(alloc: Global, a: TextTree, b: TextTree) -> Result<Items<TextTree>, Memory>
     ensures { IfOk result (λ kids. kids ≡ a ∷ b ∷ []) }
 {
     let mut kids = Items::with_capacity(alloc, 2)?;

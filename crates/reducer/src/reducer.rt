@@ -25,6 +25,7 @@ pub trait Visitor<N> {
 
 // Visits the rules of the best derivation of a nonterminal, which its cell tells.
 #[cycle(reduce)]
+#[inline(always)]
 fn reduce_at<N: TreeNode, V: Visitor<N>>(
     labels: &Labels,
     n: usize,
@@ -60,13 +61,35 @@ fn walk<N: TreeNode, V: Visitor<N>>(
     match pattern {
         Pattern::Nonterminal(n) => reduce_at(labels, *n as usize, tree, at, visitor),
         Pattern::Leaf(_) => {}
-        Pattern::Unary(_, p) => walk(labels, p, tree.kid(0), at + 1, visitor),
+        Pattern::Unary(_, p) => walk_part(labels, p, tree.kid(0), at + 1, visitor),
         Pattern::Binary(_, p, q) => {
             let first = tree.kid(0);
             let next = labels.end(first, at + 1);
-            walk(labels, p, first, at + 1, visitor);
-            walk(labels, q, tree.kid(1), next, visitor);
+            walk_part(labels, p, first, at + 1, visitor);
+            walk_part(labels, q, tree.kid(1), next, visitor);
         }
+    }
+}
+
+// The same for a part of a pattern, which is mostly a nonterminal: then it takes no further call.
+#[cycle(reduce)]
+#[inline(always)]
+#[tactic(auto, using(crate::proofs::Kept::next_place))]
+fn walk_part<N: TreeNode, V: Visitor<N>>(
+    labels: &Labels,
+    pattern: &Pattern,
+    tree: &N,
+    at: usize,
+    visitor: &mut V,
+)
+    requires room { length labels.now.board.now.rows < 2 ^ 64 }
+    requires labelled { Labelled labels.now.board.now.rows labels.now.rules.now labels.now.board.now.nonterminals at (N.tree tree.now) }
+    requires some { total labels.now.board.now.rows (pattern_of pattern.now) (N.tree tree.now) at ≢ None }
+    ensures { Walked labels.now.board.now.rows labels.now.rules.now N.tree V.takes (pattern_of pattern.now) (N.tree tree.now) at visitor.old visitor.new }
+{
+    match pattern {
+        Pattern::Nonterminal(n) => reduce_at(labels, *n as usize, tree, at, visitor),
+        _ => walk(labels, pattern, tree, at, visitor),
     }
 }
 

@@ -1,5 +1,5 @@
 -- The rule that makes a cell.
-use Rattle.std.proofs.Common.{◌≡◌, ◌≢◌, ℕ, zero, suc, ◌+◌, ◌-◌, ◌*◌, ◌<◌, Option, Some, None, List, [], ◌∷◌, sym, ap, ◌∙◌, arith, subst}
+use Rattle.std.proofs.Common.{◌≡◌, ◌≢◌, ℕ, zero, suc, ◌+◌, ◌-◌, ◌*◌, ◌<◌, Option, Some, None, List, [], ◌∷◌, refl, sym, ap, ◌∙◌, arith, subst}
 use Rattle.std.specs.Prelude.{slice_get}
 use Rattle.std.proofs.lemmas.Option.{slice_get_within}
 use Rattle.lburg_tables.specs.declared.cell.Cell.{Cell}
@@ -43,3 +43,11 @@ chosen_of rows d w n t at c l e =
           let main2 = subst P2 (sym kc) main1 in
           subst P (same q eq) main2);
     }
+
+-- the same of a number that the cell has
+pub chosen_by : (rows : List Row) (d : List Rule) (w n : ℕ) (t : MTree) (at number : ℕ) → Labelled rows d w at t → cell rows at n ≢ None → ((c : Cell) → cell rows at n ≡ Some c → number ≡ c.rule) → Chosen rows d n t at number
+chosen_by rows d w n t at number l some is = by_cell (cell rows at n) refl
+  where
+    by_cell : (o : Option Cell) → cell rows at n ≡ o → Chosen rows d n t at number
+    by_cell None e = absurd (some e)
+    by_cell (Some c) e = let F : ℕ → Type 0 = λ k. Chosen rows d n t at k in subst F (sym (is c e)) (chosen_of rows d w n t at c l e)

@@ -1,6 +1,6 @@
 -- The rows of a tree, from those of its subtrees and its own.
 use Rattle.std.proofs.Common.{◌≡◌, ◌≢◌, ℕ, zero, suc, ◌+◌, ◌-◌, ◌*◌, ◌<◌, ◌≤◌, Option, Some, None, List, [], ◌∷◌, length, refl, sym, ap, ◌∙◌, arith, subst, inl, ◌⊎◌, ⊎_elim, length-set}
-use Rattle.std.specs.Prelude.{slice_get, slice_set, ◌==◌, if◌then◌else◌, slice_index_or, IfSome}
+use Rattle.std.specs.Prelude.{slice_get, slice_set, ◌==◌, if◌then◌else◌, slice_index_or}
 use Rattle.std.proofs.lemmas.Option.{slice_get-get_or}
 use Rattle.std.proofs.lemmas.List.{get_or-set_same}
 use Rattle.lburg_tables.specs.declared.cell.Cell.{Cell}
@@ -144,11 +144,6 @@ module _ (rows : List Row) (d : List Rule) (w : ℕ) where
       let f = total_bounded p a (at + 1) x l.0 xe in
       let g = total_bounded q b (at + 1 + nodes a) y l.1 ye in
       (omega arith, omega arith)
-
--- the same of what was told
-pub base_told : (rows : List Row) (d : List Rule) (w : ℕ) (p : MPattern) (t : MTree) (at : ℕ) (o : Option Key) → KidsLabelled rows d w at t → o ≡ base_total rows p t at → IfSome o (λ k. (k.count + w ≤ area w t) × (k.cost ≤ 32768 * k.count))
-base_told rows d w p t at None l e = tt
-base_told rows d w p t at (Some k) l e = base_bounded rows d w p t at k l (sym e)
 
 pub base_is_total : (rows : List Row) (p : MPattern) (t : MTree) (at : ℕ) (k : Key) → base_total rows p t at ≡ Some k → total rows p t at ≡ Some k
 base_is_total rows (PHole n) t at k e = cc

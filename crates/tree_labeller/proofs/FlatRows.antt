@@ -1,6 +1,7 @@
 -- Rows that stand one behind another in a list.
-use Rattle.std.proofs.Common.{◌≡◌, ℕ, zero, suc, ◌+◌, ◌*◌, ◌<◌, ◌≤◌, Option, None, List, [], ◌∷◌, ◌++◌, length, take, drop, get_or, refl, sym, ap, ◌∙◌, arith}
+use Rattle.std.proofs.Common.{◌≡◌, ◌≢◌, ℕ, zero, suc, ◌+◌, ◌*◌, ◌<◌, ◌≤◌, Option, None, List, [], ◌∷◌, ◌++◌, length, take, drop, get_or, refl, sym, ap, ◌∙◌, arith}
 use Rattle.std.specs.Prelude.{slice_get, slice_set, slice_index_or}
+use Rattle.std.proofs.Math.Nat.{lt_of_not-le}
 use Rattle.std.proofs.lemmas.List.{get_or-map, get_or-take, get_or-drop, get_or_past, length-map, length-take, length-take-le, length-drop, take-take, take_at, take-append-le, drop-drop, drop_at, drop-append-le, drop-take}
 use Rattle.std.proofs.lemmas.Option.{slice_get_past}
 use Rattle.lburg_tables.specs.declared.cell.Cell.{Cell}
@@ -48,6 +49,10 @@ cell_beside w (e ∷ es) cells zero n h =
     let b = length-take w cells in
     get_or_past (row_of (take w cells)) n None (omega arith)
 cell_beside w (e ∷ es) cells (suc at) n h = cell_beside w es (drop w cells) at n h
+
+-- a cell that is seen is in a row
+pub cell_inside : (w : ℕ) (ends : List ℕ) (cells : List Cell) (at n : ℕ) → cell (rows_of w ends cells) at n ≢ None → (at < length ends) × (n < w)
+cell_inside w ends cells at n some = (lt_of_not-le (λ h. some (cell_past w ends cells at n h)), lt_of_not-le (λ h. some (cell_beside w ends cells at n h)))
 
 pub end_there : (w : ℕ) (ends : List ℕ) (cells : List Cell) (at d : ℕ) → at < length ends → end_of (slice_get (rows_of w ends cells) at) ≡ get_or ends at d
 end_there w [] cells at d h = absurd (omega arith)

@@ -14,12 +14,11 @@ pub record IsBoard (width : ℕ) (ends : List ℕ) (cells : List Cell) : Type 0 
   pub many : length cells ≡ length ends * width
   pub small : AreFew (length ends) width
 
-pub record IsScratch (width : ℕ) (base row : List Cell) (waiting : List (Option Key)) : Type 0 where
+pub record IsScratch (width : ℕ) (base : List Cell) (waiting : List (Option Key)) : Type 0 where
   pub started : length base ≡ width
-  pub wide : length row ≡ width
   pub idle : IsIdle width waiting
 
-pub record IsCells (board : MCells) (base row : List Cell) (waiting : List (Option Key)) : Type 0 where
-  pub scratch : IsScratch board.nonterminals base row waiting
+pub record IsCells (board : MCells) (base : List Cell) (waiting : List (Option Key)) : Type 0 where
+  pub scratch : IsScratch board.nonterminals base waiting
   pub small : AreFew (room board) board.nonterminals
   pub reach : room board < 2 ^ 64

@@ -17,3 +17,4 @@ pub mod Followed
 pub mod Greatest
 pub mod Erased
 pub mod Cover
+pub mod RowFilled

@@ -1,13 +1,20 @@
-ghost use Rattle.std.specs.Prelude.{◌≡◌, ◌+◌, ◌*◌, ◌-◌, ◌^◌, ◌<◌, ◌≤◌, IfOk, length, slice_get, slice_set};
+ghost use Rattle.std.specs.Prelude.{◌≡◌, ◌≢◌, ℕ, None, Some, ◌+◌, ◌*◌, ◌-◌, ◌^◌, ◌<◌, ◌≤◌, IfOk, length, slice_get};
 ghost use Rattle.tree_labeller.specs.Labelled.{cell, end_of};
 ghost use Rattle.tree_labeller.specs.MCells.{MCells, HasRoom, room};
+ghost use Rattle.lburg_tables.specs.Row.{CellAt, IsCheap};
 ghost use Rattle.lburg_tables.specs.RowOf.{row_of};
-ghost use Rattle.tree_labeller.specs.Rows.{rows_of, with_row};
+ghost use Rattle.lburg_tables.specs.Waits.{IsIdle};
+ghost use Rattle.lburg_tables.specs.declared.cell.Cell.{Cell as CellValue};
+ghost use Rattle.tree_labeller.specs.Rows.{rows_of};
+ghost use Rattle.tree_labeller.specs.RowFilled.{CellsFilled, RowFilled};
 
+use crate::merging::{BaseRow, fill_from_base};
 use lburg_tables::Cell;
-use lcc_base::Memory;
+use lcc_base::{Memory, Steps};
+use place_queue::Queue;
 use std::alloc::Global;
 use std::marker::Model;
+use std::sync::ledger::Ledger;
 
 /// The rows of a tree's nodes, one behind another: for each node a cell for each nonterminal, and the
 /// place after the rows of its subtree. A node's own row stands before those of its operands.
@@ -52,12 +59,27 @@ fn empty_ends(alloc: Global, many: usize) -> Result<Vec<usize>, Memory>
     Ok(ends)
 }
 
-/// Copies a row to its place among the cells.
-fn copy_row(cells: &mut [Cell], start: usize, row: &[Cell])
-    requires { start + length row.now ≤ length cells.old }
-    ensures { cells.new ≡ with_row start (length row.now) cells.old row.now }
+// Fills the cells from a place on with what the chain rules make of a base row.
+#[inline(always)]
+fn fill_cells<L: Ledger>(
+    cells: &mut [Cell],
+    start: usize,
+    base: &BaseRow,
+    queue: &mut Queue,
+    steps: &mut Steps<L>,
+)
+    requires within { start + length base.now.cells.now ≤ length cells.old }
+    requires wide { length base.now.tables.now.nonterminals ≤ length base.now.cells.now }
+    requires narrow { length base.now.cells.now < 2 ^ 32 - 1 }
+    requires idle { IsIdle (length base.now.cells.now) queue.old }
+    requires named { (n : ℕ) (c : CellValue) → CellAt (row_of base.now.cells.now) n c → n < length base.now.tables.now.nonterminals }
+    requires short { (n : ℕ) (c : CellValue) → CellAt (row_of base.now.cells.now) n c → c.count + length base.now.cells.now < 2 ^ 32 }
+    requires cheap { IsCheap (row_of base.now.cells.now) }
+    ensures filled { (n : ℕ) × CellsFilled base.now.tables.now base.now.constant base.now.cells.now start cells.old cells.new n × (steps.new ≡ steps.old + n) }
+    ensures idle { IsIdle (length base.now.cells.now) queue.new }
 {
-    cells[start..start + row.len()].copy_from_slice(row);
+    let row = &mut cells[start..start + base.cells.len()];
+    fill_from_base(base.tables, base.constant, base.cells, row, queue, steps);
 }
 
 impl Board {
@@ -100,6 +122,14 @@ impl Board {
         self.cells[at * self.width + n].seen()
     }
 
+    /// The rule's number of a nonterminal's cell at a place, where it has a derivation.
+    pub(crate) fn rule(&self, at: usize, n: usize) -> u16
+        requires { cell self.now.rows at n ≢ None }
+        ensures { (c : CellValue) → cell self.now.rows at n ≡ Some c → result ≡ c.rule }
+    {
+        self.cells[at * self.width + n].rule
+    }
+
     /// The place after the rows of the subtree at a place.
     pub(crate) fn end(&self, at: usize) -> usize
         requires { at < length self.now.rows }
@@ -108,14 +138,30 @@ impl Board {
         self.ends[at]
     }
 
-    /// Puts a row at a place.
-    pub(crate) fn store(&mut self, at: usize, row: &[Cell], end: usize)
+    /// Puts a row at a place: what the chain rules make of a base row. A step is one chain or rule
+    /// that is tried on a cell.
+    #[inline(always)]
+    pub(crate) fn fill<L: Ledger>(
+        &mut self,
+        at: usize,
+        end: usize,
+        base: &BaseRow,
+        queue: &mut Queue,
+        steps: &mut Steps<L>,
+    )
         requires within { at < length self.old.rows }
-        requires wide { length row.now ≡ self.old.nonterminals }
-        ensures rows { self.new.rows ≡ slice_set self.old.rows at (record { end = end; cells = row_of row.now }) }
+        requires as_wide { length base.now.cells.now ≡ self.old.nonterminals }
+        requires wide { length base.now.tables.now.nonterminals ≤ length base.now.cells.now }
+        requires narrow { length base.now.cells.now < 2 ^ 32 - 1 }
+        requires idle { IsIdle (length base.now.cells.now) queue.old }
+        requires named { (n : ℕ) (c : CellValue) → CellAt (row_of base.now.cells.now) n c → n < length base.now.tables.now.nonterminals }
+        requires short { (n : ℕ) (c : CellValue) → CellAt (row_of base.now.cells.now) n c → c.count + length base.now.cells.now < 2 ^ 32 }
+        requires cheap { IsCheap (row_of base.now.cells.now) }
+        ensures filled { (n : ℕ) × RowFilled base.now.tables.now base.now.constant (row_of base.now.cells.now) at end self.old.rows self.new.rows n × (steps.new ≡ steps.old + n) }
         ensures width { self.new.nonterminals ≡ self.old.nonterminals }
+        ensures idle { IsIdle (length base.now.cells.now) queue.new }
     {
-        copy_row(&mut self.cells, at * self.width, row);
+        fill_cells(&mut self.cells, at * self.width, base, queue, steps);
         self.ends[at] = end;
     }
 }

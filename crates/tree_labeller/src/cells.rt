@@ -8,13 +8,11 @@ use place_queue::Queue;
 use std::alloc::Global;
 use std::marker::Model;
 
-/// What the filling of a row works on.
+/// What the filling of rows works on.
 #[derive(Debug, Drop)]
 pub(crate) struct Scratch {
     /// What the rules make that are no chain rules.
     pub(crate) base: Vec<Cell>,
-    /// The row that is filled.
-    pub(crate) row: Vec<Cell>,
     /// The nonterminals whose chain rules are still to be tried, where some have ranges.
     pub(crate) queue: Queue,
 }
@@ -35,7 +33,7 @@ impl Model for Cells {
 
     ghost view = { λ c. c.board };
 
-    ghost invariant = { λ c. IsCells c.board c.scratch.base.items c.scratch.row.items c.scratch.queue };
+    ghost invariant = { λ c. IsCells c.board c.scratch.base.items c.scratch.queue };
 }
 
 impl Cells {
@@ -52,7 +50,6 @@ impl Cells {
         let board = Board::reserve(alloc, nodes, nonterminals)?;
         let scratch = Scratch {
             base: empty_cells(alloc, nonterminals)?,
-            row: empty_cells(alloc, nonterminals)?,
             queue: Queue::reserve(alloc, nonterminals)?,
         };
         Ok(Cells { board, scratch })

@@ -1,12 +1,12 @@
 ghost use Rattle.std.specs.Prelude.{◌≡◌, ℕ, ◌+◌, ◌*◌, ◌-◌, ◌^◌, ◌<◌, ◌≤◌, ◌⊎◌, length, slice_get};
 ghost use Rattle.lburg_model.specs.Tree.{nodes, op_of, kids_of, value_of};
 ghost use Rattle.tree_labeller.specs.Labelled.{Started, KidsLabelled, area, Labelled};
-ghost use Rattle.lburg_tables.specs.Row.{Closed, Everywhere};
+ghost use Rattle.lburg_tables.specs.Row.{Everywhere};
 ghost use Rattle.lburg_tables.specs.AreRules.{AreRules};
 ghost use Rattle.tree_labeller.specs.ChainRules.{chain_rules};
 ghost use Rattle.lburg_tables.specs.Places.{with_root};
 ghost use Rattle.lburg_tables.specs.Root.{Operator};
-ghost use Rattle.tree_labeller.specs.Tries.{ClosingTries};
+ghost use Rattle.tree_labeller.specs.RowFilled.{RowFilled};
 ghost use Rattle.tree_labeller.specs.Trials.{Trials, TrialsOfEach};
 ghost use Rattle.lburg_tables.specs.RowOf.{row_of};
 ghost use Rattle.tree_labeller.specs.IsCells.{IsScratch};
@@ -16,7 +16,7 @@ ghost use Rattle.tree_labeller.specs.IsLabelled.{IsLabelled};
 use crate::board::Board;
 use crate::cells::{Cells, Scratch};
 use crate::labels::Labels;
-use crate::merging::fill_from_base;
+use crate::merging::BaseRow;
 use crate::starting::{NodeLabels, start_row};
 use lburg_model::{Rule, TreeNode};
 use lburg_tables::Tables;
@@ -31,36 +31,45 @@ struct Grammar<'a> {
     rules: &'a [Rule],
 }
 
-// Fills a node's own row.
+// Fills a node's own row, and notes the place after the rows of its subtree.
 fn fill_row<N: TreeNode, L: Ledger>(
-    node: &NodeLabels,
+    grammar: &Grammar,
     tree: &N,
+    at: usize,
+    end: usize,
+    board: &mut Board,
     scratch: &mut Scratch,
     steps: &mut Steps<L>,
 )
-    requires same { node.now.labels.rules.now ≡ node.now.tables.now.rules }
-    requires scratch { IsScratch node.now.labels.board.now.nonterminals scratch.old.base.items scratch.old.row.items scratch.old.queue }
-    requires wide { length node.now.tables.now.nonterminals ≤ node.now.labels.board.now.nonterminals }
-    requires named { AreRules node.now.labels.rules.now (length node.now.tables.now.nonterminals) }
-    requires are { AreRules node.now.labels.rules.now node.now.labels.board.now.nonterminals }
-    requires small { area node.now.labels.board.now.nonterminals (N.tree tree.now) < 2 ^ 32 - 1 }
-    requires room { node.now.at + nodes (N.tree tree.now) ≤ length node.now.labels.board.now.rows }
-    requires reach { length node.now.labels.board.now.rows < 2 ^ 64 }
-    requires kids { KidsLabelled node.now.labels.board.now.rows node.now.labels.rules.now node.now.labels.board.now.nonterminals node.now.at (N.tree tree.now) }
-    ensures started { Started node.now.labels.board.now.rows node.now.labels.rules.now node.now.at (N.tree tree.now) (row_of scratch.new.base.items) Everywhere }
-    ensures closed { Closed node.now.labels.rules.now (value_of (N.tree tree.now)) (row_of scratch.new.base.items) (row_of scratch.new.row.items) }
-    ensures scratch { IsScratch node.now.labels.board.now.nonterminals scratch.new.base.items scratch.new.row.items scratch.new.queue }
-    ensures steps { (n : ℕ) × ClosingTries node.now.tables.now (row_of scratch.new.base.items) (row_of scratch.new.row.items) n × (steps.new ≡ steps.old + (with_root (Operator (op_of (N.tree tree.now))) node.now.labels.rules.now + n)) }
+    requires same { grammar.now.rules.now ≡ grammar.now.tables.now.rules }
+    requires scratch { IsScratch board.old.nonterminals scratch.old.base.items scratch.old.queue }
+    requires wide { length grammar.now.tables.now.nonterminals ≤ board.old.nonterminals }
+    requires named { AreRules grammar.now.rules.now (length grammar.now.tables.now.nonterminals) }
+    requires are { AreRules grammar.now.rules.now board.old.nonterminals }
+    requires small { area board.old.nonterminals (N.tree tree.now) < 2 ^ 32 - 1 }
+    requires room { at + nodes (N.tree tree.now) ≤ length board.old.rows }
+    requires reach { length board.old.rows < 2 ^ 64 }
+    requires kids { KidsLabelled board.old.rows grammar.now.rules.now board.old.nonterminals at (N.tree tree.now) }
+    ensures started { Started board.old.rows grammar.now.rules.now at (N.tree tree.now) (row_of scratch.new.base.items) Everywhere }
+    ensures scratch { IsScratch board.old.nonterminals scratch.new.base.items scratch.new.queue }
+    ensures filled { (n : ℕ) × RowFilled grammar.now.tables.now (value_of (N.tree tree.now)) (row_of scratch.new.base.items) at end board.old.rows board.new.rows n × (steps.new ≡ steps.old + (with_root (Operator (op_of (N.tree tree.now))) grammar.now.rules.now + n)) }
+    ensures width { board.new.nonterminals ≡ board.old.nonterminals }
 {
-    start_row(node, tree, scratch.base.as_mut_slice(), steps);
-    fill_from_base(
-        node.tables,
-        tree.value(),
-        &scratch.base,
-        &mut scratch.row,
-        &mut scratch.queue,
-        steps,
-    );
+    let node = NodeLabels {
+        tables: grammar.tables,
+        labels: Labels {
+            rules: grammar.rules,
+            board,
+        },
+        at,
+    };
+    start_row(&node, tree, scratch.base.as_mut_slice(), steps);
+    let base = BaseRow {
+        tables: grammar.tables,
+        constant: tree.value(),
+        cells: &scratch.base,
+    };
+    board.fill(at, end, &base, &mut scratch.queue, steps);
 }
 
 // Labels a tree: its rows stand from `at` on. Returns the place after them.
@@ -77,28 +86,19 @@ fn label_at<N: TreeNode, L: Ledger>(
     requires wide { length grammar.now.tables.now.nonterminals ≤ board.old.nonterminals }
     requires named { AreRules grammar.now.rules.now (length grammar.now.tables.now.nonterminals) }
     requires are { AreRules grammar.now.rules.now board.old.nonterminals }
-    requires scratch { IsScratch board.old.nonterminals scratch.old.base.items scratch.old.row.items scratch.old.queue }
+    requires scratch { IsScratch board.old.nonterminals scratch.old.base.items scratch.old.queue }
     requires small { area board.old.nonterminals (N.tree tree.now) < 2 ^ 32 - 1 }
     requires room { at + nodes (N.tree tree.now) ≤ length board.old.rows }
     requires reach { length board.old.rows < 2 ^ 64 }
     ensures next { result ≡ at + nodes (N.tree tree.now) }
     ensures others { (i : ℕ) → (i < at) ⊎ (at + nodes (N.tree tree.now) ≤ i) → slice_get board.new.rows i ≡ slice_get board.old.rows i }
     ensures board { HasRoom board.new (room board.old) board.old.nonterminals }
-    ensures scratch { IsScratch board.old.nonterminals scratch.new.base.items scratch.new.row.items scratch.new.queue }
+    ensures scratch { IsScratch board.old.nonterminals scratch.new.base.items scratch.new.queue }
     ensures labelled { Labelled board.new.rows grammar.now.rules.now board.old.nonterminals at (N.tree tree.now) }
     ensures trials { (n : ℕ) × Trials grammar.now.tables.now (N.tree tree.now) n × (steps.new ≡ steps.old + n) }
 {
     let next = label_kids(grammar, tree, at, board, scratch, steps);
-    let node = NodeLabels {
-        tables: grammar.tables,
-        labels: Labels {
-            rules: grammar.rules,
-            board,
-        },
-        at,
-    };
-    fill_row(&node, tree, scratch, steps);
-    board.store(at, &scratch.row, next);
+    fill_row(grammar, tree, at, next, board, scratch, steps);
     next
 }
 
@@ -117,14 +117,14 @@ fn label_kids<N: TreeNode, L: Ledger>(
     requires wide { length grammar.now.tables.now.nonterminals ≤ board.old.nonterminals }
     requires named { AreRules grammar.now.rules.now (length grammar.now.tables.now.nonterminals) }
     requires are { AreRules grammar.now.rules.now board.old.nonterminals }
-    requires scratch { IsScratch board.old.nonterminals scratch.old.base.items scratch.old.row.items scratch.old.queue }
+    requires scratch { IsScratch board.old.nonterminals scratch.old.base.items scratch.old.queue }
     requires small { area board.old.nonterminals (N.tree tree.now) < 2 ^ 32 - 1 }
     requires room { at + nodes (N.tree tree.now) ≤ length board.old.rows }
     requires reach { length board.old.rows < 2 ^ 64 }
     ensures next { result ≡ at + nodes (N.tree tree.now) }
     ensures others { (i : ℕ) → (i ≤ at) ⊎ (at + nodes (N.tree tree.now) ≤ i) → slice_get board.new.rows i ≡ slice_get board.old.rows i }
     ensures board { HasRoom board.new (room board.old) board.old.nonterminals }
-    ensures scratch { IsScratch board.old.nonterminals scratch.new.base.items scratch.new.row.items scratch.new.queue }
+    ensures scratch { IsScratch board.old.nonterminals scratch.new.base.items scratch.new.queue }
     ensures kids { KidsLabelled board.new.rows grammar.now.rules.now board.old.nonterminals at (N.tree tree.now) }
     ensures trials { (n : ℕ) × TrialsOfEach grammar.now.tables.now (kids_of (N.tree tree.now)) n × (steps.new ≡ steps.old + n) }
 {

@@ -68,10 +68,7 @@ impl<'a> Labels<'a> {
         requires some { cell self.now.board.now.rows at n ≢ None }
         ensures { Chosen self.now.board.now.rows self.now.rules.now n (N.tree tree.now) at result }
     {
-        match self.cell(at, n) {
-            Some(c) => c.rule,
-            None => 0,
-        }
+        self.board.rule(at, n)
     }
 
     /// The rule at the root of a nonterminal's best derivation of the tree at a place, which its

@@ -13,6 +13,16 @@ use lcc_base::Steps;
 use place_queue::Queue;
 use std::sync::ledger::Ledger;
 
+/// What a row is filled from.
+#[derive(Clone, Copy, Debug)]
+pub(crate) struct BaseRow<'a> {
+    pub(crate) tables: &'a Tables<'a>,
+    /// The node's constant, if it has one.
+    pub(crate) constant: Option<i64>,
+    /// What the rules make at the node that are no chain rules.
+    pub(crate) cells: &'a [Cell],
+}
+
 // Tries a chain on the cell where it starts.
 fn try_chain(row: &mut [Cell], from: Cell, chain: &BestChain)
     requires fits { FitsAfter (length row.old) from chain.now }
@@ -69,6 +79,7 @@ fn merge_chains<L: Ledger>(tables: &Tables, base: &[Cell], row: &mut [Cell], ste
 /// it starts; else the chain rules that apply at the node are tried one by one. A step is one chain
 /// or rule that is tried on a cell.
 /// Source: Fraser and Hanson, A Retargetable C Compiler, chapter 14.
+#[inline(always)]
 pub(crate) fn fill_from_base<L: Ledger>(
     tables: &Tables,
     constant: Option<i64>,

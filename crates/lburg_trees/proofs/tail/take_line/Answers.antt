@@ -1,4 +1,4 @@
-use Rattle.std.proofs.Common.{◌≡◌, ℕ, ◌≤◌, List, [], ◌∷◌, refl, sym, subst, arith}
+use Rattle.std.proofs.Common.{◌≡◌, ◌≤◌, List, [], ◌∷◌, refl, sym, subst, arith}
 use Rattle.lburg_lines.specs.declared.token.Token.{Token}
 use Rattle.lburg_lines.specs.Tokens.{views}
 use Rattle.lburg_lines.specs.Spelling.{Spells}

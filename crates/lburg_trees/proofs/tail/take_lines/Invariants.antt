@@ -6,8 +6,8 @@ use Rattle.lburg_trees.specs.Taking.{Takes}
 use Rattle.lburg_trees.specs.Reading.{AreFine}
 use Rattle.lburg_trees.proofs.tail.take_lines.Given as goal
 
-abbrev pub invariant-loop-line : goal.invariant-loop-line
-invariant-loop-line g l = record {
+abbrev pub invariant-lines : goal.invariant-lines
+invariant-lines g l = record {
   low : l.tail.before ≤ l.number;
   within : l.number + length l.rest ≤ 16777216;
   left : drop (l.number - l.tail.before) (lines_of l.tail.text.now) ≡ lines_of l.rest;
@@ -17,5 +17,5 @@ invariant-loop-line g l = record {
   fine : AreFine l.d (lines_of l.tail.text.now) (l.number - l.tail.before);
 }
 
-abbrev pub decreases-loop-line : goal.decreases-loop-line
-decreases-loop-line g l = length l.rest
+abbrev pub decreases-lines : goal.decreases-lines
+decreases-lines g l = length l.rest

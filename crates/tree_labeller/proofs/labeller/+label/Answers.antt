@@ -1,11 +1,11 @@
-use Rattle.std.proofs.Common.{◌≡◌, ◌∙◌, ℕ, ◌+◌, ◌<◌, List, length, sym, ap, subst, arith}
+use Rattle.std.proofs.Common.{◌≡◌, ◌∙◌, ℕ, ◌+◌, ◌<◌, List, length, refl, sym, ap, subst, arith}
 use Rattle.std.specs.Prelude.{slice_set}
 use Rattle.std.proofs.lemmas.List.{length-map}
-use Rattle.lburg_model.specs.Tree.{nodes, op_of}
+use Rattle.lburg_model.specs.Tree.{nodes, op_of, value_of}
 use Rattle.lburg_model.specs.declared.rule.Rule.{Rule}
 use Rattle.lburg_tables.specs.Places.{with_root}
 use Rattle.lburg_tables.specs.Root.{Operator}
-use Rattle.lburg_tables.specs.Row.{Everywhere}
+use Rattle.lburg_tables.specs.Row.{Closed, Everywhere}
 use Rattle.lburg_tables.specs.RowOf.{seen, row_of}
 use Rattle.tree_labeller.specs.Rows.{Row}
 use Rattle.tree_labeller.specs.Labelled.{Started, Filled, Labelled}
@@ -34,17 +34,18 @@ label_at-returns-clause-labelled g t c =
     let tree = g.N.TreeNode.tree c.args.tree.now in
     let board = c.label_kids-next.new.board in
     let base = row_of c.fill_row.new.scratch.base.items in
-    let cells = row_of c.fill_row.new.scratch.row.items in
-    let row : Row = record { end = c.label_kids-next.result; cells = row_of c.deref.result.now } in
+    let (tries, f, steps) = c.fill_row.ensures.filled in
+    let row : Row = record { end = c.label_kids-next.result; cells = f.cells } in
     let pos = nodes_pos tree in
     let room = c.requires.room in
     let same = c.label_kids-next.ensures.board.0 in
     let inside : c.args.at < length board.rows = omega arith in
     let wide : length base ≡ w = length-map c.fill_row.new.scratch.base.items seen ∙ c.fill_row.ensures.scratch.started ∙ c.label_kids-next.ensures.board.1 in
-    let filled : Filled board.rows rules c.args.at tree w cells = (base, c.fill_row.ensures.started, c.fill_row.ensures.closed, wide) in
+    let Closes : List Rule → Type 0 = λ rs. Closed rs (value_of tree) base f.cells in
+    let filled : Filled board.rows rules c.args.at tree w f.cells = (base, c.fill_row.ensures.started, subst Closes (sym c.requires.same) f.closed, wide) in
     let Rows : List Row → Type 0 = λ x. Labelled x rules w c.args.at tree in
-    subst Rows (sym c.store.ensures.rows)
-    (stored_row board.rows rules w c.args.at tree cells row c.label_kids-next.ensures.kids filled (ap row_of c.deref.ensures.value) c.label_kids-next.ensures.next c.requires.are.cheap inside)
+    subst Rows (sym f.stored)
+    (stored_row board.rows rules w c.args.at tree f.cells row c.label_kids-next.ensures.kids filled refl c.label_kids-next.ensures.next c.requires.are.cheap inside)
 
 pub label_at-returns-clause-trials : goal.label_at-returns-clause-trials
 label_at-returns-clause-trials g t c =
@@ -54,27 +55,26 @@ label_at-returns-clause-trials g t c =
     let tree = g.N.TreeNode.tree c.args.tree.now in
     let board = c.label_kids-next.new.board in
     let base = row_of c.fill_row.new.scratch.base.items in
-    let cells = row_of c.fill_row.new.scratch.row.items in
-    let row : Row = record { end = c.label_kids-next.result; cells = row_of c.deref.result.now } in
+    let (tries, f, steps) = c.fill_row.ensures.filled in
+    let row : Row = record { end = c.label_kids-next.result; cells = f.cells } in
     let pos = nodes_pos tree in
     let room = c.requires.room in
     let same = c.label_kids-next.ensures.board.0 in
     let inside : c.args.at < length board.rows = omega arith in
     let wide : length base ≡ w = length-map c.fill_row.new.scratch.base.items seen ∙ c.fill_row.ensures.scratch.started ∙ c.label_kids-next.ensures.board.1 in
-    let filled : Filled board.rows rules c.args.at tree w cells = (base, c.fill_row.ensures.started, c.fill_row.ensures.closed, wide) in
+    let Closes : List Rule → Type 0 = λ rs. Closed rs (value_of tree) base f.cells in
+    let filled : Filled board.rows rules c.args.at tree w f.cells = (base, c.fill_row.ensures.started, subst Closes (sym c.requires.same) f.closed, wide) in
     let rows = slice_set board.rows c.args.at row in
-    let is = ap row_of c.deref.ensures.value in
-    let labelled = stored_row board.rows rules w c.args.at tree cells row c.label_kids-next.ensures.kids filled is c.label_kids-next.ensures.next c.requires.are.cheap inside in
-    let own = own_cells board.rows c.args.at row cells inside is in
+    let labelled = stored_row board.rows rules w c.args.at tree f.cells row c.label_kids-next.ensures.kids filled refl c.label_kids-next.ensures.next c.requires.are.cheap inside in
+    let own = own_cells board.rows c.args.at row f.cells inside refl in
     let agree : Agree board.rows rows (c.args.at + 1) (c.args.at + nodes tree) = λ i l h. other_row board.rows c.args.at row i (λ e. omega arith) in
     let ByRules : List Rule → Type 0 = λ rs. Labelled rows rs w c.args.at tree in
     let Starts : List Rule → Type 0 = λ rs. Started board.rows rs c.args.at tree base Everywhere in
-    let (tried, closing, steps) = c.fill_row.ensures.steps in
-    let root = root_trials board.rows rows d w c.args.at tree base (subst ByRules c.requires.same labelled) agree (subst Starts c.requires.same c.fill_row.ensures.started) cells tried own closing in
+    let root = root_trials board.rows rows d w c.args.at tree base (subst ByRules c.requires.same labelled) agree (subst Starts c.requires.same c.fill_row.ensures.started) f.cells tries own f.tried in
     let op = op_of tree in
     let with_op = ap (λ (rs : List Rule). with_root (Operator op) rs) c.requires.same in
     let (below, kids, more) = c.label_kids-next.ensures.trials in
-    (with_root (Operator op) d.rules + tried + below, AtRoot root kids, omega arith)
+    (with_root (Operator op) d.rules + tries + below, AtRoot root kids, omega arith)
 
 pub label_kids-returns-in-0-clause-trials : goal.label_kids-returns-in-0-clause-trials
 label_kids-returns-in-0-clause-trials g t c = (0, no_kids c.args.grammar.now.tables.now (g.N.TreeNode.tree c.args.tree.now) (omega (arith, c.arity.ensures, c.in-0.is)), omega arith)
