@@ -7,7 +7,8 @@ use Rattle.c_meaning.specs.Constraints.{Fault, fault_at}
 use Rattle.c_meaning.specs.Typing.{Outcome, Fine, Bad, then_do, unless, at}
 use Rattle.c_meaning.specs.TypingRelation.{Is, Then}
 use Rattle.c_meaning.specs.Postorder.{Place, place, visit, or_else, first_fault}
-use Rattle.c_meaning.specs.Laws.{IsTyping, IsFirst, AreDecided, fault_of}
+use Rattle.c_meaning.specs.DeclaringNodes.{AnyPlace, any_fault, first_any, parts, see}
+use Rattle.c_meaning.specs.Laws.{IsTyping, IsFirst, IsFirstOf, IsDecided, fault_of}
 
 -- ---- rows
 
@@ -57,17 +58,39 @@ at_first s line n t x = of_fault (fault_at s line n)
     of_fault (Some f) = refl
     of_fault None = refl
 
+-- ---- nodes of initialisers and declarations
+
+any_append : (xs ys : List AnyPlace) → first_any (xs ++ ys) ≡ or_else (first_any xs) (first_any ys)
+any_append [] ys = refl
+any_append (p ∷ ps) ys = ap (or_else (any_fault p)) (any_append ps ys) ∙ or_else_assoc (any_fault p) (first_any ps) (first_any ys)
+
+pub see_first : {T U : Type 0} (o : Outcome T) (next : State → T → Outcome U) (places : List AnyPlace) (later : State → T → List AnyPlace) → IsFirstOf o places → ((s : State) (x : T) → IsFirstOf (next s x) (later s x)) → IsFirstOf (then_do o next) (see places o later)
+see_first (Fine s x) next places later h k = any_append places (later s x) ∙ rw h (k s x)
+see_first (Bad f) next places later h k = any_append places [] ∙ rw h refl
+
+first_of_parts : (ps : List Place) → first_any (parts ps) ≡ first_fault ps
+first_of_parts [] = refl
+first_of_parts (p ∷ ps) = ap (or_else (fault_at p.state p.line p.node)) (first_of_parts ps)
+
+-- of a part that is an expression, specifiers or a declarator
+pub part_first : {T : Type 0} (o : Outcome T) (places : List Place) → IsFirst o places → IsFirstOf o (parts places)
+part_first o places h = first_of_parts places ∙ h
+
+pub node_first : {T : Type 0} (f : Option Fault) (s : State) (x : T) → or_else f None ≡ fault_of (unless f s x)
+node_first (Some f) s x = refl
+node_first None s x = refl
+
 -- ---- both
 
--- an outcome that is what the rows say, and whose fault is that of the first node that has one
-pub are_decided : {T : Type 0} (o : Outcome T) (types : State → T → Type 0) (places : List Place) → IsTyping o types → IsFirst o places → AreDecided types places
-are_decided (Fine s x) types places h k =
+-- an outcome that is what the rows say, and its fault
+pub is_decided : {T : Type 0} (o : Outcome T) (types : State → T → Type 0) (fault : Option Fault) → IsTyping o types → fault ≡ fault_of o → IsDecided types fault
+is_decided (Fine s x) types fault h k =
     record {
       some = λ w. (s, x, (h s x).1 refl);
       one = λ u v y z a b. let p = (h u y).0 a in let q = (h v z).0 b in (cc, cc);
       none = λ f w u y a. absurd cc;
     }
-are_decided (Bad f) types places h k =
+is_decided (Bad f) types fault h k =
     record {
       some = λ w. absurd cc;
       one = λ u v y z a b. let p = (h u y).0 a in absurd cc;

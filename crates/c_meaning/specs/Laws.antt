@@ -4,6 +4,7 @@ use Rattle.c_meaning.specs.State.{State}
 use Rattle.c_meaning.specs.Constraints.{Fault}
 use Rattle.c_meaning.specs.Typing.{Outcome, Fine, Bad}
 use Rattle.c_meaning.specs.Postorder.{Place, first_fault}
+use Rattle.c_meaning.specs.DeclaringNodes.{AnyPlace, first_any}
 
 -- what is typed, and nothing else, is what the function gives
 abbrev pub IsTyping : {T : Type 0} → Outcome T → (State → T → Type 0) → Type 0
@@ -18,7 +19,18 @@ abbrev pub IsFirst : {T : Type 0} → Outcome T → List Place → Type 0
 IsFirst outcome places = first_fault places ≡ fault_of outcome
 
 -- Where no node has a fault there is a typing, and exactly one; where one has, there is none.
-pub record AreDecided {T : Type 0} (types : State → T → Type 0) (places : List Place) : Type 0 where
-  pub some : first_fault places ≡ None → (s : State) × (t : T) × types s t
+pub record IsDecided {T : Type 0} (types : State → T → Type 0) (fault : Option Fault) : Type 0 where
+  pub some : fault ≡ None → (s : State) × (t : T) × types s t
   pub one : (s u : State) → (t v : T) → types s t → types u v → (s ≡ u) × (t ≡ v)
-  pub none : (f : Fault) → first_fault places ≡ Some f → (s : State) → (t : T) → types s t → ⊥
+  pub none : (f : Fault) → fault ≡ Some f → (s : State) → (t : T) → types s t → ⊥
+
+abbrev pub AreDecided : {T : Type 0} → (State → T → Type 0) → List Place → Type 0
+AreDecided types places = IsDecided types (first_fault places)
+
+-- ---- the same of initialisers and declarations
+
+abbrev pub IsFirstOf : {T : Type 0} → Outcome T → List AnyPlace → Type 0
+IsFirstOf outcome places = first_any places ≡ fault_of outcome
+
+abbrev pub AreAllDecided : {T : Type 0} → (State → T → Type 0) → List AnyPlace → Type 0
+AreAllDecided types places = IsDecided types (first_any places)

@@ -18,6 +18,15 @@ pub mod Postorder
 pub mod StmtTrees
 pub mod Fits
 pub mod Units
+pub mod AddressConstants
+pub mod Filling
+pub mod NodeConstraints
+pub mod Initialising
+pub mod Linkage
+pub mod Declarations
+pub mod Declaring
+pub mod DeclaringRelation
+pub mod DeclaringNodes
 pub mod Laws
 pub mod Samples
 pub mod ExprExamples
@@ -26,3 +35,8 @@ pub mod TypeExamples
 pub mod RowExamples
 pub mod ConstantExamples
 pub mod TypingExamples
+pub mod AddressExamples
+pub mod FillingExamples
+pub mod DeclarationSamples
+pub mod DeclarationExamples
+pub mod DeclaredExamples

@@ -1,5 +1,5 @@
 //! What C means: checked programs, and which programs are right. So far the checked form of a program, and the
-//! typing of its expressions and types.
+//! typing of its expressions, types and declarations.
 #![tactic(auto)]
 
 mod built_in;
@@ -14,4 +14,6 @@ pub use core_expr::{Change, Conversion, CoreExpr, CoreKind};
 pub use core_stmt::{CoreCase, CoreStmt};
 pub use core_unit::{Core, CoreFunction, CoreObject};
 pub use filled_place::FilledPlace;
-pub use laws::{typing_is_a_function, typing_is_decided};
+pub use laws::{
+    declaring_is_a_function, declaring_is_decided, typing_is_a_function, typing_is_decided,
+};
