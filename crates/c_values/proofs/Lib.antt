@@ -1,0 +1,7 @@
+mod Valuing
+mod Folding
+mod Integers
+mod Signs
+mod Changing
+mod Lower
+mod Operands

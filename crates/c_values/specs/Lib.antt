@@ -1,0 +1,10 @@
+pub mod Valued
+pub mod Folding
+pub mod Signs
+pub mod ManyValues
+pub mod Qualified
+pub mod Stays
+pub mod PlainTypes
+pub mod TooDeep
+pub mod Passing
+pub mod Giving
