@@ -18,8 +18,6 @@ mod slices;
 mod storage;
 mod store_fault;
 mod storing;
-#[cfg(test)]
-mod tests;
 mod value;
 mod width;
 

@@ -14,8 +14,6 @@ mod operands;
 mod operator;
 mod suffix;
 mod sym;
-#[cfg(test)]
-mod tests;
 mod tree;
 mod well_formed;
 

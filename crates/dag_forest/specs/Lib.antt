@@ -1,0 +1,11 @@
+pub mod Entries
+pub mod HashedKeys
+pub mod Keys
+pub mod SameKeys
+pub mod Tally
+pub mod Schedules
+pub mod Meaning
+pub mod Emission
+pub mod Meant
+pub mod Slots
+pub mod BlockExamples

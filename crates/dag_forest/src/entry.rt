@@ -1,0 +1,10 @@
+use crate::parts::Parts;
+
+/// What was added to a block.
+#[derive(Clone, Copy, Debug, PartialEq, Eq)]
+pub enum Entry {
+    /// A node, whose number is its place among the nodes.
+    Value(Parts),
+    /// A root.
+    Root(Parts),
+}

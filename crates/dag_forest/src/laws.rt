@@ -1,0 +1,26 @@
+ghost use Rattle.std.specs.Prelude.{◌≡◌, List, Some, ℕ, ℤ, false};
+ghost use Rattle.objects.specs.declared.value.ObjectName.{ObjectName};
+ghost use Rattle.objects.specs.declared.value.Value.TheVariants.{Pointer};
+ghost use Rattle.forests.specs.Words.{Plain};
+ghost use Rattle.forests.specs.Addresses.{local};
+ghost use Rattle.forests.specs.Bodies.{Setting};
+ghost use Rattle.dag_forest.specs.declared.entry.Entry.{Entry};
+ghost use Rattle.dag_forest.specs.Emission.{AreOnce, Distinct, Holds, Lost, emit, no_tree};
+ghost use Rattle.dag_forest.specs.Meaning.{IsTemporary, Keeps};
+ghost use Rattle.dag_forest.specs.Meant.{HaveMeaning};
+ghost use Rattle.dag_forest.specs.Schedules.{acts_of};
+ghost use Rattle.dag_forest.specs.Slots.{Kind, slot_temporary};
+
+/// A block makes each of its nodes once at most. Where some of its nodes are kept in temporaries of their
+/// own, and each use of a node stands in the stretch of the reads below it that aren't kept, the trees of
+/// what the block does have its meaning: from each world, with as many root steps, they do what it does.
+pub fn trees_do_what_blocks_do()
+    ensures once { (entries : List Entry) → AreOnce (acts_of entries) (λ m. false) }
+    ensures meaning { (entries : List Entry) → (keeps : Keeps) → Distinct keeps → Holds keeps (acts_of entries) (λ m. Lost) → HaveMeaning keeps (acts_of entries) (emit keeps (acts_of entries) (λ m. no_tree)) }
+{}
+
+/// A slot of the frame is a temporary of a signed or unsigned number and of an address: what is stored in
+/// it is read back, wherever its object is the same, and no other object changes.
+pub fn slots_are_temporaries()
+    ensures { (s : Setting) → (name : ObjectName) → (offset : ℤ) → local s.environment.home (Some offset) ≡ Some (Plain (Pointer name 0)) → (k : Kind) → IsTemporary s (slot_temporary s.environment.order k name offset) }
+{}

@@ -1,0 +1,11 @@
+mod Samples
+mod AddressExamples
+mod MemoryExamples
+mod NumberExamples
+mod BitExamples
+mod ControlExamples
+mod OperandLists
+mod LabelPlaces
+mod FirstFaults
+mod RunExamples
+mod UnitExamples
