@@ -36,6 +36,3 @@ pub use section::Section;
 pub use statement::{Item, Statement};
 pub use statement_reader::read_statement;
 pub use token::{Kind, Token};
-
-#[cfg(test)]
-mod tests;

@@ -36,6 +36,3 @@ pub use printing::print;
 pub use program::Program;
 pub use reading::read;
 pub use running::{Input, Step, StuckCause};
-
-#[cfg(test)]
-mod tests;

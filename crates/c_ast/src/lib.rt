@@ -14,8 +14,6 @@ mod specifier;
 mod spelled_by;
 mod spelling;
 mod statement;
-#[cfg(test)]
-mod tests;
 mod token_text;
 mod tree_height;
 mod unit;

@@ -8,8 +8,6 @@ mod next;
 mod nodes;
 mod parts;
 mod steps;
-#[cfg(test)]
-mod tests;
 
 pub use declarations::{
     declaration, declaration_to, declarations_to, inits_behind, old_parameters,

@@ -18,8 +18,6 @@ mod specifiers;
 mod stop;
 mod suffixes;
 mod syntax_fault;
-#[cfg(test)]
-mod tests;
 mod tokens;
 mod traits_of_trees;
 mod type_names;

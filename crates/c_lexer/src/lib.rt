@@ -19,8 +19,6 @@ mod run;
 mod scanning;
 mod sign;
 mod start;
-#[cfg(test)]
-mod tests;
 mod token;
 
 pub use laws::{

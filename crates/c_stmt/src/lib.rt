@@ -5,8 +5,6 @@ mod conditions;
 mod externals;
 mod nodes;
 mod statements;
-#[cfg(test)]
-mod tests;
 mod units;
 mod words;
 

@@ -11,6 +11,8 @@ mod fault;
 mod reading;
 mod running;
 #[cfg(test)]
+mod statuses;
+#[cfg(test)]
 mod tests;
 
 use case::Case;

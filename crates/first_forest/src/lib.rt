@@ -6,6 +6,3 @@ mod statements;
 mod trees;
 
 pub use lowering::lower;
-
-#[cfg(test)]
-mod tests;

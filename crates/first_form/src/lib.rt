@@ -16,6 +16,3 @@ pub use expression::{Expression, Operator};
 pub use first_fault::FirstFault;
 pub use first_program::FirstProgram;
 pub use program_reader::{one_program, read};
-
-#[cfg(test)]
-mod tests;

@@ -23,6 +23,3 @@ pub use checked_text::CheckedText;
 pub use desc_fault::DescFault;
 pub use line_fault::LineFault;
 pub use reading::read_checked;
-
-#[cfg(test)]
-mod tests;

@@ -16,6 +16,3 @@ pub use lburg_model::{
 };
 pub use lburg_trees::{TreeFault, TreeTaker, read_trees, take_trees};
 pub use printed_text::print;
-
-#[cfg(test)]
-mod tests;

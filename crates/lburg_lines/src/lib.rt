@@ -32,6 +32,3 @@ pub use rule_line::{CostWritten, RuleLine};
 pub use section::Section;
 pub use token::{Border, Sign, Token};
 pub use tree_reader::{one_tree, tree_at};
-
-#[cfg(test)]
-mod tests;

@@ -23,6 +23,3 @@ mod writing;
 
 pub use calling::top;
 pub use status::Status;
-
-#[cfg(test)]
-mod tests;

@@ -11,8 +11,6 @@ mod machine;
 mod memory;
 mod operations;
 mod processor;
-#[cfg(test)]
-mod tests;
 mod turn;
 
 pub use load_fault::LoadFault;
