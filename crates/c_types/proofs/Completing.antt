@@ -1,5 +1,5 @@
 -- A structure or union that gets its members: what its table keeps then.
-use Rattle.std.proofs.Common.{◌≡◌, inl, inr, ℕ, ◌+◌, ◌<◌, ◌≤◌, Bool, true, false, List, [], ◌∷◌, ◌++◌, length, refl, sym, ap, ◌∙◌, subst, arith}
+use Rattle.std.proofs.Common.{◌≡◌, inl, inr, ℕ, ◌+◌, ◌<◌, ◌≤◌, Bool, true, false, List, [], ◌∷◌, ◌++◌, length, map, refl, sym, ap, ◌∙◌, subst, arith}
 use Rattle.std.specs.Prelude.{Some, None, Option, IfSome, is_some, nat_eq, nat_lt, ◌||◌, if◌then◌else◌}
 use Rattle.std.specs.Map.{lookup}
 use Rattle.std.specs.Option.{option_map}
@@ -17,9 +17,10 @@ use Rattle.c_types.specs.declared.room.Room.{Room}
 use Rattle.c_types.specs.declared.definition.Definition.{Definition}
 use Rattle.c_types.specs.Bounds.{IsBounded}
 use Rattle.c_types.specs.Layout.{Field, start, laid, round_up, greatest_align, greatest_nesting, structure_extent, spots, known, no_object}
-use Rattle.c_types.specs.Members.{member_in, named}
+use Rattle.c_types.specs.Members.{member_in, named, named_places, places_in}
 use Rattle.c_types.specs.Constness.{const_known, some_const}
-use Rattle.c_types.specs.Table.{Table, Completed, Extends, IsOpen, AreMembersBelow, are_objects, excess, fields_at, form_at, is_above, is_union, member_seen, member_types, members_among, members_refusal, number_at, places_of, tag_of, tags, types}
+use Rattle.c_types.specs.Table.{Table, Completed, Extends, IsOpen, AreMembersBelow, ArePlacesBelow, all_placed, are_objects, excess, fields_at, form_at, is_above, is_union, member_seen, member_types, members_among, members_refusal, number_at, places_of, tag_of, tags, types}
+use Rattle.c_types.specs.Definitions.{AreComplete}
 use Rattle.c_types.specs.Keeps.{Keeps, IsDefinition, completed_in, forms_in, place_named}
 use Rattle.c_types.specs.Facts.{IsLaid}
 use Rattle.c_types.proofs.Insides.{length-forms, table_of}
@@ -27,7 +28,7 @@ use Rattle.c_types.proofs.Known.{known_apart}
 use Rattle.c_types.proofs.Defined.{apart, members_found, open_all, open_tagged}
 use Rattle.c_types.proofs.Stays.{Stays, fact_stays, fields_same, definition_stays, stays_with, tags_completed, with}
 use Rattle.c_types.proofs.Placed.{push_cases}
-use Rattle.c_types.proofs.Seen.{placed_seen}
+use Rattle.c_types.proofs.Seen.{all_seen, placed_below, placed_seen}
 
 -- the extent of members that are laid
 pub extent_laid : (l : Laying) (kind : Bool) (fs : List Field) (ms : List Member) (x : Extent) → IsLaid l kind fs ms → x.size ≡ Some (round_up l.room.bytes l.align) → x.align ≡ l.align → x.nesting ≡ 1 + l.nesting → x ≡ structure_extent kind fs
@@ -114,6 +115,13 @@ module _ (basics : List TypeForm) (es : List (FormKey × Formed)) (ds : List (�
       let x = named (member_types (types before_it) d.members) (spots (is_union (form_at before_it id)) start (fields_at before_it d.members)) name in
       ap (λ ts. member_in ts n name) (tags_completed before_it it) ∙ ap (λ (b : Bool). if b then x else member_in (tags before_it) n name) e
 
+  places_now : places_in (tags (with before_it it)) (number_at before_it id) ≡ named_places (member_types (types before_it) d.members) (spots (is_union (form_at before_it id)) start (fields_at before_it d.members))
+  places_now =
+      let n = number_at before_it id in
+      let e : nat_eq n n ≡ true = grind (arith, nat_tests) in
+      let x = named_places (member_types (types before_it) d.members) (spots (is_union (form_at before_it id)) start (fields_at before_it d.members)) in
+      ap (λ ts. places_in ts n) (tags_completed before_it it) ∙ ap (λ (b : Bool). if b then x else places_in (tags before_it) n) e
+
   const_now : const_known (tags (with before_it it)) (number_at before_it id) ≡ some_const (const_known (tags before_it)) (member_types (types before_it) d.members)
   const_now =
       let n = number_at before_it id in
@@ -122,14 +130,16 @@ module _ (basics : List TypeForm) (es : List (FormKey × Formed)) (ds : List (�
       ap (λ ts. const_known ts n) (tags_completed before_it it) ∙ ap (λ (b : Bool). if b then x else const_known (tags before_it) n) e
 
   pub defined_now : Keeps basics es ds before_it → IsOpen before_it id → AreMembersBelow (length before_it.forms) d.members → members_refusal before_it id d.members ≡ None →
-      (l : Laying) → IsLaid l (is_union (form_at before_it id)) (fields_at before_it d.members) d.members → d.extent ≡ structure_extent (is_union (form_at before_it id)) (fields_at before_it d.members) → d.places ≡ l.places → d.constant ≡ some_const (const_known (tags before_it)) (member_types (types before_it) d.members) →
+      (l : Laying) → IsLaid l (is_union (form_at before_it id)) (fields_at before_it d.members) d.members → d.extent ≡ structure_extent (is_union (form_at before_it id)) (fields_at before_it d.members) → d.places ≡ l.places → d.named ≡ l.named → d.constant ≡ some_const (const_known (tags before_it)) (member_types (types before_it) d.members) →
       IsDefinition (with before_it it) id d
-  defined_now k o m r l h x p s =
+  defined_now k o m r l h x p g s =
       let now = with before_it it in
       let ms = d.members in
       let objects = objects_of before_it id ms r in
       let f = fields_same before_it now ms (stays_completed k o) m objects in
       let w = h.within in
+      let ss = spots (is_union (form_at before_it id)) start (fields_at before_it ms) in
+      let y : d.named ≡ all_placed ms ss = g ∙ h.named in
       let a : d.extent.align ≡ l.align = ap (λ (e : Extent). e.align) x ∙ sym h.align in
       record {
         within = o.within;
@@ -143,11 +153,13 @@ module _ (basics : List TypeForm) (es : List (FormKey × Formed)) (ds : List (�
         seen = λ name.
             (let u = is_union (form_at before_it id) in
             ap (λ fs. option_map (member_seen (types before_it)) (places_of u fs ms name)) f ∙ placed_seen (types before_it) ms (spots u start (fields_at before_it ms)) name ∙ sym (member_now name));
+        named = ap (map (member_seen (types before_it))) y ∙ all_seen (types before_it) ms ss ∙ sym places_now;
+        named_below = subst (ArePlacesBelow (length before_it.forms)) (sym y) (placed_below (length before_it.forms) ms ss m);
         constant = const_now ∙ sym s;
       }
 
-  pub keeps_completed : Keeps basics es ds before_it → IsOpen before_it id → IsDefinition (with before_it it) id d → Keeps basics es (ds ++ (id, d) ∷ []) (table_of basics es (ds ++ (id, d) ∷ []))
-  keeps_completed k o x =
+  pub keeps_completed : Keeps basics es ds before_it → IsOpen before_it id → members_refusal before_it id d.members ≡ None → IsDefinition (with before_it it) id d → Keeps basics es (ds ++ (id, d) ∷ []) (table_of basics es (ds ++ (id, d) ∷ []))
+  keeps_completed k o r x =
       let s = stays_completed k o in
       let l : length (basics ++ forms_in es) ≡ 10 + length es = length-forms basics es k.basic in
       subst (λ (t : Table). Keeps basics es (ds ++ (id, d) ∷ []) t) (sym table_with)
@@ -161,6 +173,7 @@ module _ (basics : List TypeForm) (es : List (FormKey × Formed)) (ds : List (�
           | inl j ↦ definition_stays before_it (with before_it it) e.0 e.1 s (k.defined i e j)
           | inr j ↦ subst (λ (y : ℕ × Definition). IsDefinition (with before_it it) y.0 y.1) (sym j.1) x
         ];
+        complete = subst AreComplete (sym (tags_completed before_it it)) (ap (λ (e : Extent). is_some e.size) (unknown k o), objects_of before_it id d.members r, k.complete);
       })
 
   pub extends_completed : Keeps basics es ds before_it → IsOpen before_it id → Extends before_it (with before_it it)

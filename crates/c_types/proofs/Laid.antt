@@ -1,9 +1,10 @@
 -- Members of a structure or union that are laid one by one.
-use Rattle.std.proofs.Common.{◌≡◌, ℕ, ◌+◌, ◌-◌, ◌<◌, ◌≤◌, Bool, true, false, List, [], ◌∷◌, max, refl, sym, ap, ◌∙◌, subst, arith}
+use Rattle.std.proofs.Common.{◌≡◌, ℕ, ◌+◌, ◌-◌, ◌<◌, ◌≤◌, Bool, true, false, List, [], ◌∷◌, ◌++◌, max, refl, sym, ap, ◌∙◌, subst, arith}
 use Rattle.std.specs.Prelude.{◌≢◌, Some, None, Option, Result, Ok, Err, IfErr, nat_eq, nat_le, if◌then◌else◌}
 use Rattle.std.specs.Str.{bytes_eq}
 use Rattle.std.specs.Result.{IsErrAnd}
 use Rattle.std.proofs.Math.Nat.{mod-lt}
+use Rattle.std.proofs.lemmas.List.{append_assoc}
 use Rattle.std.proofs.lemmas.Nat.{div-add-mod'}
 use Rattle.std.proofs.lemmas.Bool.Decides.{nat_tests}
 use Rattle.c_types.specs.declared.type_form.Member.{Member}
@@ -14,7 +15,7 @@ use Rattle.c_types.specs.declared.extent.Extent.{Extent}
 use Rattle.c_types.specs.declared.room.Room.{Room}
 use Rattle.c_types.specs.Bounds.{IsBounded}
 use Rattle.c_types.specs.Layout.{Field, start, laid, spots, spot_in, next_room, round_up, field_align, greatest_align, greatest_nesting, structure_extent}
-use Rattle.c_types.specs.Table.{placed, place_at, places_of, is_above}
+use Rattle.c_types.specs.Table.{all_placed, listed, placed, place_at, places_of, is_above}
 use Rattle.c_types.specs.Keeps.{place_named}
 use Rattle.c_types.specs.Facts.{AreBounded, noted, or_place}
 
@@ -28,6 +29,7 @@ pub record IsLaying (l : Laying) (kind : Bool) (rest all : List Field) (to_come 
   pub nesting : max l.nesting (greatest_nesting rest) ≡ greatest_nesting all
   pub shallow : l.nesting ≤ 500
   pub places : (name : List ℕ) → name ≢ [] → or_place (place_named l.places name) (placed to_come (spots kind l.room rest) name) ≡ places_of kind all members name
+  pub named : l.named ++ all_placed to_come (spots kind l.room rest) ≡ all_placed members (spots kind start all)
   pub bounded : AreBounded rest
 
 align_some : (fs : List Field) → 1 ≤ greatest_align fs
@@ -67,8 +69,8 @@ all_grown kind r (f ∷ fs) b =
     omega arith
 
 -- none are laid
-pub none_laid : (l : Laying) (kind : Bool) (all : List Field) (members : List Member) → l.is_union ≡ kind → l.room ≡ start → l.align ≡ 1 → l.nesting ≡ 0 → ((name : List ℕ) → place_named l.places name ≡ None) → AreBounded all → IsLaying l kind all all members members
-none_laid l kind all members u r a n p b =
+pub none_laid : (l : Laying) (kind : Bool) (all : List Field) (members : List Member) → l.is_union ≡ kind → l.room ≡ start → l.align ≡ 1 → l.nesting ≡ 0 → ((name : List ℕ) → place_named l.places name ≡ None) → l.named ≡ [] → AreBounded all → IsLaying l kind all all members members
+none_laid l kind all members u r a n p d b =
     record {
       union = u;
       room = ap (λ (x : Room). laid kind x all) r;
@@ -78,6 +80,7 @@ none_laid l kind all members u r a n p b =
       nesting = omega (arith, n);
       shallow = omega (arith, n);
       places = λ name h. ap (λ o. or_place o (placed members (spots kind l.room all) name)) (p name) ∙ ap (λ (x : Room). placed members (spots kind x all) name) r;
+      named = ap (λ ps. ps ++ all_placed members (spots kind l.room all)) d ∙ ap (λ (x : Room). all_placed members (spots kind x all)) r;
       bounded = b;
     }
 
@@ -91,8 +94,9 @@ pub one_laid : (l new : Laying) (kind : Bool) (e : Extent) (rest all : List Fiel
     IsLaying l kind (record { extent = e; width = m.width } ∷ rest) all (m ∷ to_come) members →
     new.is_union ≡ l.is_union → new.room ≡ next_room l.is_union l.room e m.width → new.room.bytes ≤ 16777216 → new.align ≡ max l.align (field_align e m.width) → new.nesting ≡ max l.nesting e.nesting →
     ((name : List ℕ) → name ≢ [] → place_named new.places name ≡ noted m.name (place_at m (spot_in l.is_union l.room e m.width)) name (place_named l.places name)) →
+    new.named ≡ l.named ++ listed m.name (place_at m (spot_in l.is_union l.room e m.width)) →
     IsLaying new kind rest all to_come members
-one_laid l new kind e rest all m to_come members h u r b a n p =
+one_laid l new kind e rest all m to_come members h u r b a n p d =
     let s : new.room ≡ next_room kind l.room e m.width = r ∙ ap (λ k. next_room k l.room e m.width) h.union in
     let f = field_bounds e m.width h.bounded.0 in
     let w = h.within in
@@ -112,6 +116,14 @@ one_laid l new kind e rest all m to_come members h u r b a n p =
           ∙ ap (λ t. or_place (noted m.name (place_at m (spot_in t l.room e m.width)) name k) q) h.union
           ∙ first_place k (bytes_eq name m.name) (place_at m (spot_in kind l.room e m.width)) q
           ∙ h.places name g);
+      named =
+          (let q = all_placed to_come (spots kind (next_room kind l.room e m.width) rest) in
+          let f : Bool → List MemberPlace = λ k. listed m.name (place_at m (spot_in k l.room e m.width)) in
+          ap (λ ps. ps ++ all_placed to_come (spots kind new.room rest)) d
+          ∙ ap (λ (x : Room). (l.named ++ f l.is_union) ++ all_placed to_come (spots kind x rest)) s
+          ∙ ap (λ k. (l.named ++ f k) ++ q) h.union
+          ∙ append_assoc l.named (f kind) q
+          ∙ h.named);
       bounded = h.bounded.1;
     }
 

@@ -20,3 +20,4 @@ pub mod Placed
 pub mod Seen
 pub mod Sizes
 pub mod Stays
+pub mod Told

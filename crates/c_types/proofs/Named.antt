@@ -1,5 +1,5 @@
 -- The place of a member by its name.
-use Rattle.std.proofs.Common.{◌≡◌, ℕ, ◌+◌, ◌-◌, ◌<◌, ◌≤◌, Bool, true, false, List, [], ◌∷◌, ◌++◌, length, get_or, refl, sym, ap, ◌∙◌, subst, true≢false, arith}
+use Rattle.std.proofs.Common.{◌≡◌, ℕ, ◌+◌, ◌-◌, ◌<◌, ◌≤◌, Bool, true, false, List, [], ◌∷◌, ◌++◌, length, map, get_or, refl, sym, ap, ◌∙◌, subst, true≢false, arith}
 use Rattle.std.specs.Prelude.{◌≢◌, slice_get, Some, None, Option, nat_eq, nat_lt, if◌then◌else◌}
 use Rattle.std.specs.Option.{option_map}
 use Rattle.std.proofs.lemmas.Option.{slice_get-get_or}
@@ -12,12 +12,12 @@ use Rattle.c_types.specs.declared.form_key.FormKey.{FormKey}
 use Rattle.c_types.specs.declared.type_table.Formed.{Formed}
 use Rattle.c_types.specs.declared.definition.Definition.{Definition}
 use Rattle.c_types.specs.CType.{qualify}
-use Rattle.c_types.specs.Members.{member_in, member_of}
+use Rattle.c_types.specs.Members.{member_in, member_of, member_places, places_in}
 use Rattle.c_types.specs.Table.{Table, basic_forms, is_tagged, is_open_form, is_qualified, is_union, form_at, type_at, types, tags, formed, number_at, definition_of, member_seen, members_among, place_among, place_of_member, IsOver}
 use Rattle.c_types.specs.Keeps.{Keeps, IsDefinition, forms_in, completed_in, place_named}
 use Rattle.c_types.proofs.Insides.{before, behind, forms_in_at, basic_over, type_by_form, length-forms}
 use Rattle.c_types.proofs.Defined.{AreOpen, apart, number_test, open_tagged}
-use Rattle.c_types.proofs.Seen.{member_apart, member_formed}
+use Rattle.c_types.proofs.Seen.{member_apart, member_formed, places_apart, places_formed}
 
 first_entry : {i : ℕ} (es : List (FormKey × Formed)) → i < length es → FormKey × Formed
 first_entry [] l = absurd (omega arith)
@@ -118,4 +118,19 @@ seen_missing t id q name o w m v p =
   where
     by : (b : Bool) → is_open_form (form_at t id) ≡ b → (if b then member_in (tags t) (number_at t id) name else None) ≡ None
     by true h = member_apart (tags t) (number_at t id) name (apart t t.completed id o w (open_tagged (form_at t id) h) m)
+    by false h = refl
+
+-- the same of the places of those with names
+pub named_found : (t : Table) (id q : ℕ) (d : Definition) → IsDefinition t id d → IsOver id (form_at t id) → is_qualified (form_at t id) ≡ false → map (member_seen (types t)) d.named ≡ member_places (tags t) (qualify q (type_at t id))
+named_found t id q d x v p =
+    let e = type_by_form t id (form_at t id) (slice_get-get_or t.forms id form.Void x.within) v in
+    x.named ∙ sym (ap (λ z. member_places (tags t) (qualify q z)) e ∙ places_formed (tags t) (types t) (number_at t id) q (form_at t id) p ∙ ap (λ b. if b then places_in (tags t) (number_at t id) else []) x.form)
+
+pub named_missing : (t : Table) (id q : ℕ) → AreOpen t t.completed → id < length t.forms → members_among t.completed id ≡ None → IsOver id (form_at t id) → is_qualified (form_at t id) ≡ false → [] ≡ member_places (tags t) (qualify q (type_at t id))
+named_missing t id q o w m v p =
+    let e = type_by_form t id (form_at t id) (slice_get-get_or t.forms id form.Void w) v in
+    sym (ap (λ z. member_places (tags t) (qualify q z)) e ∙ places_formed (tags t) (types t) (number_at t id) q (form_at t id) p ∙ by (is_open_form (form_at t id)) refl)
+  where
+    by : (b : Bool) → is_open_form (form_at t id) ≡ b → (if b then places_in (tags t) (number_at t id) else []) ≡ []
+    by true h = places_apart (tags t) (number_at t id) (apart t t.completed id o w (open_tagged (form_at t id) h) m)
     by false h = refl

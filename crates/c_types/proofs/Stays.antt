@@ -1,5 +1,5 @@
 -- What a later table keeps of an earlier one, and so what is known of types and definitions.
-use Rattle.std.proofs.Common.{◌≡◌, ℕ, suc, ◌<◌, ◌≤◌, Bool, true, false, List, [], ◌∷◌, ◌++◌, length, refl, sym, ap, ◌∙◌, subst, true≢false, arith}
+use Rattle.std.proofs.Common.{◌≡◌, ℕ, suc, ◌<◌, ◌≤◌, Bool, true, false, List, [], ◌∷◌, ◌++◌, length, map, refl, sym, ap, ◌∙◌, subst, true≢false, arith}
 use Rattle.std.specs.Prelude.{slice_get, Some, is_some, nat_eq}
 use Rattle.std.specs.Option.{option_map}
 use Rattle.std.proofs.lemmas.List.{length-append, get_or_append_left, take-append-le}
@@ -7,14 +7,15 @@ use Rattle.std.proofs.lemmas.Bool.Decides.{nat_tests}
 use Rattle.c_types.specs.declared.type_form.TypeForm.{TypeForm}
 use Rattle.c_types.specs.declared.type_form.TypeForm.TheVariants as form
 use Rattle.c_types.specs.declared.type_form.Member.{Member}
+use Rattle.c_types.specs.declared.type_form.MemberPlace.{MemberPlace}
 use Rattle.c_types.specs.declared.extent.Extent.{Extent}
 use Rattle.c_types.specs.declared.type_table.Facts.{Facts}
 use Rattle.c_types.specs.declared.definition.Definition.{Definition}
 use Rattle.c_types.specs.CType.{CType, qualify, depth}
 use Rattle.c_types.specs.Layout.{known, extent_by, fields, no_object, start, spots}
-use Rattle.c_types.specs.Members.{member_in, named}
+use Rattle.c_types.specs.Members.{member_in, named, places_in}
 use Rattle.c_types.specs.Constness.{const_known}
-use Rattle.c_types.specs.Table.{Table, Completed, tags, tags_of, tag_of, form_at, type_at, type_in, types, number_at, fields_at, member_types, is_qualified, is_open_form, is_union, are_objects, member_seen, places_of, AreMembersBelow}
+use Rattle.c_types.specs.Table.{Table, Completed, tags, tags_of, tag_of, form_at, type_at, type_in, types, number_at, fields_at, member_types, is_qualified, is_open_form, is_union, are_objects, member_seen, places_of, AreMembersBelow, ArePlacesBelow}
 use Rattle.c_types.specs.Keeps.{IsFact, IsDefinition, IsSettled, completed_in}
 use Rattle.c_types.proofs.Growing.{type_stays}
 use Rattle.c_types.proofs.Known.{Stay, settled_extent, settled_stays, fields_stay, tags_push}
@@ -27,6 +28,7 @@ pub record Stays (old new : Table) : Type 0 where
   pub numbers : (j : ℕ) → j < length old.forms → number_at new j ≡ number_at old j
   pub constant : (n : ℕ) → is_some (known (tags old) n).size ≡ true → const_known (tags new) n ≡ const_known (tags old) n
   pub members : (n : ℕ) → is_some (known (tags old) n).size ≡ true → (name : List ℕ) → member_in (tags new) n name ≡ member_in (tags old) n name
+  pub places : (n : ℕ) → is_some (known (tags old) n).size ≡ true → places_in (tags new) n ≡ places_in (tags old) n
   pub known : Stay (known (tags old)) (known (tags new))
 
 pub fact_stays : (o n : Table) (id : ℕ) (x : Facts) → Stays o n → id < length o.forms → IsFact o id x → IsFact n id x
@@ -56,6 +58,14 @@ members_stay ts us n h (m ∷ ms) b = rw (h m.of b.0, members_stay ts us n h ms 
 members_more : (n m : ℕ) → n ≤ m → (ms : List Member) → AreMembersBelow n ms → AreMembersBelow m ms
 members_more n m l [] b = tt
 members_more n m l (x ∷ ms) b = (let h = b.0 in omega arith, members_more n m l ms b.1)
+
+places_stay : (ts us : List CType) (n : ℕ) → ((j : ℕ) → j < n → type_in us j ≡ type_in ts j) → (ps : List MemberPlace) → ArePlacesBelow n ps → map (member_seen us) ps ≡ map (member_seen ts) ps
+places_stay ts us n h [] b = refl
+places_stay ts us n h (p ∷ ps) b = rw (h p.of b.0, places_stay ts us n h ps b.1) refl
+
+places_more : (n m : ℕ) → n ≤ m → (ps : List MemberPlace) → ArePlacesBelow n ps → ArePlacesBelow m ps
+places_more n m l [] b = tt
+places_more n m l (p ∷ ps) b = (let h = b.0 in omega arith, places_more n m l ps b.1)
 
 -- the fields of members that are objects stay
 pub fields_same : (o n : Table) (ms : List Member) → Stays o n → AreMembersBelow (length o.forms) ms → are_objects (fields_at o ms) ≡ true → fields_at n ms ≡ fields_at o ms
@@ -92,6 +102,11 @@ definition_stays o n id d s x =
           ∙ seen_stays o n (is_union (form_at o id)) d.members name s x.members x.objects
           ∙ x.seen name
           ∙ sym (ap (λ k. member_in (tags n) k name) (s.numbers id x.within) ∙ s.members (number_at o id) c name);
+      named =
+          places_stay (types o) (types n) (length o.forms) s.means d.named x.named_below
+          ∙ x.named
+          ∙ sym (ap (places_in (tags n)) (s.numbers id x.within) ∙ s.places (number_at o id) c);
+      named_below = places_more (length o.forms) (length n.forms) s.longer d.named x.named_below;
       constant = ap (const_known (tags n)) (s.numbers id x.within) ∙ s.constant (number_at o id) c ∙ x.constant;
     }
 
@@ -127,6 +142,7 @@ module _ (o : Table) (f : TypeForm) where
         known = λ n i. ap (λ ts. known ts n) t;
         constant = λ n i. ap (λ ts. const_known ts n) t;
         members = λ n i name. ap (λ ts. member_in ts n name) t;
+        places = λ n i. ap (λ ts. places_in ts n) t;
       }
 
 -- one more definition
@@ -152,6 +168,7 @@ module _ (o : Table) (c : Completed) where
         known = λ n i. ap (λ ts. known ts n) tags_completed ∙ (rw (other n i) refl);
         constant = λ n i. ap (λ ts. const_known ts n) tags_completed ∙ (rw (other n i) refl);
         members = λ n i name. ap (λ ts. member_in ts n name) tags_completed ∙ (rw (other n i) refl);
+        places = λ n i. ap (λ ts. places_in ts n) tags_completed ∙ (rw (other n i) refl);
       }
     where
       -- what is complete has another number

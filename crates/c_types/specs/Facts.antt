@@ -15,8 +15,8 @@ use Rattle.c_types.specs.Bounds.{IsBounded}
 use Rattle.c_types.specs.CType.{CType, Plain, Array, Function, CTypes, NoType, And, kind_of, qualify, depth}
 use Rattle.c_types.specs.Compatible.{all_compatible, compatible, kind_compatible}
 use Rattle.c_types.specs.Composite.{composite}
-use Rattle.c_types.specs.Layout.{Field, start, laid, greatest_align, greatest_nesting, extent, extent_by, known, no_object}
-use Rattle.c_types.specs.Table.{Table, AreSomeBelow, formed, parameters_in, tagged, tags, types, types_in, type_at, form_at, is_qualified, is_open_form, places_of}
+use Rattle.c_types.specs.Layout.{Field, start, laid, spots, greatest_align, greatest_nesting, extent, extent_by, known, no_object}
+use Rattle.c_types.specs.Table.{Table, AreSomeBelow, formed, parameters_in, tagged, tags, types, types_in, type_at, form_at, is_qualified, is_open_form, all_placed, places_of}
 use Rattle.c_types.specs.Keeps.{IsSettled, is_formed, place_named}
 
 -- the type of a form that is added
@@ -53,6 +53,7 @@ pub record IsLaid (l : Laying) (kind : Bool) (fs : List Field) (ms : List Member
   pub nesting : l.nesting ≡ greatest_nesting fs
   pub shallow : l.nesting ≤ 500
   pub places : (name : List ℕ) → name ≢ [] → place_named l.places name ≡ places_of kind fs ms name
+  pub named : l.named ≡ all_placed ms (spots kind start fs)
 
 -- the extents of members' types are those of types in a table
 abbrev pub AreBounded : List Field → Type 0

@@ -1,5 +1,5 @@
 -- What a table of types keeps in its fields.
-use Rattle.std.specs.Prelude.{◌≡◌, ◌≢◌, ◌≤◌, ◌<◌, ℕ, ◌+◌, Bool, true, false, Option, Some, List, [], ◌∷◌, length, slice_get, is_some}
+use Rattle.std.specs.Prelude.{◌≡◌, ◌≢◌, ◌≤◌, ◌<◌, ℕ, ◌+◌, Bool, true, false, Option, Some, List, [], ◌∷◌, length, map, slice_get, is_some}
 use Rattle.std.specs.Str.{bytes_eq}
 use Rattle.indexmap.specs.IndexMap.{IndexMap, get_by}
 use Rattle.std.specs.Prelude.{Vec}
@@ -17,9 +17,10 @@ use Rattle.c_types.specs.Bounds.{IsBounded}
 use Rattle.c_types.specs.declared.extent.Extent.{Extent}
 use Rattle.c_types.specs.CType.{CType, Plain, Array, Structure, Union, qualify, depth}
 use Rattle.c_types.specs.Layout.{extent_by, known, no_object}
-use Rattle.c_types.specs.Members.{member_in}
+use Rattle.c_types.specs.Members.{member_in, places_in}
 use Rattle.c_types.specs.Constness.{const_known}
-use Rattle.c_types.specs.Table.{Table, Completed, basic_forms, type_at, types, form_at, number_at, tags, extent_at, fields_at, is_qualified, is_open_form, is_union, places_of, member_seen, IsOver, AreMembersBelow, are_objects}
+use Rattle.c_types.specs.Definitions.{AreComplete}
+use Rattle.c_types.specs.Table.{Table, Completed, basic_forms, type_at, types, form_at, number_at, tags, extent_at, fields_at, is_qualified, is_open_form, is_union, places_of, member_seen, IsOver, AreMembersBelow, ArePlacesBelow, are_objects}
 
 -- the form isn't that of a basic type
 abbrev pub is_formed : TypeForm → Bool
@@ -87,6 +88,8 @@ pub record IsDefinition (t : Table) (id : ℕ) (d : Definition) : Type 0 where
   pub bounded : IsBounded d.extent
   pub places : (name : List ℕ) → name ≢ [] → place_named d.places name ≡ places_of (is_union (form_at t id)) (fields_at t d.members) d.members name
   pub seen : (name : List ℕ) → option_map (member_seen (types t)) (places_of (is_union (form_at t id)) (fields_at t d.members) d.members name) ≡ member_in (tags t) (number_at t id) name
+  pub named : map (member_seen (types t)) d.named ≡ places_in (tags t) (number_at t id)
+  pub named_below : ArePlacesBelow (length t.forms) d.named
   pub constant : const_known (tags t) (number_at t id) ≡ d.constant
 
 pub record Keeps (basics : List TypeForm) (entries : List (FormKey × Formed)) (definitions : List (ℕ × Definition)) (t : Table) : Type 0 where
@@ -96,3 +99,4 @@ pub record Keeps (basics : List TypeForm) (entries : List (FormKey × Formed)) (
   pub over : (i : ℕ) (e : FormKey × Formed) → slice_get entries i ≡ Some e → IsOver (10 + i) e.1.form
   pub facts : (i : ℕ) (e : FormKey × Formed) → slice_get entries i ≡ Some e → IsFact t (10 + i) e.1.facts
   pub defined : (i : ℕ) (e : ℕ × Definition) → slice_get definitions i ≡ Some e → IsDefinition t e.0 e.1
+  pub complete : AreComplete (tags t)

@@ -6,6 +6,7 @@ pub mod Conversions
 pub mod Layout
 pub mod Table
 pub mod Readings
+pub mod Definitions
 pub mod Keeps
 pub mod Facts
 pub mod Members

@@ -1,5 +1,5 @@
--- The members of structures and unions by their names (C89 3.3.2.3), over types as trees.
-use Rattle.std.specs.Prelude.{ℕ, ◌==◌, Bool, false, ◌||◌, Option, Some, None, List, [], ◌∷◌, if◌then◌else◌}
+-- The members of structures and unions by their names (C89 3.3.2.3) and in their order, over types as trees.
+use Rattle.std.specs.Prelude.{ℕ, ◌==◌, Bool, true, false, ◌||◌, Option, Some, None, List, [], ◌∷◌, if◌then◌else◌}
 use Rattle.std.specs.Str.{bytes_eq}
 use Rattle.c_types.specs.CType.{CType, Plain, Array, Kind, Structure, Union, basic, Int}
 use Rattle.c_types.specs.declared.room.Spot.{Spot}
@@ -45,6 +45,35 @@ member_of tags (Array of n) name = None
 abbrev pub member_or_none : Option MemberAt → MemberAt
 member_or_none (Some m) = m
 member_or_none None = record { of = basic Int; offset = 0; first = 0; width = 0 }
+
+abbrev pub is_named : List ℕ → Bool
+is_named [] = false
+is_named (letter ∷ letters) = true
+
+-- the places of the members with names, in order: an initialiser passes over the others (C89 3.5.7)
+abbrev pub named_places : List MemberType → List Spot → List MemberAt
+named_places [] spots = []
+named_places (m ∷ ms) [] = []
+named_places (m ∷ ms) (spot ∷ spots) = if is_named m.name then member_at m spot ∷ named_places ms spots else named_places ms spots
+
+-- those of a definition, over what was complete before it
+abbrev pub tag_places : List Tag → Tag → List MemberAt
+tag_places older tag = named_places tag.members (spots tag.is_union start (fields (known older) tag.members))
+
+-- those of the structure or union of this number
+abbrev pub places_in : List Tag → ℕ → List MemberAt
+places_in [] number = []
+places_in (tag ∷ older) number = if number == tag.number then tag_places older tag else places_in older number
+
+abbrev pub kind_places : List Tag → Kind → List MemberAt
+kind_places tags (Structure n) = places_in tags n
+kind_places tags (Union n) = places_in tags n
+kind_places tags k = []
+
+-- those of a type, qualified or not; none of what is no structure or union, or is incomplete
+abbrev pub member_places : List Tag → CType → List MemberAt
+member_places tags (Plain q k) = kind_places tags k
+member_places tags (Array of n) = []
 
 abbrev pub is_defined : List Tag → ℕ → Bool
 is_defined [] number = false

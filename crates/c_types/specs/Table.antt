@@ -11,7 +11,7 @@ use Rattle.c_types.specs.CType.{Void, Char, SignedChar, UnsignedChar, Short, Uns
 use Rattle.c_types.specs.declared.extent.Extent.{Extent}
 use Rattle.c_types.specs.declared.room.Spot.{Spot}
 use Rattle.c_types.specs.Layout.{Field, MemberType, Tag, start, structure_extent, spots, fields, known, extent}
-use Rattle.c_types.specs.Members.{MemberAt}
+use Rattle.c_types.specs.Members.{MemberAt, is_named}
 
 -- which structure or union was completed, and with which members
 pub record Completed : Type 0 where
@@ -152,6 +152,11 @@ abbrev pub AreMembersBelow : ℕ → List Member → Type 0
 AreMembersBelow n [] = Unit {0}
 AreMembersBelow n (m ∷ ms) = (m.of < n) × AreMembersBelow n ms
 
+-- the types of members' places are below this one
+abbrev pub ArePlacesBelow : ℕ → List MemberPlace → Type 0
+ArePlacesBelow n [] = Unit {0}
+ArePlacesBelow n (p ∷ ps) = (p.of < n) × ArePlacesBelow n ps
+
 -- The form has this place from now on: it had it before, or it is new and goes last. A structure, union or
 -- enumeration is always new, and another form only where it has no place yet.
 abbrev pub IsNew : Table → TypeForm → Type 0
@@ -245,6 +250,16 @@ placed (m ∷ ms) (s ∷ spots) name =
 
 abbrev pub places_of : Bool → List Field → List Member → List ℕ → Option MemberPlace
 places_of union fs ms name = placed ms (spots union start fs) name
+
+-- the member's place, where the member has a name
+abbrev pub listed : List ℕ → MemberPlace → List MemberPlace
+listed name p = if is_named name then p ∷ [] else []
+
+-- the places of the members with names, in order
+abbrev pub all_placed : List Member → List Spot → List MemberPlace
+all_placed [] spots = []
+all_placed (m ∷ ms) [] = []
+all_placed (m ∷ ms) (s ∷ spots) = listed m.name (place_at m s) ++ all_placed ms spots
 
 abbrev pub place_among : Table → Bool → Option Completed → List ℕ → Option MemberPlace
 place_among t union None name = None

@@ -1,8 +1,8 @@
-ghost use Rattle.std.specs.Prelude.{◌≡◌, ◌≢◌, ◌<◌, ◌≤◌, ◌+◌, ℕ, List, [], max, None, Some, IfErr, IfOk, OnOk};
+ghost use Rattle.std.specs.Prelude.{◌≡◌, ◌≢◌, ◌<◌, ◌≤◌, ◌+◌, ◌++◌, ℕ, List, [], max, None, Some, IfErr, IfOk, OnOk};
 ghost use Rattle.c_types.specs.declared.type_fault.TypeFault.TheVariants as fault;
 ghost use Rattle.c_types.specs.Bounds.{IsBounded};
 ghost use Rattle.c_types.specs.Layout.{field_align, next_room, round_up, spot_in, start};
-ghost use Rattle.c_types.specs.Table.{excess, place_at};
+ghost use Rattle.c_types.specs.Table.{excess, listed, place_at};
 ghost use Rattle.c_types.specs.Facts.{noted};
 ghost use Rattle.c_types.specs.Keeps.{place_named};
 
@@ -11,7 +11,7 @@ use crate::room::{Room, round_up};
 use crate::type_fault::TypeFault;
 use crate::type_form::{Member, MemberPlace};
 use indexmap::IndexMap;
-use lcc_base::Memory;
+use lcc_base::{Items, Memory};
 use std::alloc::Global;
 
 /// The greatest size of a type, in bytes.
@@ -28,6 +28,8 @@ pub(crate) struct Laying {
     align: u32,
     nesting: u32,
     places: IndexMap<Vec<u8>, MemberPlace>,
+    /// The places of the members with names, in order.
+    named: Items<MemberPlace>,
 }
 
 /// The alignment that a member gives its structure: a bit-field is aligned as its unit.
@@ -59,6 +61,16 @@ fn note(
     Ok(())
 }
 
+/// Adds the member's place to those of the members with names, unless it has none.
+fn list(named: &mut Items<MemberPlace>, member: &Member, place: MemberPlace) -> Result<(), Memory>
+    ensures { OnOk result (named.new ≡ named.old ++ listed member.now.name place) }
+{
+    if !member.name.is_empty() {
+        named.push(place)?;
+    }
+    Ok(())
+}
+
 /// Why a type of this depth and extent is refused, if it is.
 pub(crate) fn excess(depth: u32, extent: Extent) -> Result<(), TypeFault>
     ensures ok { OnOk result (excess depth extent ≡ None) }
@@ -84,6 +96,7 @@ impl Laying {
         ensures align { result.align ≡ 1 }
         ensures nesting { result.nesting ≡ 0 }
         ensures places { (name : List ℕ) → place_named result.places name ≡ None }
+        ensures named { result.named ≡ [] }
     {
         Laying {
             is_union,
@@ -91,6 +104,7 @@ impl Laying {
             align: 1,
             nesting: 0,
             places: IndexMap::new(alloc),
+            named: Items::new(alloc),
         }
     }
 
@@ -110,6 +124,7 @@ impl Laying {
         ensures align { OnOk result (self.new.align ≡ max self.old.align (field_align extent member.now.width)) }
         ensures nesting { OnOk result (self.new.nesting ≡ max self.old.nesting extent.nesting) }
         ensures places { OnOk result ((name : List ℕ) → name ≢ [] → place_named self.new.places name ≡ noted member.now.name (place_at member.now (spot_in self.old.is_union self.old.room extent member.now.width)) name (place_named self.old.places name)) }
+        ensures named { OnOk result (self.new.named ≡ self.old.named ++ listed member.now.name (place_at member.now (spot_in self.old.is_union self.old.room extent member.now.width))) }
         ensures err { IfErr result (λ e. e ≢ fault.Memory → (e ≡ fault.TooLarge) × (16777216 < (next_room self.old.is_union self.old.room extent member.now.width).bytes)) }
     {
         let spot = self.room.spot_in(self.is_union, extent, member.width);
@@ -120,6 +135,7 @@ impl Laying {
             width: member.width.unwrap_or(0),
         };
         note(&mut self.places, alloc, member, place)?;
+        list(&mut self.named, member, place)?;
         self.room = self.room.next(self.is_union, extent, member.width);
         self.align = self.align.max(field_align(extent, member.width));
         self.nesting = self.nesting.max(extent.nesting);
@@ -145,11 +161,12 @@ impl Laying {
         }
     }
 
-    /// The places of the members by their names.
-    pub(crate) fn into_places(self) -> IndexMap<Vec<u8>, MemberPlace>
-        ensures { result ≡ self.places }
+    /// The places of the members by their names, and of those with names in order.
+    pub(crate) fn into_places(self) -> (IndexMap<Vec<u8>, MemberPlace>, Items<MemberPlace>)
+        ensures places { result.0 ≡ self.places }
+        ensures named { result.1 ≡ self.named }
     {
-        let Laying { places, .. } = self;
-        places
+        let Laying { places, named, .. } = self;
+        (places, named)
     }
 }

@@ -1,12 +1,13 @@
-ghost use Rattle.std.specs.Prelude.{◌≡◌, ◌≢◌, ◌<◌, ◌≤◌, ◌*◌, ◌↔◌, ◌++◌, ◌∷◌, ℕ, Bool, [], Some, None, length, true, false, not, slice_get, IsTrue, IfOk, IfErr, IfSome, IfNone, OnOk, OnErr, option_map};
+ghost use Rattle.std.specs.Prelude.{◌≡◌, ◌≢◌, ◌<◌, ◌≤◌, ◌*◌, ◌↔◌, ◌++◌, ◌∷◌, ℕ, Bool, [], Some, None, length, map, true, false, not, slice_get, IsTrue, IfOk, IfErr, IfSome, IfNone, OnOk, OnErr, option_map};
 ghost use Rattle.c_types.specs.declared.type_fault.TypeFault.TheVariants as fault;
 ghost use Rattle.c_types.specs.declared.type_form.TypeForm.TheVariants as form;
 ghost use Rattle.c_types.specs.declared.extent.Extent.{Extent as ExtentValue};
 ghost use Rattle.c_types.specs.Bounds.{IsBounded};
 ghost use Rattle.c_types.specs.CType.{qualify, depth, greatest_depth, parameters_depth};
 ghost use Rattle.c_types.specs.Layout.{extent_by, known, no_object, object_align, structure_extent};
-ghost use Rattle.c_types.specs.Members.{is_defined, member_of};
-ghost use Rattle.c_types.specs.Table.{Adds, AreBelow, AreMembersBelow, AreSomeBelow, Extends, Grows, IsOpen, IsOver, IsRefusal, are_objects, basic_forms, extent_at, fields_at, form_at, form_refusal, formed, is_above, is_open_form, is_qualified, is_tagged, is_union, list_or_none, member_seen, members_at, members_refusal, number_at, parameters_in, place_of_member, tag_of, tagged, tags, type_at, type_in, types, types_in, types_of};
+ghost use Rattle.c_types.specs.Members.{is_defined, member_of, member_places};
+ghost use Rattle.c_types.specs.Table.{Adds, AreBelow, AreMembersBelow, ArePlacesBelow, AreSomeBelow, Extends, Grows, IsOpen, IsOver, IsRefusal, are_objects, basic_forms, extent_at, fields_at, form_at, form_refusal, formed, is_above, is_open_form, is_qualified, is_tagged, is_union, list_or_none, member_seen, members_at, members_refusal, number_at, parameters_in, place_of_member, tag_of, tagged, tags, type_at, type_in, types, types_in, types_of};
+ghost use Rattle.c_types.specs.Definitions.{AreComplete, IsToldIn};
 ghost use Rattle.c_types.specs.Keeps.{IsFact, IsKeyOf, is_formed};
 ghost use Rattle.c_types.specs.Facts.{AreBounded, IsFactOf, IsLaid, IsWithin};
 
@@ -120,6 +121,25 @@ impl TypeTable {
     {
         // A field is named, so that what the table keeps is known here.
         let _basic = &self.basic;
+    }
+
+    /// Each structure or union is completed once, and its members are objects by the definitions before it.
+    pub fn members_are_complete(&self)
+        ensures { AreComplete (tags self.now) }
+    {
+        // A field is named, so that what the table keeps is known here.
+        let _basic = &self.basic;
+    }
+
+    /// What is told of the definition of a structure or union agrees with its type.
+    pub fn kind_is_told(&self, id: TypeId)
+        requires { id < length self.now.forms }
+        ensures { IsToldIn (tags self.now) (type_at self.now id) }
+    {
+        // A field is named, so that what the table keeps is known here.
+        let _basic = &self.basic;
+        let (base, _) = self.unqualified(id);
+        let _form = self.form(base);
     }
 
     /// What was added at the place, which isn't a basic type's.
@@ -250,6 +270,21 @@ impl TypeTable {
         match self.definitions.get(&base) {
             Some(definition) => definition.places.get(name).copied(),
             None => None,
+        }
+    }
+
+    /// The places of the members that have names, in order, as an initialiser fills them (C89 3.5.7).
+    /// A qualified structure or union has the members of its type. Empty for any other type, and
+    /// where there are no members yet.
+    pub fn named_members(&self, id: TypeId) -> &[MemberPlace]
+        requires { id < length self.now.forms }
+        ensures seen { map (member_seen (types self.now)) result.now ≡ member_places (tags self.now) (type_at self.now id) }
+        ensures within { ArePlacesBelow (length self.now.forms) result.now }
+    {
+        let (base, _) = self.unqualified(id);
+        match self.definitions.get(&base) {
+            Some(definition) => definition.named.as_slice(),
+            None => &[],
         }
     }
 
@@ -509,12 +544,13 @@ impl TypeTable {
         let laying = self.laying_of(id, list)?;
         let constant = self.some_const(list);
         let extent = laying.extent();
-        let places = laying.into_places();
+        let (places, named) = laying.into_places();
         self.definitions.insert(
             id,
             Definition {
                 members,
                 places,
+                named,
                 extent,
                 constant,
             },

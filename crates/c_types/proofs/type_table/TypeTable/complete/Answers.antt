@@ -14,10 +14,13 @@ use Rattle.c_types.proofs.type_table.TypeTable.complete.Goals.{Joined-branch-3}
 use Rattle.c_types.proofs.type_table.TypeTable.complete.Goals as goal
 
 abbrev definition : Joined-branch-3 → Definition
-definition c = record { members = c.args.members; places = c.into_places-places.result; extent = c.extent-extent.result; constant = c.some_const-constant.result }
+definition c = record { members = c.args.members; places = c.into_places-places.result.0; named = c.into_places-places.result.1; extent = c.extent-extent.result; constant = c.some_const-constant.result }
 
 abbrev open_before : (c : Joined-branch-3) → IsOpen (table_of c.self.inside.basic c.self.inside.formed.entries c.self.inside.definitions.entries) c.args.id
 open_before c = subst (λ (t : Table). IsOpen t c.args.id) (sym c.self.view_is) c.requires.id
+
+accepted : (c : Joined-branch-3) → members_refusal (table_of c.self.inside.basic c.self.inside.formed.entries c.self.inside.definitions.entries) c.args.id c.args.members ≡ None
+accepted c = subst (λ (t : Table). members_refusal t c.args.id c.args.members ≡ None) (sym c.self.view_is) (subst (λ (xs : List Member). members_refusal c.args.self.now c.args.id xs ≡ None) c.as_slice-list.ensures c.in_ok-laying.ensures.accepted)
 
 entries : (c : Joined-branch-3) → c.insert.new.self.entries ≡ c.self.inside.definitions.entries ++ (c.args.id, definition c) ∷ []
 entries c =
@@ -33,7 +36,6 @@ defined c =
     let ms = c.args.members in
     let l = c.in_ok-laying.laying in
     let m : AreMembersBelow (length T.forms) ms = subst (λ (t : Table). AreMembersBelow (length t.forms) ms) (sym c.self.view_is) c.requires.members in
-    let r : members_refusal T id ms ≡ None = subst (λ (t : Table). members_refusal t id ms ≡ None) (sym c.self.view_is) (subst (λ (xs : List Member). members_refusal c.args.self.now id xs ≡ None) c.as_slice-list.ensures c.in_ok-laying.ensures.accepted) in
     let h : IsLaid l (is_union (form_at T id)) (fields_at T ms) ms =
     subst (λ (t : Table). IsLaid l (is_union (form_at t id)) (fields_at t ms) ms) (sym c.self.view_is)
     (subst (λ (xs : List Member). IsLaid l (is_union (form_at c.args.self.now id)) (fields_at c.args.self.now xs) xs) c.as_slice-list.ensures c.in_ok-laying.ensures.ok) in
@@ -41,7 +43,7 @@ defined c =
     let s : c.some_const-constant.result ≡ some_const (const_known (tags T)) (member_types (types T) ms) =
     subst (λ (t : Table). c.some_const-constant.result ≡ some_const (const_known (tags t)) (member_types (types t) ms)) (sym c.self.view_is)
     (subst (λ (xs : List Member). c.some_const-constant.result ≡ some_const (const_known (tags c.args.self.now)) (member_types (types c.args.self.now) xs)) c.as_slice-list.ensures c.some_const-constant.ensures) in
-    defined_now i.basic i.formed.entries i.definitions.entries id (definition c) c.self.invariant (open_before c) m r l h x c.into_places-places.ensures s
+    defined_now i.basic i.formed.entries i.definitions.entries id (definition c) c.self.invariant (open_before c) m (accepted c) l h x c.into_places-places.ensures.places c.into_places-places.ensures.named s
 
 view : (c : Joined-branch-3) → table_of c.self.inside.basic c.self.inside.formed.entries c.insert.new.self.entries ≡ with c.args.self.now (record { place = c.args.id; members = c.args.members })
 view c =
@@ -53,7 +55,7 @@ pub invariant_of-self-2 : goal.invariant_of-self-2
 invariant_of-self-2 c =
     let i = c.self.inside in
     subst (λ (ds : List (ℕ × Definition)). Keeps i.basic i.formed.entries ds (table_of i.basic i.formed.entries ds)) (sym (entries c))
-    (keeps_completed i.basic i.formed.entries i.definitions.entries c.args.id (definition c) c.self.invariant (open_before c) (defined c))
+    (keeps_completed i.basic i.formed.entries i.definitions.entries c.args.id (definition c) c.self.invariant (open_before c) (accepted c) (defined c))
 
 pub returns-clause-accepted : goal.returns-clause-accepted
 returns-clause-accepted c = subst (λ (xs : List Member). members_refusal c.args.self.now c.args.id xs ≡ None) c.as_slice-list.ensures c.in_ok-laying.ensures.accepted

@@ -22,7 +22,7 @@ next t l kind ms i m e w g x h =
 pub loop-member-init : goal.loop-member-init
 loop-member-init c =
     let n = c.new-laying.ensures in
-    none_laid c.new-laying.result c.args.is_union (fields_at c.args.self.now c.args.members.now) c.args.members.now n.union n.room n.align n.nesting n.places c.requires.bounded
+    none_laid c.new-laying.result c.args.is_union (fields_at c.args.self.now c.args.members.now) c.args.members.now n.union n.room n.align n.nesting n.places n.named c.requires.bounded
 
 pub extent-requires : goal.extent-requires
 extent-requires c =
@@ -49,4 +49,4 @@ loop-member-preserved c =
     let m = c.member-item.result in
     let h = next t l c.args.is_union ms i m c.extent.result c.loop-member-test.true c.member-item.is c.extent.ensures.is c.loop-member.invariant in
     let n = c.in_ok-lay.ensures in
-    one_laid l c.lay.new.self c.args.is_union c.extent.result (fields_at t (drop (i + 1) ms)) (fields_at t ms) m (drop (i + 1) ms) ms h n.union n.room n.bytes n.align n.nesting n.places
+    one_laid l c.lay.new.self c.args.is_union c.extent.result (fields_at t (drop (i + 1) ms)) (fields_at t ms) m (drop (i + 1) ms) ms h n.union n.room n.bytes n.align n.nesting n.places n.named
