@@ -1,7 +1,7 @@
 -- Address constants: the address of an object with static storage or of a function, a string's first character, an integer
 -- constant as a pointer, and what is moved from there by integer constants and members, inside its object.
 -- Source: C89 3.4.
-use Rattle.std.specs.Prelude.{ℕ, zero, suc, ℤ, pos, negsuc, ◌+◌, ◌*◌, ◌+ℤ◌, ◌&&◌, ◌||◌, int_le, Bool, true, false, Option, Some, None, List, length, is_some, if◌then◌else◌}
+use Rattle.std.specs.Prelude.{ℕ, ℤ, pos, ◌+◌, ◌+ℤ◌, ◌*ℤ◌, neg_ℤ, ◌&&◌, ◌||◌, int_le, Bool, true, false, Option, Some, None, List, length, is_some, if◌then◌else◌}
 use Rattle.c_types.specs.CType.{CType}
 use Rattle.c_types.specs.Layout.{Tag, extent}
 use Rattle.c_meaning.specs.declared.core_expr.CoreKind.TheVariants as kind
@@ -12,55 +12,35 @@ use Rattle.c_meaning.specs.Types.{is_pointer, is_function}
 use Rattle.c_meaning.specs.Values.{CoreTree, CoreTrees}
 use Rattle.c_meaning.specs.Constants.{fold}
 
--- An offset in something: in an object of known size, or in one whose size isn't known yet. A function, and the nothing to which
--- an integer that was converted points, is without size: a pointer to it moves by 0 alone.
-pub data Within : Type 0 where
-  Sized : (size : ℕ) → Within
-  Unsized : Within
-
+-- An offset in something of a size. An object whose size isn't known yet has as many bytes as any object may have. A function,
+-- and the nothing to which an integer that was converted points, have none: a pointer to them moves by 0 alone.
 pub record Address : Type 0 where
-  pub within : Within
+  pub size : ℕ
   pub offset : ℤ
 
-abbrev pub within_size : Option ℕ → Within
-within_size (Some size) = Sized size
-within_size None = Unsized
+abbrev pub size_or_most : Option ℕ → ℕ
+size_or_most (Some size) = size
+size_or_most None = 16777216
 
-abbrev pub within_type : List Tag → CType → Within
-within_type tags of = if is_function of then Sized 0 else within_size (extent tags of).size
+abbrev pub bytes_of : List Tag → CType → ℕ
+bytes_of tags of = if is_function of then 0 else size_or_most (extent tags of).size
 
-abbrev pub start_of : Within → Option Address
-start_of w = Some (record { within = w; offset = pos 0 })
+abbrev pub start_of : ℕ → Option Address
+start_of size = Some (record { size = size; offset = pos 0 })
 
 -- a pointer moves from the first byte of its object to one past the last
-abbrev pub may_stand : Within → ℤ → Bool
-may_stand (Sized size) offset = int_le (pos 0) offset && int_le offset (pos size)
-may_stand Unsized offset = int_le (pos 0) offset
-
-abbrev pub moved_to : Within → ℤ → Option Address
-moved_to w offset = if may_stand w offset then Some (record { within = w; offset = offset }) else None
+abbrev pub moved_to : ℕ → ℤ → Option Address
+moved_to size offset = if int_le (pos 0) offset && int_le offset (pos size) then Some (record { size = size; offset = offset }) else None
 
 abbrev pub moved_by : Option Address → Option ℤ → Option Address
-moved_by (Some a) (Some by) = moved_to a.within (a.offset +ℤ by)
+moved_by (Some a) (Some by) = moved_to a.size (a.offset +ℤ by)
 moved_by a by = None
 
 -- so many elements of a size, forwards or backwards
-abbrev pub negative : ℕ → ℤ
-negative zero = pos 0
-negative (suc n) = negsuc n
-
-abbrev pub times : ℕ → ℤ → ℤ
-times size (pos n) = pos (size * n)
-times size (negsuc n) = negative (size * (n + 1))
-
-abbrev pub opposite : ℤ → ℤ
-opposite (pos n) = negative n
-opposite (negsuc n) = pos (n + 1)
-
 abbrev pub distance : ℕ → Bool → Option ℤ → Option ℤ
 distance size back None = None
-distance size true (Some n) = Some (opposite (times size n))
-distance size false (Some n) = Some (times size n)
+distance size true (Some n) = Some (neg_ℤ (pos size *ℤ n))
+distance size false (Some n) = Some (pos size *ℤ n)
 
 abbrev pub to_pointer : Conversion → Option Address → Option Address
 to_pointer to.Pointer a = a
@@ -68,7 +48,7 @@ to_pointer c a = None
 
 abbrev pub or_nothing : Option Address → Option ℤ → Option Address
 or_nothing (Some a) n = Some a
-or_nothing None (Some n) = start_of (Sized 0)
+or_nothing None (Some n) = start_of 0
 or_nothing None None = None
 
 abbrev pub first_is_pointer : CoreTrees → Bool
@@ -86,8 +66,8 @@ second_constant (Cores c cs) = first_constant cs
 abbrev mutual
   -- where a place begins, if that is constant
   pub place_address : List Tag → CoreTree → Option Address
-  place_address tags (Core (kind.Symbol id) of line kids) = start_of (within_type tags of)
-  place_address tags (Core (kind.Literal bytes) of line kids) = start_of (Sized (length bytes + 1))
+  place_address tags (Core (kind.Symbol id) of line kids) = start_of (bytes_of tags of)
+  place_address tags (Core (kind.Literal bytes) of line kids) = start_of (length bytes + 1)
   place_address tags (Core kind.Pointed of line kids) = first_pointer tags kids
   place_address tags (Core (kind.Member offset first width) of line kids) = moved_by (first_place tags kids) (Some (pos offset))
   place_address tags (Core what of line kids) = None

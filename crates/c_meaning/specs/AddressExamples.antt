@@ -17,7 +17,7 @@ use Rattle.c_meaning.specs.Constraints.{fault_at}
 use Rattle.c_meaning.specs.Typing.{Outcome, Fine, Bad, typed}
 use Rattle.c_meaning.specs.Samples.{sample, int, struct_s}
 use Rattle.c_meaning.specs.Linkage.{with_name}
-use Rattle.c_meaning.specs.AddressConstants.{Address, Sized, Unsized, pointer_address}
+use Rattle.c_meaning.specs.AddressConstants.{Address, pointer_address}
 
 -- ---- addresses in the function, behind `extern struct s whole; extern int row[], *to;`
 
@@ -39,7 +39,7 @@ address e = address_in (typed here e)
 
 -- so far in an object of a size
 abbrev at : ℕ → ℕ → Option Address
-at size offset = Some (record { within = Sized size; offset = pos offset })
+at size offset = Some (record { size = size; offset = pos offset })
 
 -- ---- expressions
 
@@ -196,7 +196,7 @@ at_another_type = refl
 -- ---- arrays of unknown size
 
 -- row + 5
-in_an_array_of_unknown_size : address (sum row (number 5)) ≡ Some (record { within = Unsized; offset = pos 20 })
+in_an_array_of_unknown_size : address (sum row (number 5)) ≡ at 16777216 20
 unfolding fold fault_at
 in_an_array_of_unknown_size = refl
 

@@ -7,8 +7,8 @@ use Rattle.c_ast.specs.Trees.{ExprTree, Literal, Enclosed, ByExpr, InitialiserTr
 use Rattle.c_meaning.specs.declared.core_expr.CoreKind.{CoreKind}
 use Rattle.c_meaning.specs.declared.core_expr.CoreKind.TheVariants as kind
 use Rattle.c_types.specs.CType.{Char, SignedChar, UnsignedChar, CType, Plain, Array, Kind, Simple, Structure, Union, basic}
-use Rattle.c_types.specs.Layout.{MemberType, Tag, size_or_zero, extent, spots, fields, known, start}
-use Rattle.c_types.specs.Members.{MemberAt, member_at}
+use Rattle.c_types.specs.Layout.{Tag, size_or_zero, extent}
+use Rattle.c_types.specs.Members.{MemberAt, tag_places}
 use Rattle.c_meaning.specs.CoreTrees.{Core, what_of, type_of, line_of, none}
 use Rattle.c_meaning.specs.StmtTrees.{FilledOf}
 use Rattle.c_meaning.specs.Types.{is_scalar, is_record, alike}
@@ -31,19 +31,8 @@ element tags of begin index = place_of of (begin + index * size_or_zero (extent 
 -- ---- the parts of a type
 
 -- members without names have no initialiser; of a union only the first one with a name has
-abbrev pub is_named : List ℕ → Bool
-is_named [] = false
-is_named (b ∷ bs) = true
-
 abbrev pub moved_to : ℕ → MemberAt → MemberAt
 moved_to offset m = record { of = m.of; offset = offset + m.offset; first = m.first; width = m.width }
-
--- each at its spot
-abbrev pub members_at : {S : Type 0} → (MemberType → S → MemberAt) → ℕ → List MemberType → List S → List MemberAt
-members_at at offset [] spots = []
-members_at at offset (m ∷ ms) [] = []
-members_at at offset (m ∷ ms) (spot ∷ spots) =
-    if is_named m.name then moved_to offset (at m spot) ∷ members_at at offset ms spots else members_at at offset ms spots
 
 abbrev pub first_only : {T : Type 0} → Bool → List T → List T
 first_only true (x ∷ xs) = x ∷ []
@@ -51,7 +40,7 @@ first_only only xs = xs
 
 -- the members of a definition that are initialised, in an object at the offset
 abbrev pub members_of : List Tag → Tag → ℕ → List MemberAt
-members_of older tag offset = first_only tag.is_union (members_at member_at offset tag.members (spots tag.is_union start (fields (known older) tag.members)))
+members_of older tag offset = first_only tag.is_union (map (moved_to offset) (tag_places older tag))
 
 -- those of the structure or union of this number
 abbrev pub members_in : List Tag → ℕ → ℕ → List MemberAt
