@@ -32,11 +32,8 @@ mod TypeNodes
 mod WalkDeclarators
 mod WalkExprs
 mod WalkFields
-mod WalkLists
 mod WalkLoops
 mod WalkParts
 mod WalkStays
 mod WalkTypes
 mod WalkViews
-mod Walking
-mod SymbolsStay

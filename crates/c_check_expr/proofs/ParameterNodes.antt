@@ -24,7 +24,7 @@ use Rattle.c_check_expr.specs.ParameterNode.{parameter_at}
 use Rattle.c_check_expr.specs.StepFaults.{IsFault, is_deep, parameter_broken}
 use Rattle.c_check_expr.proofs.DeclaratorNodes.{fine_at}
 use Rattle.c_check_expr.proofs.NodeLimits.{IsSmall}
-use Rattle.c_check_expr.proofs.SymbolsStay.{state_stays, symbols_in_later}
+use Rattle.c_check_expr.specs.SymbolsStay.{state_stays, symbols_in_later}
 
 -- a function becomes a pointer to it
 pub function_adjusted : (t : CType) → is_function t ≡ true → adjusted t ≡ pointer_to t

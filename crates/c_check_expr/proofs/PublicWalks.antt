@@ -21,7 +21,7 @@ use Rattle.c_check_expr.specs.Known.{state_of}
 use Rattle.c_check_expr.specs.PartsSeen.{shaped_seen, specified_seen}
 use Rattle.c_check_expr.specs.TypedIn.{declared_in, shape_in, specifiers_in}
 use Rattle.c_check_expr.specs.Walks.{IsBelow, IsShapeIn, IsSpecifiedIn, Walks}
-use Rattle.c_check_expr.proofs.Walking.{both_go, first_stops, second_stops, walk_none}
+use Rattle.c_check_expr.specs.Walking.{both_go, first_stops, second_stops, walk_none}
 
 pub relates : {V T : Type 0} (view : Table → V → T) (o : Outcome T) (types : State → T → Type 0) (u : Scoping) (b : Table) (r : Result V CheckFault) → IsTyping o types → IfOk r (λ v. o ≡ Fine (state_of u b) (view b v)) → IfOk r (λ v. types (state_of u b) (view b v))
 relates view o types u b (Ok v) h k = (h (state_of u b) (view b v)).1 k

@@ -25,7 +25,7 @@ use Rattle.c_values.specs.declared.check_fault.CheckFault.TheVariants.{Constrain
 use Rattle.c_check_expr.specs.AtNode.{Tells}
 use Rattle.c_check_expr.specs.Completed.{IsPassed, IsRecordAt, limit_of, record_limit, record_tags}
 use Rattle.c_check_expr.specs.Known.{AreSymbolsIn, state_of}
-use Rattle.c_check_expr.proofs.SymbolsStay.{symbols_stay}
+use Rattle.c_check_expr.specs.SymbolsStay.{symbols_stay}
 use Rattle.c_check_expr.proofs.TypeNodes.{node_breaks, node_fine, node_passes}
 
 -- ---- places of structures and unions

@@ -10,7 +10,7 @@ use Rattle.c_meaning.specs.State.{counted}
 use Rattle.c_check_expr.specs.Keeps.{Keeps}
 use Rattle.c_check_expr.specs.Known.{AreSymbolsIn, state_of}
 use Rattle.c_check_expr.proofs.KnownSymbols.{tagged-append}
-use Rattle.c_check_expr.proofs.SymbolsStay.{symbols_in_later, symbols_stay}
+use Rattle.c_check_expr.specs.SymbolsStay.{symbols_in_later, symbols_stay}
 
 length-tags_of : (t : Table) (cs : List Completed) → length (tags_of t cs) ≡ length cs
 length-tags_of t [] = refl

@@ -40,8 +40,9 @@ use Rattle.c_check_expr.specs.TypedIn.{core_in, declarator_in, maybe_expr_in, pa
 use Rattle.c_check_expr.specs.Walks.{IsDeclaredIn, IsParameterIn, IsShapeIn, IsSpecifiedIn, Walks}
 use Rattle.c_check_expr.proofs.SeenTypes.{declarator_parts, parameter_parts, suffix_parts}
 use Rattle.c_values.specs.Stays.{extends_itself}
-use Rattle.c_check_expr.proofs.WalkStays.{keeps_grown, steps_append, steps_in_append, steps_later, steps_stay}
-use Rattle.c_check_expr.proofs.Walking.{both_go, first_stops, second_stops, walk_none, walk_then}
+use Rattle.c_check_expr.specs.Kept.{keeps_grown}
+use Rattle.c_check_expr.proofs.WalkStays.{steps_append, steps_in_append, steps_later, steps_stay}
+use Rattle.c_check_expr.specs.Walking.{both_go, first_stops, second_stops, walk_none, walk_then}
 
 -- ---- declarators
 

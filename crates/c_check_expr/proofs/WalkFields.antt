@@ -33,9 +33,9 @@ use Rattle.c_check_expr.specs.TypedIn.{enumerator_in, field_in, maybe_expr_in, p
 use Rattle.c_check_expr.specs.Walks.{IsAnyNumber, IsShapeIn, Walks, members, next_number, numbered, with_field}
 use Rattle.c_check_expr.proofs.SeenTypes.{enumerator_parts, field_parts}
 use Rattle.c_values.specs.Stays.{extends_itself}
-use Rattle.c_check_expr.proofs.WalkLists.{then_same, then_then}
+use Rattle.c_check_expr.specs.WalkLists.{then_same, then_then}
 use Rattle.c_check_expr.proofs.WalkStays.{members_later, members_stay}
-use Rattle.c_check_expr.proofs.Walking.{both_go, first_stops, passed, second_stops, tells_first, walk_as, walk_then}
+use Rattle.c_check_expr.specs.Walking.{both_go, first_stops, passed, second_stops, tells_first, walk_as, walk_then}
 
 -- ---- members
 

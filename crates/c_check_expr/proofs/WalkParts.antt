@@ -31,8 +31,9 @@ use Rattle.c_check_expr.specs.Seen.{field_seen, member_seen, specifier_form_seen
 use Rattle.c_check_expr.specs.TypedIn.{enumerators_in, fields_in, member_in, members_in, part_in, specifiers_in}
 use Rattle.c_check_expr.specs.Walks.{IsAnyNumber, IsSpecifiedIn, Walks, members, next_number}
 use Rattle.c_check_expr.proofs.SeenTypes.{member_parts, specifier_parts}
-use Rattle.c_check_expr.proofs.WalkStays.{keeps_on, members_stay}
-use Rattle.c_check_expr.proofs.Walking.{first_stops, passed, tells_first, walk_none, walk_then}
+use Rattle.c_check_expr.specs.Kept.{keeps_on}
+use Rattle.c_check_expr.proofs.WalkStays.{members_stay}
+use Rattle.c_check_expr.specs.Walking.{first_stops, passed, tells_first, walk_none, walk_then}
 
 -- ---- specifiers
 

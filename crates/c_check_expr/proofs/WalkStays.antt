@@ -1,4 +1,4 @@
--- What a walk keeps: the scopes around, the table, and what was seen over an earlier one.
+-- What a walk has seen over an earlier table is seen over the later one.
 use Rattle.std.proofs.Common.{◌≡◌, ℕ, ◌<◌, Option, Some, None, List, [], ◌∷◌, ◌++◌, length, map, refl, ◌∙◌, arith}
 use Rattle.c_symbols.specs.Scoping.{Scoping}
 use Rattle.c_types.specs.declared.type_form.Member.{Member}
@@ -13,21 +13,7 @@ use Rattle.c_check_expr.specs.Keeps.{Keeps}
 use Rattle.c_check_expr.specs.Known.{AreSymbolsIn}
 use Rattle.c_check_expr.specs.PartsSeen.{AreParametersIn, ArePartsIn, AreStepsIn, IsPartIn, IsSizeIn, IsStepIn, parameter_seen, parameters_seen, part_seen, parts_seen, size_seen, step_seen, steps_seen}
 use Rattle.c_values.specs.Stays.{extends_itself, extends_on, in_more, longer, seen_stays}
-use Rattle.c_check_expr.proofs.SymbolsStay.{symbols_in_later}
-
--- ---- what is kept
-
-pub keeps_itself : (s : Scoping) (t : Table) → AreSymbolsIn (length t.forms) s.symbols → Keeps s t s t
-keeps_itself s t i = record { outer = refl; extends = extends_itself t; symbols = i }
-
-pub keeps_on : (r s u : Scoping) (a b c : Table) → Keeps r a s b → Keeps s b u c → Keeps r a u c
-keeps_on r s u a b c h k = record { outer = k.outer ∙ h.outer; extends = extends_on a b c h.extends k.extends; symbols = k.symbols }
-
-pub keeps_grown : (s : Scoping) (a b : Table) → AreSymbolsIn (length a.forms) s.symbols → Grows a b → Keeps s a s b
-keeps_grown s a b i g = record { outer = refl; extends = g.extends; symbols = symbols_in_later a b g.extends s.symbols i }
-
-pub below_later : (a b : Table) → Extends a b → (id : ℕ) → id < length a.forms → id < length b.forms
-below_later a b h id l = let n = longer a b h in omega arith
+use Rattle.c_check_expr.specs.Kept.{below_later}
 
 -- ---- expressions in a list
 

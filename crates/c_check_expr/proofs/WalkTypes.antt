@@ -28,9 +28,9 @@ use Rattle.c_check_expr.specs.Seen.{maybe_declarator_seen, specifier_seen, speci
 use Rattle.c_check_expr.specs.TypedIn.{declarator_in, expr_in, maybe_expr_in, name_in, parts_in, shape_in, specifiers_in}
 use Rattle.c_check_expr.specs.Walks.{IsBelow, IsDeclaredIn, IsShapeIn, IsSpecifiedIn, Walks, core}
 use Rattle.c_check_expr.proofs.SeenTypes.{specifiers_parts, type_name_parts}
-use Rattle.c_check_expr.proofs.SymbolsStay.{state_stays}
-use Rattle.c_check_expr.proofs.WalkStays.{keeps_grown}
-use Rattle.c_check_expr.proofs.Walking.{both_go, first_stops, second_stops, walk_none, walk_then}
+use Rattle.c_check_expr.specs.SymbolsStay.{state_stays}
+use Rattle.c_check_expr.specs.Kept.{keeps_grown}
+use Rattle.c_check_expr.specs.Walking.{both_go, first_stops, second_stops, walk_none, walk_then}
 
 -- ---- a node that changes nothing of what is known, whatever else is
 

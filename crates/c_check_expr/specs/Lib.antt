@@ -18,3 +18,7 @@ pub mod StepFaults
 pub mod Seen
 pub mod TypedIn
 pub mod Walks
+pub mod SymbolsStay
+pub mod Kept
+pub mod Walking
+pub mod WalkLists

@@ -77,7 +77,7 @@ pub(crate) fn expression(
 }
 
 /// A character constant.
-#[tactic(auto, using(crate::proofs::Walking::signed_rules))]
+#[tactic(auto, using(crate::specs::Walking::signed_rules))]
 fn character(
     alloc: Global,
     types: &TypeTable,

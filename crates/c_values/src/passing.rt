@@ -13,7 +13,12 @@ use lcc_base::{Items, Memory};
 use std::alloc::Global;
 
 /// A value passed to a parameter of the type. A structure is passed as it is.
-fn passed_to(alloc: Global, types: &TypeTable, to: TypeId, v: CoreExpr) -> Result<CoreExpr, Memory>
+pub fn passed_to(
+    alloc: Global,
+    types: &TypeTable,
+    to: TypeId,
+    v: CoreExpr,
+) -> Result<CoreExpr, Memory>
     requires to { to < length types.now.forms }
     requires v { IsIn (length types.now.forms) v }
     ensures means { IfOk result (λ c. seen (type_at types.now) c ≡ as_parameter (type_at types.now to) (seen (type_at types.now) v)) }

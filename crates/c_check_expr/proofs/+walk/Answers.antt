@@ -21,9 +21,10 @@ use Rattle.c_check_expr.proofs.SeenTypes.{core_declared, core_omitted, core_pare
 use Rattle.c_check_expr.proofs.WalkDeclarators.{array_goes, array_stops, core_as, core_goes, core_inner, declarator_goes, declarator_stops, declarator_stops_second, parameter_goes, parameter_none, parameter_shape_goes, parameter_shape_stops, parameter_stops, parameter_stops_second, prototype_line, suffix_as, suffix_plain}
 use Rattle.c_check_expr.proofs.WalkLoops.{enumerators_end, enumerators_on, enumerators_start, enumerators_stop, fields_end, fields_on, fields_start, fields_stop, members_end, members_on, members_start, members_stop, exprs_end, exprs_on, exprs_start, exprs_stop, parameters_end, parameters_on, parameters_start, parameters_stop, parts_end, parts_on, parts_start, parts_stop, suffixes_end, suffixes_on, suffixes_start, suffixes_stop}
 use Rattle.c_check_expr.proofs.WalkParts.{enumeration_stops, line_goes, line_stops, named_plain, part_as, part_plain, record_goes, record_stops, record_stops_behind, whole_goes, whole_stops, without_comma, enumeration_goes, enumeration_stops_behind}
-use Rattle.c_check_expr.proofs.WalkStays.{below_later, keeps_itself, keeps_on, members_later}
+use Rattle.c_check_expr.specs.Kept.{below_later, keeps_itself, keeps_on}
+use Rattle.c_check_expr.proofs.WalkStays.{members_later}
 use Rattle.c_check_expr.proofs.WalkFields.{enumerator_goes, enumerator_stops, enumerator_stops_behind, field_goes, field_stops, field_stops_node, field_stops_second, prototype_goes, prototype_stops}
-use Rattle.c_check_expr.proofs.Walking.{memory_stops}
+use Rattle.c_check_expr.specs.Walking.{memory_stops}
 use Rattle.c_check_expr.proofs.WalkTypes.{maybe_goes, maybe_none, maybe_stops, name_goes as type_name_goes, name_stops, name_stops_second, shape_goes, shape_none, shape_stops, specifiers_go, specifiers_stop}
 use Rattle.c_check_expr.proofs.+walk.Goals as goal
 

@@ -13,7 +13,7 @@ use Rattle.c_check_expr.specs.PartsSeen.{steps_seen}
 use Rattle.c_check_expr.specs.StepFaults.{IsFault, steps_fault}
 use Rattle.c_check_expr.proofs.DeclaratorNodes.{fine_at, free_fault, taken_fault, told_at}
 use Rattle.c_check_expr.proofs.Handed.{handed_on}
-use Rattle.c_check_expr.proofs.SymbolsStay.{state_stays}
+use Rattle.c_check_expr.specs.SymbolsStay.{state_stays}
 use Rattle.c_check_expr.proofs.declarators.parameter_shape.Goals as goal
 
 pub returns-then-is_taken-clause-err : goal.returns-then-is_taken-clause-err

@@ -12,7 +12,7 @@ use Rattle.c_check_expr.specs.Redeclared.{IsRedeclared}
 use Rattle.c_check_expr.specs.KnownLaws.{symbols_in-append}
 use Rattle.c_check_expr.proofs.KnownSymbols.{state-declare}
 use Rattle.c_check_expr.proofs.LinkedNames.{called_fine, called_state, redeclared_told, symbol_known}
-use Rattle.c_check_expr.proofs.SymbolsStay.{state_stays, symbols_in_later}
+use Rattle.c_check_expr.specs.SymbolsStay.{state_stays, symbols_in_later}
 use Rattle.c_check_expr.proofs.names.new_function.Goals as goal
 
 pub returns-in_err-of-clause-symbols : goal.returns-in_err-of-clause-symbols

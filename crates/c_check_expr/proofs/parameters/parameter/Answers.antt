@@ -11,7 +11,7 @@ use Rattle.c_check_expr.specs.ParameterNode.{parameter_at}
 use Rattle.c_check_expr.proofs.DeclaratorNodes.{told_at}
 use Rattle.c_check_expr.proofs.Handed.{handed_on}
 use Rattle.c_check_expr.proofs.ParameterNodes.{broken_parameter, deep_parameter, fine_parameter, parameter_becomes, same_kept}
-use Rattle.c_check_expr.proofs.SymbolsStay.{symbols_in_later}
+use Rattle.c_check_expr.specs.SymbolsStay.{symbols_in_later}
 use Rattle.c_check_expr.proofs.parameters.parameter.Goals as goal
 
 pub returns-in-Some-clause-err : goal.returns-in-Some-clause-err

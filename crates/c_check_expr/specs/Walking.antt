@@ -14,8 +14,8 @@ use Rattle.c_check_expr.specs.AtNode.{Becomes, IsRefused, Tells}
 use Rattle.c_check_expr.specs.Keeps.{Keeps}
 use Rattle.c_check_expr.specs.Known.{AreSymbolsIn, state_of}
 use Rattle.c_check_expr.specs.Walks.{Walks, core}
-use Rattle.c_check_expr.proofs.SymbolsStay.{state_stays}
-use Rattle.c_check_expr.proofs.WalkStays.{keeps_grown, keeps_itself, keeps_on}
+use Rattle.c_check_expr.specs.SymbolsStay.{state_stays}
+use Rattle.c_check_expr.specs.Kept.{keeps_grown, keeps_itself, keeps_on}
 
 pub ruleset signed_rules = (to_z-of_z)
 

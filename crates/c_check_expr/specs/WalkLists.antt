@@ -10,8 +10,8 @@ use Rattle.c_values.specs.declared.check_fault.CheckFault.{CheckFault}
 use Rattle.c_check_expr.specs.Keeps.{Keeps}
 use Rattle.c_check_expr.specs.Known.{AreSymbolsIn, state_of}
 use Rattle.c_check_expr.specs.Walks.{Walks}
-use Rattle.c_check_expr.proofs.WalkStays.{keeps_itself, keeps_on}
-use Rattle.c_check_expr.proofs.Walking.{tells_first, tells_same, walk_stop}
+use Rattle.c_check_expr.specs.Kept.{keeps_itself, keeps_on}
+use Rattle.c_check_expr.specs.Walking.{tells_first, tells_same, walk_stop}
 
 -- ---- outcomes
 
