@@ -18,7 +18,7 @@ pub(crate) struct Declared<'s> {
 }
 
 /// A parser of a text in which no name is a typedef name.
-fn parser_of<'s>(alloc: Global, text: &'s [u8]) -> Option<Parser<'s>> {
+pub(crate) fn parser_of<'s>(alloc: Global, text: &'s [u8]) -> Option<Parser<'s>> {
     if text.len() > 16_777_216 {
         return None;
     }

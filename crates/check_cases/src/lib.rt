@@ -11,6 +11,8 @@ mod constraints;
 #[cfg(test)]
 mod folding;
 #[cfg(test)]
+mod initialisers;
+#[cfg(test)]
 mod limits;
 #[cfg(test)]
 mod types;

@@ -1,0 +1,13 @@
+pub mod Addresses
+pub mod Waiting
+pub mod Storing
+pub mod StoresStay
+pub mod Fitting
+pub mod FilledPlaces
+pub mod Seen
+pub mod Listed
+pub mod Opening
+pub mod Wholes
+pub mod Objects
+pub mod Members
+pub mod Entering
