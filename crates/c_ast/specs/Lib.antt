@@ -24,3 +24,7 @@ pub mod Printed
 pub mod TreeTexts
 pub mod ValueTexts
 pub mod UnitValueTexts
+pub mod Seen
+pub mod SeenTypes
+pub mod SeenExprs
+pub mod SeenUnits

@@ -19,8 +19,6 @@ mod PublicWalks
 mod Reached
 mod RecordNodes
 mod RowTypes
-mod SeenExprs
-mod SeenTypes
 mod SpecifierLists
 mod StepTests
 mod StepTypes

@@ -11,6 +11,8 @@ use Rattle.c_ast.specs.declared.expr.SuffixForm.{SuffixForm}
 use Rattle.c_ast.specs.Trees.{ADeclarator, CoreTree as CoreSyntax, DeclaratorTree, MaybeDeclarator, MaybeExpr, NoDeclarator, SuffixTree, ParameterTrees}
 use Rattle.c_ast.specs.Trees as tree
 use Rattle.c_ast.specs.Views.{suffixes_of}
+use Rattle.c_ast.specs.Seen.{core_seen, declarator_seen, maybe_declarator_seen, parameter_seen as parameter_tree, specifiers_seen, suffix_form_seen, suffix_seen}
+use Rattle.c_ast.specs.SeenTypes.{declarator_parts, parameter_parts, suffix_parts}
 use Rattle.c_symbols.specs.Scoping.{Scoping}
 use Rattle.c_types.specs.CType.{CType}
 use Rattle.c_types.specs.Table.{Grows, Table, type_at}
@@ -35,10 +37,8 @@ use Rattle.c_check_expr.specs.Keeps.{Keeps}
 use Rattle.c_check_expr.specs.Known.{AreSymbolsIn, state_of}
 use Rattle.c_check_expr.specs.ParameterNode.{parameter_at}
 use Rattle.c_check_expr.specs.PartsSeen.{AreStepsIn, IsSizeIn, IsStepIn, declared_seen, parameter_seen, shaped_seen, size_seen, specified_seen, step_seen, steps_seen}
-use Rattle.c_check_expr.specs.Seen.{core_seen, declarator_seen, maybe_declarator_seen, parameter_tree, specifiers_seen, suffix_form_seen, suffix_seen}
 use Rattle.c_check_expr.specs.TypedIn.{core_in, declarator_in, maybe_expr_in, parameter_in, parameter_shape_in, specifiers_in, suffix_in, suffixes_in}
 use Rattle.c_check_expr.specs.Walks.{IsDeclaredIn, IsParameterIn, IsShapeIn, IsSpecifiedIn, Walks}
-use Rattle.c_check_expr.proofs.SeenTypes.{declarator_parts, parameter_parts, suffix_parts}
 use Rattle.c_values.specs.Stays.{extends_itself}
 use Rattle.c_check_expr.specs.Kept.{keeps_grown}
 use Rattle.c_check_expr.proofs.WalkStays.{steps_append, steps_in_append, steps_later, steps_stay}

@@ -4,6 +4,8 @@ use Rattle.std.specs.Prelude.{Option, is_none, Result, Ok, Err, IfOk, IfErr, IsE
 use Rattle.c_ast.specs.declared.expr.Expr.{Expr, out-Expr}
 use Rattle.c_ast.specs.declared.expr.ExprForm.{ExprForm}
 use Rattle.c_ast.specs.Trees.{Called, Chosen, Converted, Enclosed, ExprTree, ExprTrees, Sequence, SizedType, TypeNameTree, Variable}
+use Rattle.c_ast.specs.Seen.{expr_form_seen, expr_seen}
+use Rattle.c_ast.specs.SeenExprs.{expr_parts}
 use Rattle.c_symbols.specs.Scoping.{Scoping, found}
 use Rattle.c_types.specs.Table.{Table, Grows, type_at}
 use Rattle.c_meaning.specs.CoreTrees.{CoreOf, IsIn}
@@ -17,10 +19,8 @@ use Rattle.c_values.specs.declared.check_fault.CheckFault.{CheckFault}
 use Rattle.c_check_expr.specs.AtNode.{Becomes, IsRefused, Tells}
 use Rattle.c_check_expr.specs.Keeps.{Keeps}
 use Rattle.c_check_expr.specs.Known.{AreSymbolsIn, state_of}
-use Rattle.c_check_expr.specs.Seen.{expr_form_seen, expr_seen}
 use Rattle.c_check_expr.specs.TypedIn.{callee_in, expr_in, exprs_in, name_in, pair_in}
 use Rattle.c_check_expr.specs.Walks.{AreCoresIn, IsBelow, IsPairIn, Walks, core, cores, pair}
-use Rattle.c_check_expr.proofs.SeenExprs.{expr_parts}
 use Rattle.c_values.specs.Stays.{in_later, seen_stays}
 use Rattle.c_check_expr.specs.WalkLists.{then_same, then_then}
 use Rattle.c_check_expr.specs.Kept.{keeps_itself}

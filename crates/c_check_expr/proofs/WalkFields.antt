@@ -5,6 +5,8 @@ use Rattle.c_ast.specs.declared.expr.Enumerator.{Enumerator as EnumeratorSyntax,
 use Rattle.c_ast.specs.declared.expr.MemberDeclarator.{MemberDeclarator, out-MemberDeclarator}
 use Rattle.c_ast.specs.Trees.{MaybeDeclarator, MaybeExpr, ParameterTrees}
 use Rattle.c_ast.specs.Trees as tree
+use Rattle.c_ast.specs.Seen.{enumerator_seen, field_seen, maybe_declarator_seen, maybe_expr_seen}
+use Rattle.c_ast.specs.SeenTypes.{enumerator_parts, field_parts}
 use Rattle.c_symbols.specs.Scoping.{Scoping}
 use Rattle.c_types.specs.CType.{CType}
 use Rattle.c_types.specs.Layout.{MemberType}
@@ -28,10 +30,8 @@ use Rattle.c_check_expr.specs.AtNode.{Tells}
 use Rattle.c_check_expr.specs.Keeps.{Keeps}
 use Rattle.c_check_expr.specs.Known.{state_of}
 use Rattle.c_check_expr.specs.PartsSeen.{AreParametersIn, IsSizeIn, IsStepIn, parameters_seen, shaped_seen, size_seen, step_seen}
-use Rattle.c_check_expr.specs.Seen.{enumerator_seen, field_seen, maybe_declarator_seen, maybe_expr_seen}
 use Rattle.c_check_expr.specs.TypedIn.{enumerator_in, field_in, maybe_expr_in, parameters_in, shape_in, suffix_in}
 use Rattle.c_check_expr.specs.Walks.{IsAnyNumber, IsShapeIn, Walks, members, next_number, numbered, with_field}
-use Rattle.c_check_expr.proofs.SeenTypes.{enumerator_parts, field_parts}
 use Rattle.c_values.specs.Stays.{extends_itself}
 use Rattle.c_check_expr.specs.WalkLists.{then_same, then_then}
 use Rattle.c_check_expr.proofs.WalkStays.{members_later, members_stay}

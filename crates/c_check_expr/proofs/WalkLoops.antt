@@ -9,6 +9,7 @@ use Rattle.c_ast.specs.declared.expr.Parameter.{Parameter}
 use Rattle.c_ast.specs.declared.expr.Specifier.{Specifier}
 use Rattle.c_ast.specs.declared.expr.Suffix.{Suffix}
 use Rattle.c_ast.specs.Views.{enumerators_of, exprs_of, fields_of, members_of, parameters_of, specifier_list_of, suffixes_of}
+use Rattle.c_ast.specs.Seen.{enumerator_seen, expr_seen, field_seen, member_seen, parameter_seen as parameter_tree, specifier_seen, suffix_seen}
 use Rattle.c_symbols.specs.Scoping.{Scoping}
 use Rattle.c_types.specs.declared.type_form.Member.{Member}
 use Rattle.c_types.specs.Table.{AreMembersBelow, Table, type_at}
@@ -22,7 +23,6 @@ use Rattle.c_check_expr.specs.declared.walk_types.EnumeratorList.{EnumeratorList
 use Rattle.c_check_expr.specs.AtNode.{Tells}
 use Rattle.c_check_expr.specs.Known.{AreSymbolsIn, state_of}
 use Rattle.c_check_expr.specs.PartsSeen.{AreParametersIn, ArePartsIn, AreStepsIn, IsPartIn, IsStepIn, parameter_seen, parameters_seen, part_seen, parts_seen, step_seen, steps_seen}
-use Rattle.c_check_expr.specs.Seen.{enumerator_seen, expr_seen, field_seen, member_seen, parameter_tree, specifier_seen, suffix_seen}
 use Rattle.c_check_expr.specs.TypedIn.{enumerator_in, enumerators_in, expr_in, exprs_in, field_in, fields_in, member_in, members_in, parameter_in, parameters_in, part_in, parts_in, suffix_in, suffixes_in}
 use Rattle.c_check_expr.specs.Walks.{AreCoresIn, IsAnyNumber, IsParameterIn, Walks, core, cores, members, next_number}
 use Rattle.c_check_expr.specs.WalkLists.{Going, adds, each, each_is, going_ends, going_on, going_starts, going_stops, push_on, push_stops}

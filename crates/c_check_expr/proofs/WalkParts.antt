@@ -8,6 +8,8 @@ use Rattle.c_ast.specs.declared.specifier.RecordKind.{RecordKind}
 use Rattle.c_ast.specs.Trees.{ADeclarator, DeclaratorTree, EnumeratorTrees, MaybeDeclarator, MemberTrees, NoDeclarator, SpecifierTree, SuffixTree, ParameterTrees}
 use Rattle.c_ast.specs.Trees as tree
 use Rattle.c_ast.specs.Views.{fields_of}
+use Rattle.c_ast.specs.Seen.{field_seen, member_seen, specifier_form_seen, specifier_seen, specifiers_seen}
+use Rattle.c_ast.specs.SeenTypes.{member_parts, specifier_parts}
 use Rattle.c_symbols.specs.Scoping.{Scoping}
 use Rattle.c_types.specs.Layout.{MemberType}
 use Rattle.c_types.specs.declared.type_form.Member.{Member}
@@ -27,10 +29,8 @@ use Rattle.c_check_expr.specs.AtNode.{Tells}
 use Rattle.c_check_expr.specs.Keeps.{Keeps}
 use Rattle.c_check_expr.specs.Known.{AreSymbolsIn, state_of}
 use Rattle.c_check_expr.specs.PartsSeen.{IsPartIn, part_seen, specified_seen}
-use Rattle.c_check_expr.specs.Seen.{field_seen, member_seen, specifier_form_seen, specifier_seen, specifiers_seen}
 use Rattle.c_check_expr.specs.TypedIn.{enumerators_in, fields_in, member_in, members_in, part_in, specifiers_in}
 use Rattle.c_check_expr.specs.Walks.{IsAnyNumber, IsSpecifiedIn, Walks, members, next_number}
-use Rattle.c_check_expr.proofs.SeenTypes.{member_parts, specifier_parts}
 use Rattle.c_check_expr.specs.Kept.{keeps_on}
 use Rattle.c_check_expr.proofs.WalkStays.{members_stay}
 use Rattle.c_check_expr.specs.Walking.{first_stops, passed, tells_first, walk_none, walk_then}

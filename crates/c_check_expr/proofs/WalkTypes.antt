@@ -5,6 +5,8 @@ use Rattle.c_ast.specs.declared.expr.Specifiers.{Specifiers as SpecifiersSyntax,
 use Rattle.c_ast.specs.declared.expr.TypeName.{TypeName, out-TypeName}
 use Rattle.c_ast.specs.Trees.{ADeclarator, DeclaratorTree, ExprTree, NoDeclarator, NoExpr, AnExpr}
 use Rattle.c_ast.specs.Views.{specifier_list_of}
+use Rattle.c_ast.specs.Seen.{maybe_declarator_seen, specifier_seen, specifiers_seen, type_name_seen}
+use Rattle.c_ast.specs.SeenTypes.{specifiers_parts, type_name_parts}
 use Rattle.c_symbols.specs.Scoping.{Scoping}
 use Rattle.c_types.specs.CType.{CType}
 use Rattle.c_types.specs.Table.{Grows, Table, tags, type_at}
@@ -24,10 +26,8 @@ use Rattle.c_check_expr.specs.declared.parts.Specified.{Specified as SpecifiedVa
 use Rattle.c_check_expr.specs.AtNode.{Tells}
 use Rattle.c_check_expr.specs.Known.{AreSymbolsIn, state_of}
 use Rattle.c_check_expr.specs.PartsSeen.{ArePartsIn, IsSizeIn, declared_seen, parts_seen, shaped_seen, size_seen, specified_seen}
-use Rattle.c_check_expr.specs.Seen.{maybe_declarator_seen, specifier_seen, specifiers_seen, type_name_seen}
 use Rattle.c_check_expr.specs.TypedIn.{declarator_in, expr_in, maybe_expr_in, name_in, parts_in, shape_in, specifiers_in}
 use Rattle.c_check_expr.specs.Walks.{IsBelow, IsDeclaredIn, IsShapeIn, IsSpecifiedIn, Walks, core}
-use Rattle.c_check_expr.proofs.SeenTypes.{specifiers_parts, type_name_parts}
 use Rattle.c_check_expr.specs.SymbolsStay.{state_stays}
 use Rattle.c_check_expr.specs.Kept.{keeps_grown}
 use Rattle.c_check_expr.specs.Walking.{both_go, first_stops, second_stops, walk_none, walk_then}

@@ -9,6 +9,7 @@ use Rattle.c_ast.specs.declared.expr.Parameter.{Parameter}
 use Rattle.c_ast.specs.declared.expr.Specifier.{Specifier}
 use Rattle.c_ast.specs.declared.expr.Suffix.{Suffix}
 use Rattle.c_ast.specs.Views.{enumerators_of, exprs_of, fields_of, members_of, parameters_of, specifier_list_of, suffixes_of}
+use Rattle.c_ast.specs.Seen.{enumerator_seen, expr_seen, field_seen, member_seen, parameter_seen as parameter_tree, specifier_seen, suffix_seen}
 use Rattle.c_types.specs.CType.{CType}
 use Rattle.c_types.specs.Layout.{MemberType}
 use Rattle.c_types.specs.Table.{Table}
@@ -20,7 +21,6 @@ use Rattle.c_check_expr.specs.declared.parts.Part.{Part}
 use Rattle.c_check_expr.specs.declared.parts.NamedParameter.{NamedParameter}
 use Rattle.c_check_expr.specs.declared.parts.Step.{Step}
 use Rattle.c_check_expr.specs.PartsSeen.{AreParametersIn, ArePartsIn, AreStepsIn, IsPartIn, IsStepIn, parameter_seen, parameters_seen, part_seen, parts_seen, step_seen, steps_seen}
-use Rattle.c_check_expr.specs.Seen.{enumerator_seen, expr_seen, field_seen, member_seen, parameter_tree, specifier_seen, suffix_seen}
 use Rattle.c_check_expr.specs.Walks.{AreCoresIn, IsParameterIn, core, numbered, with_field}
 use Rattle.c_check_expr.specs.WalkLists.{IsSeenAsList, each, folded, then_same, then_then}
 use Rattle.c_check_expr.proofs.WalkStays.{core_pushed, cores_later, cores_stay, parameters_pushed, parameters_stay, parameters_within, parts_pushed, parts_stay, parts_within, steps_append, steps_stay, steps_within}

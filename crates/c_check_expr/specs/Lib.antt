@@ -15,7 +15,6 @@ pub mod PartsSeen
 pub mod Redeclared
 pub mod SomeDeep
 pub mod StepFaults
-pub mod Seen
 pub mod TypedIn
 pub mod Walks
 pub mod SymbolsStay

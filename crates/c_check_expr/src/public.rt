@@ -3,6 +3,7 @@ ghost use Rattle.std.specs.Prelude.{◌≡◌, ◌<◌, ℕ, Err, Some, length, 
 ghost use Rattle.lcc_base.specs.declared.which.Which.{Which};
 ghost use Rattle.c_ast.specs.Trees.{ADeclarator};
 ghost use Rattle.c_ast.specs.Views.{declarator_of, expr_of, specifiers_of};
+ghost use Rattle.c_ast.specs.Seen.{declarator_seen, specifiers_seen};
 ghost use Rattle.c_types.specs.Table.{type_at};
 ghost use Rattle.c_meaning.specs.Constraints.{Breaks, Passes};
 ghost use Rattle.c_meaning.specs.CoreTrees.{IsIn, seen};
@@ -11,7 +12,6 @@ ghost use Rattle.c_meaning.specs.TypingRelation.{Types, TypesDeclared};
 ghost use Rattle.c_values.specs.declared.check_fault.CheckFault.TheVariants.{Constraint, Limit};
 ghost use Rattle.c_check_expr.specs.Keeps.{Keeps};
 ghost use Rattle.c_check_expr.specs.Known.{AreSymbolsIn, state_of};
-ghost use Rattle.c_check_expr.specs.Seen.{declarator_seen, specifiers_seen};
 ghost use Rattle.c_check_expr.specs.TypedIn.{declared_in, shape_in};
 ghost use Rattle.c_check_expr.specs.Walks.{IsBelow, IsShapeIn, Walks};
 ghost use Rattle.c_check_expr.specs.PartsSeen.{shaped_seen};

@@ -3,12 +3,12 @@ ghost use Rattle.std.specs.Prelude.{◌≡◌, ◌<◌, ℕ, ◌++◌, ◌∷◌
 ghost use Rattle.c_ast.specs.Trees as tree;
 ghost use Rattle.c_ast.specs.declared.expr.Parameter.{out-Parameter};
 ghost use Rattle.c_ast.specs.Views.{parameters_of, suffixes_of};
+ghost use Rattle.c_ast.specs.Seen.{core_seen, declarator_seen, maybe_declarator_seen, parameter_seen as parameter_tree, suffix_seen};
 ghost use Rattle.c_types.specs.Table.{Table, type_at};
 ghost use Rattle.c_meaning.specs.TypeRows.{none_if_void as without_void, pointer_steps as steps_of_pointers, qualifier_bit, qualifiers_among};
 ghost use Rattle.c_meaning.specs.Typing.{stands_alone as stands_alone_in};
 ghost use Rattle.c_check_expr.specs.Known.{AreSymbolsIn};
 ghost use Rattle.c_check_expr.specs.PartsSeen.{AreParametersIn, AreStepsIn, IsStepIn, declared_seen, parameter_seen, parameters_seen, shaped_seen, step_seen, steps_seen};
-ghost use Rattle.c_check_expr.specs.Seen.{core_seen, declarator_seen, maybe_declarator_seen, parameter_tree, suffix_seen};
 ghost use Rattle.c_check_expr.specs.TypedIn.{core_in, declarator_in, parameter_in, parameter_shape_in, parameters_in, suffix_in, suffixes_in};
 ghost use Rattle.c_check_expr.specs.Walks.{IsDeclaredIn, IsParameterIn, IsShapeIn, Walks};
 

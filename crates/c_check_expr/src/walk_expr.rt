@@ -4,6 +4,7 @@ ghost use Rattle.std.specs.Prelude.{◌≡◌, Some, None, length, map, IfErr, I
 ghost use Rattle.c_ast.specs.Trees.{Called, Converted, ExprTree, Prefixed, Sequence, SizedExpr, SizedType, Stepped, Subscript, Variable};
 ghost use Rattle.c_ast.specs.Views.{exprs_of};
 ghost use Rattle.c_ast.specs.declared.expr.Expr.{out-Expr};
+ghost use Rattle.c_ast.specs.Seen.{expr_seen, maybe_expr_seen, type_name_seen};
 ghost use Rattle.c_meaning.specs.CoreTrees.{IsIn};
 ghost use Rattle.c_meaning.specs.Nodes as node;
 ghost use Rattle.c_meaning.specs.State.{State};
@@ -12,7 +13,6 @@ ghost use Rattle.c_meaning.specs.Values.{CoreTree};
 ghost use Rattle.c_check_expr.specs.AtNode.{Becomes, IsRefused};
 ghost use Rattle.c_check_expr.specs.Known.{AreSymbolsIn};
 ghost use Rattle.c_check_expr.specs.PartsSeen.{IsSizeIn, size_seen};
-ghost use Rattle.c_check_expr.specs.Seen.{expr_seen, maybe_expr_seen, type_name_seen};
 ghost use Rattle.c_check_expr.specs.TypedIn.{callee_in, expr_in, exprs_in, maybe_expr_in, pair_in};
 ghost use Rattle.c_check_expr.specs.Walks.{AreCoresIn, IsPairIn, Walks, core, cores, pair};
 
@@ -166,7 +166,7 @@ fn subscript(
 }
 
 /// The name that the expression is, where it is just a name.
-#[tactic(auto, using(crate::proofs::SeenExprs::expr_forms))]
+#[tactic(auto, using(c_ast::specs::SeenExprs::expr_forms))]
 fn bare_name(e: &Expr) -> Option<&Bytes>
     ensures name { IfSome result (λ x. expr_seen e.now ≡ Variable (out-Expr e.now).line x.now) }
     ensures none { IfNone result ((s : State) → (o : Outcome CoreTree) → callee_typed s (expr_seen e.now) o ≡ o) }

@@ -2,13 +2,13 @@
 ghost use Rattle.std.specs.Prelude.{◌≡◌, ◌<◌, ◌∷◌, [], pos, true, length, map};
 ghost use Rattle.c_ast.specs.Trees as tree;
 ghost use Rattle.c_ast.specs.Views.{enumerators_of, fields_of, members_of, specifier_list_of};
+ghost use Rattle.c_ast.specs.Seen.{enumerator_seen, field_seen, maybe_declarator_seen, member_seen, specifier_seen, specifiers_seen, type_name_seen};
 ghost use Rattle.c_types.specs.Table.{AreMembersBelow, type_at};
 ghost use Rattle.c_meaning.specs.Nodes as node;
 ghost use Rattle.c_meaning.specs.State.{known_at, place_of};
 ghost use Rattle.c_meaning.specs.Typing.{named_type};
 ghost use Rattle.c_check_expr.specs.Known.{AreSymbolsIn, state_of};
 ghost use Rattle.c_check_expr.specs.PartsSeen.{ArePartsIn, IsPartIn, part_seen, parts_seen, shaped_seen, specified_seen};
-ghost use Rattle.c_check_expr.specs.Seen.{enumerator_seen, field_seen, maybe_declarator_seen, member_seen, specifier_seen, specifiers_seen, type_name_seen};
 ghost use Rattle.c_check_expr.specs.TypedIn.{enumerator_in, enumerators_in, field_in, fields_in, member_in, members_in, name_in, part_in, parts_in, shape_in, specifiers_in};
 ghost use Rattle.c_check_expr.specs.Walks.{IsAnyNumber, IsBelow, IsShapeIn, IsSpecifiedIn, Walks, members as members_at, next_number};
 

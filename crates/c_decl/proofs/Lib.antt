@@ -1,4 +1,3 @@
 mod Places
 mod Lows
 mod Exits
-mod SeenNodes

@@ -1,6 +1,5 @@
 pub mod Going
 pub mod GoingLaws
 pub mod Productions
-pub mod Seen
 pub mod Stopping
 pub mod TakingLaws

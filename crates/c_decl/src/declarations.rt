@@ -1,13 +1,13 @@
 //! Readers of declarations.
 ghost use Rattle.std.specs.Prelude.{◌≡◌, ◌≤◌, None, Some, map, IfOk, IfErr};
 ghost use Rattle.c_ast.specs.UnitViews.{option_of};
+ghost use Rattle.c_ast.specs.Seen.{declarator_seen};
+ghost use Rattle.c_ast.specs.SeenUnits.{boxed_initialiser_seen, declaration_seen, init_seen};
 ghost use Rattle.c_readings.specs.Readers.{readers};
 ghost use Rattle.c_readings.specs.DeclarationReaders as reader;
-ghost use Rattle.c_expr.specs.Seen.{declarator_seen};
 ghost use Rattle.c_expr.specs.State.{ahead, Took};
 ghost use Rattle.c_decl.specs.Going.{Goes, Breaks, Fails};
 ghost use Rattle.c_decl.specs.Productions as production;
-ghost use Rattle.c_decl.specs.Seen.{boxed_initialiser_seen, declaration_seen, init_seen};
 ghost use Rattle.c_decl.specs.Stopping.{Stopped};
 
 use crate::initialisers::initialiser_at;

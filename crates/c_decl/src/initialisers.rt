@@ -1,12 +1,12 @@
 //! Readers of initialisers.
 ghost use Rattle.std.specs.Prelude.{◌≡◌, ◌≤◌, None, Some, map, IfOk, IfErr};
 ghost use Rattle.c_ast.specs.UnitViews.{initialisers_of};
+ghost use Rattle.c_ast.specs.SeenUnits.{initialiser_seen};
 ghost use Rattle.c_readings.specs.Readers.{readers};
 ghost use Rattle.c_readings.specs.DeclarationReaders.{initialiser, initialisers};
 ghost use Rattle.c_expr.specs.State.{ahead, Took};
 ghost use Rattle.c_decl.specs.Going.{Goes, Breaks, Fails};
 ghost use Rattle.c_decl.specs.Productions.{initialiser as initialiser_production};
-ghost use Rattle.c_decl.specs.Seen.{initialiser_seen};
 ghost use Rattle.c_decl.specs.Stopping.{Stopped};
 
 use crate::next::line_at;

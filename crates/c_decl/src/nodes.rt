@@ -2,8 +2,8 @@
 ghost use Rattle.std.specs.Prelude.{◌≡◌, map};
 ghost use Rattle.c_ast.specs.Trees.{ByExpr, Braced};
 ghost use Rattle.c_ast.specs.UnitViews.{initialisers_of, option_of};
-ghost use Rattle.c_expr.specs.Seen.{declarator_seen, expr_seen, specifiers_seen};
-ghost use Rattle.c_decl.specs.Seen.{boxed_initialiser_seen, declaration_seen, init_seen, initialiser_seen};
+ghost use Rattle.c_ast.specs.Seen.{declarator_seen, expr_seen, specifiers_seen};
+ghost use Rattle.c_ast.specs.SeenUnits.{boxed_initialiser_seen, declaration_seen, init_seen, initialiser_seen};
 
 use c_ast::{
     Declaration, Declarator, Expr, InitDeclarator, Initialiser, InitialiserForm, Specifiers,
@@ -11,7 +11,7 @@ use c_ast::{
 use lcc_base::Items;
 
 /// An initialiser that is an expression.
-#[tactic(auto, using(crate::proofs::SeenNodes::initialiser_forms))]
+#[tactic(auto, using(c_ast::specs::SeenUnits::initialiser_forms))]
 pub(crate) fn by_expr(line: u32, expression: Expr) -> Initialiser
     ensures { initialiser_seen result ≡ ByExpr line (expr_seen expression) }
 {
@@ -22,7 +22,7 @@ pub(crate) fn by_expr(line: u32, expression: Expr) -> Initialiser
 }
 
 /// Initialisers in braces.
-#[tactic(auto, using(crate::proofs::SeenNodes::initialiser_forms))]
+#[tactic(auto, using(c_ast::specs::SeenUnits::initialiser_forms))]
 pub(crate) fn braced(line: u32, items: Items<Initialiser>, comma: bool) -> Initialiser
     ensures { initialiser_seen result ≡ Braced line (initialisers_of (map initialiser_seen items)) comma }
 {
@@ -33,7 +33,7 @@ pub(crate) fn braced(line: u32, items: Items<Initialiser>, comma: bool) -> Initi
 }
 
 /// A declarator, perhaps with an initialiser.
-#[tactic(auto, using(crate::proofs::SeenNodes::node_parts))]
+#[tactic(auto, using(c_ast::specs::SeenUnits::node_parts))]
 pub(crate) fn init(
     line: u32,
     declarator: Declarator,
@@ -49,7 +49,7 @@ pub(crate) fn init(
 }
 
 /// A declaration of its parts.
-#[tactic(auto, using(crate::proofs::SeenNodes::node_parts))]
+#[tactic(auto, using(c_ast::specs::SeenUnits::node_parts))]
 pub fn declared(
     line: u32,
     specifiers: Specifiers,

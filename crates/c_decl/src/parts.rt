@@ -2,11 +2,11 @@
 ghost use Rattle.std.specs.Prelude.{◌≡◌, ◌≤◌, None, Some, IfOk, IfErr};
 ghost use Rattle.c_ast.specs.Heights.{height};
 ghost use Rattle.c_ast.specs.Trees.{ExprTree};
+ghost use Rattle.c_ast.specs.Seen.{declarator_seen, expr_seen, specifiers_seen};
 ghost use Rattle.c_readings.specs.Reading.{Read, State, no_higher};
 ghost use Rattle.c_readings.specs.Readers.{readers};
 ghost use Rattle.c_readings.specs.DeclarationReaders.{low_specifiers, whole_declarator};
 ghost use Rattle.c_readings.specs.StatementReaders.{low_expression};
-ghost use Rattle.c_expr.specs.Seen.{declarator_seen, expr_seen, specifiers_seen};
 ghost use Rattle.c_expr.specs.State.{ahead};
 ghost use Rattle.c_decl.specs.Going.{Goes, Breaks, Fails};
 

@@ -8,8 +8,8 @@ use Rattle.c_ast.specs.Levels.{has_name, is_abstract, is_named, lacks_name, no_n
 use Rattle.c_ast.specs.Trees.{CoreTree, DeclaratorTree}
 use Rattle.c_ast.specs.Trees as trees
 use Rattle.c_ast.specs.Views.{suffixes_of}
-use Rattle.c_expr.specs.Seen.{core_seen, declarator_seen, suffix_seen}
-use Rattle.c_expr.proofs.SeenTypes.{declarator_parts}
+use Rattle.c_ast.specs.Seen.{core_seen, declarator_seen, suffix_seen}
+use Rattle.c_ast.specs.SeenTypes.{declarator_parts}
 
 regroup : (p s o : Bool) → (p && (s && o)) ≡ ((p && s) && o)
 regroup true s o = refl

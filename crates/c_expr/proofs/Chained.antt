@@ -18,7 +18,7 @@ use Rattle.c_readings.specs.Reading.{State, Read, bind, beyond, here}
 use Rattle.c_readings.specs.Links.{LinkTree, Indexed, Arguments, Member, Postfix, Operand, Choices, Value, linked}
 use Rattle.c_readings.specs.Readers.{Readers, head, link, kind_on, chain}
 use Rattle.c_expr.specs.Links.{link_height}
-use Rattle.c_expr.specs.Seen.{expr_seen, specifier_seen, member_seen, field_seen, enumerator_seen, suffix_seen, parameter_seen}
+use Rattle.c_ast.specs.Seen.{expr_seen, specifier_seen, member_seen, field_seen, enumerator_seen, suffix_seen, parameter_seen}
 
 -- o is what the expression a, and the links behind it, give
 pub record ChainLeft (R : Readers) (level line : ℕ) (o : Read ExprTree) (a : ExprTree) (s : State) : Type 0 where

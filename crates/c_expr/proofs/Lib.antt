@@ -1,6 +1,4 @@
 mod Cutting
-pub mod SeenExprs
-pub mod SeenTypes
 mod Exits
 mod Loops
 mod Fronts

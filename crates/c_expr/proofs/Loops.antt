@@ -7,7 +7,7 @@ use Rattle.c_readings.specs.Readers.{some_specifiers}
 use Rattle.c_ast.specs.declared.expr.Specifier.{Specifier}
 use Rattle.c_ast.specs.Trees.{Specified}
 use Rattle.c_ast.specs.Views.{specifier_list_of}
-use Rattle.c_expr.specs.Seen.{specifier_seen}
+use Rattle.c_ast.specs.Seen.{specifier_seen}
 
 -- a list that isn't empty, or is
 pub filled : {A : Type 0} (xs : List A) (b : Bool) → b ≡ false → (xs ≡ [] → IsTrue b) → 1 ≤ length xs

@@ -7,7 +7,8 @@ use Rattle.c_ast.specs.ExprMarks.{any_typedef, makes_typedef}
 use Rattle.c_ast.specs.Levels.{no_name_lists}
 use Rattle.c_ast.specs.Trees.{SuffixTree, SuffixTrees, Suffixes, ArraySuffix, Prototype, NameList, NoParameters}
 use Rattle.c_ast.specs.Views.{specifier_list_of, suffixes_of}
-use Rattle.c_expr.specs.Seen.{is_name_list, specifier_seen, suffix_seen}
+use Rattle.c_ast.specs.Seen.{specifier_seen, suffix_seen}
+use Rattle.c_expr.specs.NameLists.{is_name_list}
 
 past : (t : SuffixTree) (ts : SuffixTrees) → is_name_list t ≡ false → no_name_lists (Suffixes t ts) ≡ no_name_lists ts
 past (ArraySuffix l e) ts isnt = refl

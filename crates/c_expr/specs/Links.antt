@@ -2,7 +2,7 @@
 -- Source: C89 3.3.2 to 3.3.16.
 use Rattle.std.specs.Prelude.{ℕ, max, map, Option, Some, None}
 use Rattle.c_ast.specs.Views.{exprs_of}
-use Rattle.c_expr.specs.Seen.{expr_seen}
+use Rattle.c_ast.specs.Seen.{expr_seen}
 use Rattle.c_ast.specs.Heights.{height, tallest}
 use Rattle.c_ast.specs.Reach.{LinkKind, Index, Call, Select, Step, Operate, Question, Assign}
 use Rattle.c_readings.specs.Links.{LinkTree, Indexed, Arguments, Member, Postfix, Operand, Choices, Value}

@@ -4,7 +4,7 @@ ghost use Rattle.c_expr.specs.Answers.{at, Fails};
 ghost use Rattle.c_ast.specs.Heights.{core_height, declarator_height};
 ghost use Rattle.c_lexer.specs.PlacedTokens.{placed};
 ghost use Rattle.c_readings.specs.Readers.{core, pointers_on, qualifier_of, qualifiers_on, readers};
-ghost use Rattle.c_expr.specs.Seen.{core_seen, declarator_seen};
+ghost use Rattle.c_ast.specs.Seen.{core_seen, declarator_seen};
 
 use crate::found::Found;
 use crate::questions::begins_core;

@@ -5,7 +5,7 @@ ghost use Rattle.c_ast.specs.Heights.{enumerator_height, enumerators_height, spe
 ghost use Rattle.c_ast.specs.Trees.{EnumeratorTrees};
 ghost use Rattle.c_ast.specs.Views.{enumerators_of};
 ghost use Rattle.c_readings.specs.Readers.{enumeration_of, enumerator, enumerators, readers};
-ghost use Rattle.c_expr.specs.Seen.{enumerator_seen, specifier_seen};
+ghost use Rattle.c_ast.specs.Seen.{enumerator_seen, specifier_seen};
 
 use crate::found::Found;
 use crate::questions::after_comma;

@@ -7,7 +7,7 @@ ghost use Rattle.c_readings.specs.Reading.{bind, gives, tail, commas};
 ghost use Rattle.c_readings.specs.Readers.{kind_on, readers};
 ghost use Rattle.c_expr.specs.Answers.{at, Fails};
 ghost use Rattle.c_expr.specs.Links.{seen_kind};
-ghost use Rattle.c_expr.specs.Seen.{expr_seen};
+ghost use Rattle.c_ast.specs.Seen.{expr_seen};
 
 use crate::expr_nodes::{linked, sequence};
 use crate::found::Found;

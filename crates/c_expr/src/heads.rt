@@ -11,7 +11,7 @@ ghost use Rattle.c_lexer.specs.Texts.{text_of};
 ghost use Rattle.c_readings.specs.Reading.{answer};
 ghost use Rattle.c_expr.specs.declared.stop.Stop.TheVariants.{Memory as NoMemory};
 ghost use Rattle.c_expr.specs.Answers.{at, Fails};
-ghost use Rattle.c_expr.specs.Seen.{expr_seen};
+ghost use Rattle.c_ast.specs.Seen.{expr_seen};
 
 use crate::expr_nodes::{
     cast, character, enclosed, integer, literal, prefixed, sized_expr, sized_type, variable,

@@ -6,7 +6,7 @@ ghost use Rattle.c_ast.specs.Views.{exprs_of};
 ghost use Rattle.c_readings.specs.Readers.{arguments, link, readers};
 ghost use Rattle.c_expr.specs.Answers.{at, Fails};
 ghost use Rattle.c_expr.specs.Links.{link_height, link_of, seen_kind};
-ghost use Rattle.c_expr.specs.Seen.{expr_seen};
+ghost use Rattle.c_ast.specs.Seen.{expr_seen};
 
 use crate::expressions::{piece_at, sequence_at, whole_at};
 use crate::found::Found;

@@ -8,7 +8,7 @@ ghost use Rattle.c_ast.specs.Views.{parameters_of};
 ghost use Rattle.c_lexer.specs.declared.token.Token.{Token as Tokens};
 ghost use Rattle.c_readings.specs.Reading.{put_state};
 ghost use Rattle.c_readings.specs.Readers.{either, name_list, parameter, parameter_name, parameters, readers};
-ghost use Rattle.c_expr.specs.Seen.{maybe_declarator_seen, parameter_seen};
+ghost use Rattle.c_ast.specs.Seen.{maybe_declarator_seen, parameter_seen};
 
 use crate::found::Found;
 use crate::questions::after_comma;

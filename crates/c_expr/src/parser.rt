@@ -5,7 +5,7 @@ ghost use Rattle.c_lexer.specs.SourceUnits.{bytes_of};
 ghost use Rattle.c_lexer.specs.Tokens.{first_place, AreTokens};
 ghost use Rattle.c_expr.specs.declared.syntax_fault.SyntaxFault.TheVariants.{Memory as OutOfMemory, NoParse};
 ghost use Rattle.c_expr.specs.Productions.{declarator, expression, specifiers, type_name, whole_expression};
-ghost use Rattle.c_expr.specs.Seen.{declarator_seen, expr_seen, specifiers_seen, type_name_seen};
+ghost use Rattle.c_ast.specs.Seen.{declarator_seen, expr_seen, specifiers_seen, type_name_seen};
 ghost use Rattle.c_expr.specs.State.{ahead, forgetting, IsLine, IsStopped, IsUncut, Refused, Took};
 
 use crate::declarators::{Shape, declarator_at};

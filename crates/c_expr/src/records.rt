@@ -5,7 +5,7 @@ ghost use Rattle.c_ast.specs.Heights.{field_height, fields_height, maybe_height,
 ghost use Rattle.c_ast.specs.Views.{fields_of, members_of};
 ghost use Rattle.c_readings.specs.Reading.{bind, commas, gives};
 ghost use Rattle.c_readings.specs.Readers.{field, fields, members, piece_behind, readers, record_of, tag};
-ghost use Rattle.c_expr.specs.Seen.{field_seen, maybe_expr_seen, member_seen, specifier_seen};
+ghost use Rattle.c_ast.specs.Seen.{field_seen, maybe_expr_seen, member_seen, specifier_seen};
 
 use crate::expressions::piece_at;
 use crate::found::Found;

@@ -4,7 +4,7 @@ ghost use Rattle.c_expr.specs.Answers.{at, Fails};
 ghost use Rattle.c_ast.specs.ExprMarks.{says_type};
 ghost use Rattle.c_ast.specs.Heights.{specifier_height, specifiers_height};
 ghost use Rattle.c_readings.specs.Readers.{readers, specifier, specifiers, word_by};
-ghost use Rattle.c_expr.specs.Seen.{specifier_seen, specifiers_seen};
+ghost use Rattle.c_ast.specs.Seen.{specifier_seen, specifiers_seen};
 ghost use Rattle.c_expr.specs.Words.{seen_word};
 
 use crate::enumerations::enumeration_at;

@@ -6,7 +6,7 @@ ghost use Rattle.c_ast.specs.Views.{suffixes_of};
 ghost use Rattle.c_lexer.specs.declared.token.Token.{Token as Tokens};
 ghost use Rattle.c_readings.specs.Reading.{close_state};
 ghost use Rattle.c_readings.specs.Readers.{parameter_list, readers, size, suffix, suffixes};
-ghost use Rattle.c_expr.specs.Seen.{suffix_seen};
+ghost use Rattle.c_ast.specs.Seen.{suffix_seen};
 
 use crate::expressions::piece_at;
 use crate::found::Found;

@@ -4,7 +4,8 @@ ghost use Rattle.c_ast.specs.Operators.{level_of};
 ghost use Rattle.c_ast.specs.Views.{specifier_list_of, suffixes_of};
 ghost use Rattle.c_ast.specs.ExprMarks.{any_typedef, declared_name, has_typedef, is_own, just_name, makes_typedef, no_pointers, no_suffixes, says_type};
 ghost use Rattle.c_ast.specs.Levels.{is_abstract, no_name_lists, rank};
-ghost use Rattle.c_expr.specs.Seen.{is_name_list, core_seen, declarator_seen, expr_seen, specifier_seen, specifiers_seen, suffix_seen};
+ghost use Rattle.c_ast.specs.Seen.{core_seen, declarator_seen, expr_seen, specifier_seen, specifiers_seen, suffix_seen};
+ghost use Rattle.c_expr.specs.NameLists.{is_name_list};
 
 use c_ast::{
     BinaryOperator, Declarator, DeclaratorCore, Expr, ExprForm, Qualifier, Specifier,
@@ -40,7 +41,7 @@ pub(crate) fn level_of(operator: BinaryOperator) -> u8
 
 /// The level of an expression: 0 for a comma's, 1 assignment, 2 conditional, 3 to 12 binary, 13
 /// cast, 14 unary, 15 postfix and primary.
-#[tactic(auto, using(crate::proofs::SeenExprs::expr_forms))]
+#[tactic(auto, using(c_ast::specs::SeenExprs::expr_forms))]
 pub(crate) fn rank(e: &Expr) -> u8
     ensures { result ≡ rank (expr_seen e.now) }
 {
@@ -66,7 +67,7 @@ pub(crate) fn rank(e: &Expr) -> u8
 }
 
 /// Whether it is a type specifier.
-#[tactic(auto, using(crate::proofs::SeenTypes::specifier_forms))]
+#[tactic(auto, using(c_ast::specs::SeenTypes::specifier_forms))]
 pub(crate) fn says_type(specifier: &Specifier) -> bool
     ensures { result ≡ says_type (specifier_seen specifier.now) }
 {
@@ -82,7 +83,7 @@ pub(crate) fn says_type(specifier: &Specifier) -> bool
     }
 }
 
-#[tactic(auto, using(crate::proofs::SeenTypes::specifier_forms))]
+#[tactic(auto, using(c_ast::specs::SeenTypes::specifier_forms))]
 fn makes_typedef(specifier: &Specifier) -> bool
     ensures { result ≡ makes_typedef (specifier_seen specifier.now) }
 {
@@ -110,7 +111,7 @@ fn any_typedef(specifiers: &[Specifier]) -> bool
 }
 
 /// Whether `typedef` is among the specifiers, so that what is declared by them is a typedef name.
-#[tactic(auto, using(crate::proofs::SeenTypes::type_forms))]
+#[tactic(auto, using(c_ast::specs::SeenTypes::type_forms))]
 pub fn has_typedef(specifiers: &Specifiers) -> bool
     ensures { result ≡ has_typedef (specifiers_seen specifiers.now) }
 {
@@ -118,7 +119,7 @@ pub fn has_typedef(specifiers: &Specifiers) -> bool
 }
 
 /// The name that the declarator declares, if it has one.
-#[tactic(auto, using(crate::proofs::SeenTypes::type_forms, crate::proofs::SeenTypes::core_forms))]
+#[tactic(auto, using(c_ast::specs::SeenTypes::type_forms, c_ast::specs::SeenTypes::core_forms))]
 pub fn declared_name(declarator: &Declarator) -> Option<&Bytes>
     ensures some { IfSome result (λ n. declared_name (declarator_seen declarator.now) ≡ Some n.now) }
     ensures none { IfNone result (declared_name (declarator_seen declarator.now) ≡ None) }
@@ -138,7 +139,7 @@ fn is_bare(pointers: &Items<Items<Qualifier>>, suffixes: &Items<Suffix>) -> bool
 }
 
 /// Whether the declarator is a name, perhaps in parentheses.
-#[tactic(auto, using(crate::proofs::Bare::just_name_by, crate::proofs::SeenTypes::core_forms))]
+#[tactic(auto, using(crate::proofs::Bare::just_name_by, c_ast::specs::SeenTypes::core_forms))]
 fn just_name(declarator: &Declarator) -> bool
     ensures { result ≡ just_name (declarator_seen declarator.now) }
 {
@@ -153,7 +154,7 @@ fn just_name(declarator: &Declarator) -> bool
 }
 
 /// Whether a suffix behind it is that of the declared name itself.
-#[tactic(auto, using(crate::proofs::SeenTypes::type_forms, crate::proofs::SeenTypes::core_forms))]
+#[tactic(auto, using(c_ast::specs::SeenTypes::type_forms, c_ast::specs::SeenTypes::core_forms))]
 pub(crate) fn is_own(core: &DeclaratorCore) -> bool
     ensures { result ≡ is_own (core_seen core.now) }
 {
@@ -164,7 +165,7 @@ pub(crate) fn is_own(core: &DeclaratorCore) -> bool
     }
 }
 
-#[tactic(auto, using(crate::proofs::SeenTypes::suffix_forms))]
+#[tactic(auto, using(c_ast::specs::SeenTypes::suffix_forms))]
 fn is_name_list(suffix: &Suffix) -> bool
     ensures { result ≡ is_name_list (suffix_seen suffix.now) }
 {
@@ -188,7 +189,7 @@ fn has_name_list(suffixes: &[Suffix]) -> bool
 }
 
 /// Whether the declarator has no name and no list of names, and isn't empty.
-#[tactic(auto, using(crate::proofs::Bare::is_abstract_by, crate::proofs::SeenTypes::core_forms))]
+#[tactic(auto, using(crate::proofs::Bare::is_abstract_by, c_ast::specs::SeenTypes::core_forms))]
 pub(crate) fn is_abstract(declarator: &Declarator) -> bool
     ensures { result ≡ is_abstract (declarator_seen declarator.now) }
 {

@@ -3,7 +3,7 @@ ghost use Rattle.std.specs.Prelude.{◌≡◌, ◌<◌, ◌≤◌, ◌∷◌, So
 ghost use Rattle.c_expr.specs.Answers.{at, Fails};
 ghost use Rattle.c_ast.specs.Heights.{maybe_declarator_height, type_name_height};
 ghost use Rattle.c_readings.specs.Readers.{abstract_or_none, maybe_declarator, readers, type_name};
-ghost use Rattle.c_expr.specs.Seen.{maybe_declarator_seen, type_name_seen};
+ghost use Rattle.c_ast.specs.Seen.{maybe_declarator_seen, type_name_seen};
 
 use crate::declarators::{Shape, declarator_at};
 use crate::found::Found;

@@ -1,28 +1,20 @@
--- The trees of initialisers, one layer at a time, as contracts of the walk speak of them.
+-- Initialisers by an expression, and the first of a list.
 use Rattle.std.proofs.Common.{◌≡◌, ℕ, ◌<◌, Bool, false, List, [], ◌∷◌, length, map, refl, sym, ap, ◌∙◌, arith}
 use Rattle.std.specs.Prelude.{slice_index_or}
 use Rattle.c_ast.specs.declared.expr.Expr.{Expr}
 use Rattle.c_ast.specs.declared.statement.Initialiser.{Initialiser, out-Initialiser}
 use Rattle.c_ast.specs.declared.statement.InitialiserForm.{InitialiserForm}
 use Rattle.c_ast.specs.declared.statement.InitialiserForm.TheVariants as initialiser_form
-use Rattle.c_ast.specs.Trees.{InitialiserTree, ByExpr, Braced}
+use Rattle.c_ast.specs.Trees.{InitialiserTree, ByExpr}
 use Rattle.c_ast.specs.Views.{expr_of}
 use Rattle.c_ast.specs.UnitViews.{initialisers_of}
-use Rattle.c_ast.specs.UnitLayers.{initialiser_is, is_expr, is_list}
+use Rattle.c_ast.specs.UnitLayers.{is_expr}
+use Rattle.c_ast.specs.SeenUnits.{form_list, initialiser_form_seen, initialiser_parts, initialiser_seen}
 use Rattle.c_meaning.specs.Filling.{begins_with_text, is_literal}
-use Rattle.c_initialisers.specs.Seen.{initialiser_form_seen, initialiser_seen}
-
-pub initialiser_parts : (v : Initialiser) → initialiser_seen v ≡ initialiser_form_seen (out-Initialiser v).form (out-Initialiser v).line
-unfolding initialiser_seen initialiser_form_seen
-initialiser_parts v = initialiser_is v
 
 pub form_expr : (e : _) (line : ℕ) → initialiser_form_seen (initialiser_form.Expr e) line ≡ ByExpr line (expr_of e)
 unfolding initialiser_form_seen
 form_expr e line = ap (λ (g : ℕ → InitialiserTree). g line) (is_expr e)
-
-pub form_list : (is : _) (comma : _) (line : ℕ) → initialiser_form_seen (initialiser_form.List is comma) line ≡ Braced line (initialisers_of (map initialiser_seen is)) comma
-unfolding initialiser_form_seen initialiser_seen
-form_list is comma line = ap (λ (g : ℕ → InitialiserTree). g line) (is_list is comma)
 
 -- ---- the first of a list
 

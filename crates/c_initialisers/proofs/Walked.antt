@@ -7,6 +7,8 @@ use Rattle.c_ast.specs.declared.statement.Initialiser.{Initialiser, out-Initiali
 use Rattle.c_ast.specs.declared.statement.InitialiserForm.{InitialiserForm}
 use Rattle.c_ast.specs.Trees.{ByExpr, ExprTree, InitialiserTree}
 use Rattle.c_ast.specs.UnitViews.{initialisers_of}
+use Rattle.c_ast.specs.SeenUnits.{initialiser_form_seen, initialiser_seen}
+use Rattle.c_ast.specs.SeenUnits.{initialiser_parts}
 use Rattle.c_symbols.specs.Scoping.{Scoping}
 use Rattle.c_types.specs.Table.{Table, Grows, tags, type_at}
 use Rattle.c_meaning.specs.Constraints.{Breaks, Passes}
@@ -28,10 +30,8 @@ use Rattle.c_check_expr.specs.Walks.{Walks, core}
 use Rattle.c_initialisers.specs.declared.stored.Filling.{Filling}
 use Rattle.c_initialisers.specs.declared.walk.Listing.{Listing}
 use Rattle.c_initialisers.specs.Listed.{item_in, items_in, onto, value_onto}
-use Rattle.c_initialisers.specs.Seen.{initialiser_form_seen, initialiser_seen}
 use Rattle.c_initialisers.specs.Storing.{IsFillingIn, filling_in}
 use Rattle.c_initialisers.proofs.FillingStays.{filling_stays}
-use Rattle.c_initialisers.proofs.SeenNodes.{initialiser_parts}
 
 -- ---- expressions, by the public contract of their checker
 

@@ -6,6 +6,8 @@ use Rattle.c_ast.specs.declared.statement.Initialiser.{Initialiser as Initialise
 use Rattle.c_ast.specs.declared.statement.InitialiserForm.{InitialiserForm}
 use Rattle.c_ast.specs.Trees.{Braced, ByExpr, ExprTree, InitialiserTree, InitialiserTrees}
 use Rattle.c_ast.specs.UnitViews.{initialiser_of}
+use Rattle.c_ast.specs.SeenUnits.{initialiser_form_seen, initialiser_seen}
+use Rattle.c_ast.specs.SeenUnits.{initialiser_parts}
 use Rattle.c_symbols.specs.Scoping.{Scoping}
 use Rattle.c_types.specs.CType.{CType}
 use Rattle.c_types.specs.Table.{Table, Extends, Grows, tags, type_at}
@@ -31,10 +33,8 @@ use Rattle.c_initialisers.specs.declared.stored.Filling.{Filling}
 use Rattle.c_initialisers.specs.declared.walk.Listing.{Listing}
 use Rattle.c_initialisers.specs.Listed.{items_in, onto}
 use Rattle.c_initialisers.specs.Objects.{IsFilledIn, filled_in}
-use Rattle.c_initialisers.specs.Seen.{initialiser_form_seen, initialiser_seen}
 use Rattle.c_initialisers.specs.Storing.{IsFillingIn, filling_in}
 use Rattle.c_initialisers.specs.Wholes.{object_of, whole_in, whole_list, whole_value}
-use Rattle.c_initialisers.proofs.SeenNodes.{initialiser_parts}
 use Rattle.c_initialisers.proofs.Walked.{node_walk}
 
 -- ---- what is typed of it

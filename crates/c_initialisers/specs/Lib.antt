@@ -4,7 +4,6 @@ pub mod Storing
 pub mod StoresStay
 pub mod Fitting
 pub mod FilledPlaces
-pub mod Seen
 pub mod Listed
 pub mod Opening
 pub mod Wholes

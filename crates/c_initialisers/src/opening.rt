@@ -3,10 +3,10 @@ ghost use Rattle.std.specs.Prelude.{◌≡◌, ◌<◌, List, length, map, IfOk,
 ghost use Rattle.c_ast.specs.Trees.{InitialiserTrees};
 ghost use Rattle.c_ast.specs.UnitViews.{initialisers_of};
 ghost use Rattle.c_ast.specs.Views.{expr_of};
+ghost use Rattle.c_ast.specs.SeenUnits.{initialiser_seen};
 ghost use Rattle.c_types.specs.Table.{tags};
 ghost use Rattle.c_meaning.specs.Filling.{begins_with_text as text_begins, begun_in, is_literal as literal};
 ghost use Rattle.c_initialisers.specs.Opening.{IsOpened};
-ghost use Rattle.c_initialisers.specs.Seen.{initialiser_seen};
 ghost use Rattle.c_initialisers.specs.Storing.{IsFillingIn, filling_in};
 ghost use Rattle.c_initialisers.specs.Waiting.{AreEntriesIn, IsPlaceIn, found_in, waiting_in};
 ghost use Rattle.c_initialisers.specs.declared.waits.Waits.{Waits as WaitsValue};

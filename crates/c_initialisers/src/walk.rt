@@ -4,6 +4,7 @@ ghost use Rattle.std.specs.Prelude.{◌≡◌, ◌<◌, ◌||◌, Bool, List, fa
 ghost use Rattle.c_ast.specs.Trees.{Braced};
 ghost use Rattle.c_ast.specs.UnitViews.{initialisers_of};
 ghost use Rattle.c_ast.specs.Views.{expr_of};
+ghost use Rattle.c_ast.specs.SeenUnits.{initialiser_seen};
 ghost use Rattle.c_types.specs.Table.{Grows, Table, tags, type_at};
 ghost use Rattle.c_meaning.specs.CoreTrees.{IsIn, seen};
 ghost use Rattle.c_meaning.specs.Filling.{is_nowhere as nowhere};
@@ -14,7 +15,6 @@ ghost use Rattle.c_check_expr.specs.AtNode.{Tells};
 ghost use Rattle.c_check_expr.specs.Known.{AreSymbolsIn, state_of};
 ghost use Rattle.c_check_expr.specs.Walks.{Walks, core};
 ghost use Rattle.c_initialisers.specs.Listed.{item_in, items_in, value_in, value_onto};
-ghost use Rattle.c_initialisers.specs.Seen.{initialiser_seen};
 ghost use Rattle.c_initialisers.specs.Storing.{IsFillingIn, filling_in};
 ghost use Rattle.c_initialisers.specs.Waiting.{IsPlaceIn, found_in, place_in, waiting_in};
 ghost use Rattle.c_initialisers.specs.declared.waits.Waits.{Waits as WaitsValue};

@@ -1,6 +1,7 @@
 //! Whole objects: their one initialiser, and the size that it gives an array of unknown size (C89 3.5.7).
 ghost use Rattle.std.specs.Prelude.{◌≡◌, ◌<◌, ℕ, [], false, length, map, not, IfErr, IfOk, IfSome};
 ghost use Rattle.c_ast.specs.UnitViews.{initialisers_of};
+ghost use Rattle.c_ast.specs.SeenUnits.{initialiser_seen};
 ghost use Rattle.c_types.specs.Table.{Grows, Table, tags, type_at};
 ghost use Rattle.c_meaning.specs.CoreTrees.{IsIn, seen};
 ghost use Rattle.c_meaning.specs.Initialising.{can_be_initialised as initialisable, stored, whole};
@@ -11,7 +12,6 @@ ghost use Rattle.c_check_expr.specs.AtNode.{Tells};
 ghost use Rattle.c_check_expr.specs.Known.{AreSymbolsIn};
 ghost use Rattle.c_check_expr.specs.Walks.{Walks};
 ghost use Rattle.c_initialisers.specs.Objects.{IsFilledIn, filled_in, object_in};
-ghost use Rattle.c_initialisers.specs.Seen.{initialiser_seen};
 ghost use Rattle.c_initialisers.specs.Storing.{IsFillingIn, filling_in};
 ghost use Rattle.c_initialisers.specs.Waiting.{IsPlaceIn, found_in, place_in};
 ghost use Rattle.c_initialisers.specs.Wholes.{object_of, whole_in, whole_list as list_whole, whole_value as value_whole};

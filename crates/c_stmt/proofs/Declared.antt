@@ -6,9 +6,9 @@ use Rattle.c_ast.specs.Heights.{declaration_height}
 use Rattle.c_ast.specs.Trees.{SpecifiersTree, InitTree, DeclarationTree, Declares}
 use Rattle.c_ast.specs.ValueHeights.{capped}
 use Rattle.c_ast.specs.UnitValueHeights.{declaration_high}
+use Rattle.c_ast.specs.SeenUnits.{declaration_seen}
 use Rattle.c_readings.specs.Reading.{State}
 use Rattle.c_readings.specs.UnitReaders.{declares}
-use Rattle.c_decl.specs.Seen.{declaration_seen}
 
 -- the measured height is that of its parts
 measured : (d : Declaration) (x : DeclarationTree) → declaration_seen d ≡ x → declaration_high d ≡ declaration_height x

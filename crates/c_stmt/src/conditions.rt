@@ -1,8 +1,8 @@
 //! Expressions and names in statements.
 ghost use Rattle.std.specs.Prelude.{◌≡◌, ◌≤◌, None, Some, IfOk, IfErr};
+ghost use Rattle.c_ast.specs.Seen.{expr_seen, maybe_expr_seen};
 ghost use Rattle.c_readings.specs.Readers.{readers};
 ghost use Rattle.c_readings.specs.StatementReaders as reader;
-ghost use Rattle.c_expr.specs.Seen.{expr_seen, maybe_expr_seen};
 ghost use Rattle.c_expr.specs.State.{ahead};
 ghost use Rattle.c_decl.specs.Going.{Goes, Breaks, Fails};
 

@@ -2,12 +2,12 @@
 ghost use Rattle.std.specs.Prelude.{◌≡◌, ◌≤◌, None, Some, map, IfOk, IfErr};
 ghost use Rattle.c_ast.specs.UnitMarks.{maybe_typedef as has_any_typedef};
 ghost use Rattle.c_ast.specs.UnitViews.{option_of};
+ghost use Rattle.c_ast.specs.Seen.{declarator_seen, specifiers_seen};
+ghost use Rattle.c_ast.specs.SeenUnits.{init_seen};
 ghost use Rattle.c_readings.specs.Readers.{readers};
 ghost use Rattle.c_readings.specs.UnitReaders as reader;
-ghost use Rattle.c_expr.specs.Seen.{declarator_seen, specifiers_seen};
 ghost use Rattle.c_expr.specs.State.{ahead};
 ghost use Rattle.c_decl.specs.Going.{Goes, Breaks, Fails};
-ghost use Rattle.c_decl.specs.Seen.{init_seen};
 ghost use Rattle.c_stmt.specs.Seen.{block_seen, external_seen};
 
 use crate::nodes::{declares, empty, function};

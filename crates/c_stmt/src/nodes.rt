@@ -3,8 +3,8 @@ ghost use Rattle.std.specs.Prelude.{◌≡◌, map};
 ghost use Rattle.c_ast.specs.Trees.{Labelled, Case, Default, Evaluate, Compound, If, IfElse, Switch, While, Do, For, Goto, Continue, Break, Return, Function, Declares, Empty};
 ghost use Rattle.c_ast.specs.Trees.{Block as BlockNode};
 ghost use Rattle.c_ast.specs.UnitViews.{option_of, statements_of};
-ghost use Rattle.c_expr.specs.Seen.{declarator_seen, expr_seen, maybe_expr_seen, specifiers_seen};
-ghost use Rattle.c_decl.specs.Seen.{declaration_seen};
+ghost use Rattle.c_ast.specs.Seen.{declarator_seen, expr_seen, maybe_expr_seen, specifiers_seen};
+ghost use Rattle.c_ast.specs.SeenUnits.{declaration_seen};
 ghost use Rattle.c_stmt.specs.Seen.{block_seen, external_seen, statement_seen, unit_seen};
 
 use c_ast::{

@@ -2,10 +2,10 @@
 ghost use Rattle.std.specs.Prelude.{◌≡◌, ◌≤◌, not, map, None, Some, IfOk, IfErr};
 ghost use Rattle.c_ast.specs.Marks.{IsSign};
 ghost use Rattle.c_ast.specs.Trees.{Compound};
+ghost use Rattle.c_ast.specs.Seen.{expr_seen};
 ghost use Rattle.c_readings.specs.Reading.{answer, bind, gives, open_state};
 ghost use Rattle.c_readings.specs.Readers.{readers};
 ghost use Rattle.c_readings.specs.StatementReaders as reader;
-ghost use Rattle.c_expr.specs.Seen.{expr_seen};
 ghost use Rattle.c_expr.specs.State.{ahead, Took};
 ghost use Rattle.c_decl.specs.Going.{Goes, Breaks, Fails};
 ghost use Rattle.c_decl.specs.Stopping.{Stopped};

@@ -8,7 +8,7 @@ use Rattle.c_ast.specs.Views.{members_of, fields_of, enumerators_of, suffixes_of
 use Rattle.c_readings.specs.Reading.{bind, gives, answer, beyond, here, one_sign, commas}
 use Rattle.c_readings.specs.Readers.{readers, specifiers, specifier, some_specifiers, members, fields, field, enumerators, enumerator, goes_on_without, suffixes, suffix, parameters, parameter}
 use Rattle.c_expr.specs.Answers.{at, comma_end, dots_end}
-use Rattle.c_expr.specs.Seen.{expr_seen, specifier_seen, member_seen, field_seen, enumerator_seen, suffix_seen, parameter_seen}
+use Rattle.c_ast.specs.Seen.{expr_seen, specifier_seen, member_seen, field_seen, enumerator_seen, suffix_seen, parameter_seen}
 use Rattle.c_expr.proofs.Chained.{ChainLeft}
 use Rattle.c_readings.specs.Loops.{Left, CommasLeft}
 use Rattle.c_expr.proofs.+syntax.Given as goal

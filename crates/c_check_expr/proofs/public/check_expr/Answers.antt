@@ -1,9 +1,9 @@
 use Rattle.c_ast.specs.Views.{expr_of}
+use Rattle.c_ast.specs.Seen.{expr_seen}
 use Rattle.c_meaning.specs.Postorder.{nodes}
 use Rattle.c_meaning.specs.Typing.{typed}
 use Rattle.c_meaning.specs.TypingRelation.{Types}
 use Rattle.c_check_expr.specs.Known.{state_of}
-use Rattle.c_check_expr.specs.Seen.{expr_seen}
 use Rattle.c_check_expr.specs.TypedIn.{expr_in}
 use Rattle.c_check_expr.specs.Walks.{core}
 use Rattle.c_check_expr.proofs.PublicWalks.{breaks, passes, relates}

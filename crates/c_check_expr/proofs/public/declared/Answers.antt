@@ -1,4 +1,4 @@
-use Rattle.c_check_expr.specs.Seen.{declarator_seen, specifiers_seen}
+use Rattle.c_ast.specs.Seen.{declarator_seen, specifiers_seen}
 use Rattle.c_check_expr.proofs.PublicWalks.{declared_goes, declared_stops, declared_stops_second}
 use Rattle.c_check_expr.proofs.public.declared.Goals as goal
 

@@ -1,10 +1,10 @@
 use Rattle.c_ast.specs.Views.{declarator_of, specifiers_of}
+use Rattle.c_ast.specs.Seen.{declarator_seen, specifiers_seen}
 use Rattle.c_types.specs.Table.{type_at}
 use Rattle.c_meaning.specs.Postorder.{declared_nodes}
 use Rattle.c_meaning.specs.Typing.{typed_declared}
 use Rattle.c_meaning.specs.TypingRelation.{TypesDeclared}
 use Rattle.c_check_expr.specs.Known.{state_of}
-use Rattle.c_check_expr.specs.Seen.{declarator_seen, specifiers_seen}
 use Rattle.c_check_expr.specs.TypedIn.{declared_in}
 use Rattle.c_check_expr.proofs.PublicWalks.{breaks, passes, relates}
 use Rattle.c_check_expr.proofs.public.declared_type.Goals as goal

@@ -1,4 +1,4 @@
-use Rattle.c_check_expr.specs.Seen.{declarator_seen}
+use Rattle.c_ast.specs.Seen.{declarator_seen}
 use Rattle.c_check_expr.proofs.WalkTypes.{shape_goes, shape_stops}
 use Rattle.c_check_expr.proofs.public.shape_of.Goals as goal
 

@@ -2,8 +2,8 @@ use Rattle.std.proofs.Common.{◌≡◌, ◌≢◌, Bool, false, not, List, [], 
 use Rattle.std.proofs.lemmas.Bool.Decides.{nat_tests}
 use Rattle.c_ast.specs.declared.expr.Parameter.{Parameter}
 use Rattle.c_ast.specs.Views.{parameters_of}
+use Rattle.c_ast.specs.Seen.{parameter_seen as parameter_tree}
 use Rattle.c_meaning.specs.Typing.{stands_alone}
-use Rattle.c_check_expr.specs.Seen.{parameter_tree}
 use Rattle.c_check_expr.proofs.walk_declarators.stands_alone.Goals as goal
 
 one : (ps : List Parameter) (more : Bool) → length ps ≡ 1 → not more ≡ stands_alone (parameters_of (map parameter_tree ps)) more

@@ -1,6 +1,6 @@
 use Rattle.std.proofs.Common.{refl, sym, ◌∙◌, arith}
+use Rattle.c_ast.specs.SeenUnits.{declaration_seen}
 use Rattle.c_decl.specs.Productions as production
-use Rattle.c_decl.specs.Seen.{declaration_seen}
 use Rattle.c_decl.specs.Stopping.{Again}
 use Rattle.c_decl.specs.TakingLaws.{if_took, if_stopped}
 use Rattle.c_decl.proofs.declarations.declaration.Goals as goal

@@ -1,12 +1,12 @@
 -- What the loop over declarations keeps.
 use Rattle.std.proofs.Common.{map, length, Bool, true}
 use Rattle.c_ast.specs.Marks.{IsDeclaration}
+use Rattle.c_ast.specs.SeenUnits.{declaration_seen}
 use Rattle.c_readings.specs.Reading.{answer, gives}
 use Rattle.c_readings.specs.Readers.{readers}
 use Rattle.c_readings.specs.DeclarationReaders as reader
 use Rattle.c_expr.specs.State.{ahead}
 use Rattle.c_decl.specs.Going.{Goes}
-use Rattle.c_decl.specs.Seen.{declaration_seen}
 use Rattle.c_readings.specs.Loops.{Left}
 use Rattle.c_decl.proofs.declarations.declarations_to.Given as goal
 

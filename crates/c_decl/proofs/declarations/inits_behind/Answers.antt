@@ -1,12 +1,12 @@
 -- The loop over declarators.
 use Rattle.std.proofs.Common.{map, refl, sym, ap, ◌∙◌, arith}
+use Rattle.c_ast.specs.Seen.{declarator_seen}
+use Rattle.c_ast.specs.SeenUnits.{init_seen}
 use Rattle.c_readings.specs.Reading.{gives, one_sign}
 use Rattle.c_readings.specs.Readers.{readers}
 use Rattle.c_readings.specs.DeclarationReaders.{inits_behind}
 use Rattle.c_readings.specs.DeclarationReaders as reader
-use Rattle.c_expr.specs.Seen.{declarator_seen}
 use Rattle.c_expr.specs.State.{ahead}
-use Rattle.c_decl.specs.Seen.{init_seen}
 use Rattle.c_decl.specs.GoingLaws.{err, if_err, passed, goes_then, no_sign, some_sign}
 use Rattle.c_readings.specs.Loops.{commas_on, commas_go, commas_stop, commas_end, seen_more}
 use Rattle.c_decl.proofs.declarations.inits_behind.Goals as goal

@@ -1,12 +1,12 @@
 -- What the loop over declarators keeps.
 use Rattle.std.proofs.Common.{map, length}
+use Rattle.c_ast.specs.Seen.{declarator_seen}
+use Rattle.c_ast.specs.SeenUnits.{init_seen}
 use Rattle.c_readings.specs.Reading.{gives, one_sign}
 use Rattle.c_readings.specs.Readers.{readers}
 use Rattle.c_readings.specs.DeclarationReaders as reader
-use Rattle.c_expr.specs.Seen.{declarator_seen}
 use Rattle.c_expr.specs.State.{ahead}
 use Rattle.c_decl.specs.Going.{Goes}
-use Rattle.c_decl.specs.Seen.{init_seen}
 use Rattle.c_readings.specs.Loops.{CommasLeft}
 use Rattle.c_decl.proofs.declarations.inits_behind.Given as goal
 

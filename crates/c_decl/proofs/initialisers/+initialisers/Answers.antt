@@ -1,12 +1,12 @@
 -- The loop over initialisers in braces.
 use Rattle.std.proofs.Common.{Bool, true, map, refl, sym, ap, ◌∙◌, arith}
 use Rattle.c_ast.specs.UnitViews.{initialisers_of}
+use Rattle.c_ast.specs.SeenUnits.{initialiser_seen}
 use Rattle.c_readings.specs.Reading.{beyond}
 use Rattle.c_readings.specs.Readers.{readers, goes_on_without}
 use Rattle.c_readings.specs.DeclarationReaders.{initialiser, initialisers}
 use Rattle.c_expr.specs.Answers.{comma_end}
 use Rattle.c_expr.specs.State.{ahead}
-use Rattle.c_decl.specs.Seen.{initialiser_seen}
 use Rattle.c_decl.specs.GoingLaws.{err, if_err, passed, goes_then}
 use Rattle.c_decl.proofs.Exits.{no_brace, some_brace}
 use Rattle.c_readings.specs.Loops.{starts_behind, goes, stops, ends, seen_more}

@@ -1,13 +1,13 @@
 -- What falls in the cycle of initialisers: the limit, and with the same one the list before its items; and what its loop keeps.
 use Rattle.std.proofs.Common.{◌+◌, ◌*◌, map, length, Bool, true}
 use Rattle.c_ast.specs.UnitViews.{initialisers_of}
+use Rattle.c_ast.specs.SeenUnits.{initialiser_seen}
 use Rattle.c_readings.specs.Reading.{beyond}
 use Rattle.c_readings.specs.Readers.{readers, goes_on_without}
 use Rattle.c_readings.specs.DeclarationReaders.{initialiser, initialisers}
 use Rattle.c_expr.specs.Answers.{comma_end}
 use Rattle.c_expr.specs.State.{ahead}
 use Rattle.c_decl.specs.Going.{Goes}
-use Rattle.c_decl.specs.Seen.{initialiser_seen}
 use Rattle.c_readings.specs.Loops.{Left}
 use Rattle.c_decl.proofs.initialisers.+initialisers.Given as goal
 

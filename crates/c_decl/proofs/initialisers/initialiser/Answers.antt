@@ -1,6 +1,6 @@
 use Rattle.std.proofs.Common.{refl, sym, ◌∙◌, arith}
+use Rattle.c_ast.specs.SeenUnits.{initialiser_seen}
 use Rattle.c_decl.specs.Productions as production
-use Rattle.c_decl.specs.Seen.{initialiser_seen}
 use Rattle.c_decl.specs.Stopping.{Again}
 use Rattle.c_decl.specs.TakingLaws.{if_took, if_stopped}
 use Rattle.c_decl.proofs.initialisers.initialiser.Goals as goal

@@ -1,7 +1,7 @@
 use Rattle.std.proofs.Common.{inr, arith}
 use Rattle.c_ast.specs.Heights.{height}
 use Rattle.c_ast.specs.ValueHeights.{expr_high}
-use Rattle.c_expr.specs.Seen.{expr_seen}
+use Rattle.c_ast.specs.Seen.{expr_seen}
 use Rattle.c_expr.specs.State.{ahead}
 use Rattle.c_decl.proofs.Lows.{low_read, high_read, measured_high, measured_low}
 use Rattle.c_decl.proofs.parts.if_low.Goals as goal

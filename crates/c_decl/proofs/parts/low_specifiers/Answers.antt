@@ -1,10 +1,10 @@
 use Rattle.std.proofs.Common.{inr, arith}
 use Rattle.c_ast.specs.Heights.{specifiers_height}
 use Rattle.c_ast.specs.ValueHeights.{specifiers_high}
+use Rattle.c_ast.specs.Seen.{specifiers_seen}
 use Rattle.c_readings.specs.Readers.{specifiers}
 use Rattle.c_readings.specs.DeclarationReaders.{low_specifiers}
 use Rattle.c_readings.specs.Readers.{readers}
-use Rattle.c_expr.specs.Seen.{specifiers_seen}
 use Rattle.c_expr.specs.State.{ahead}
 use Rattle.c_decl.proofs.Lows.{low_read, high_read, measured_high, measured_low}
 use Rattle.c_decl.proofs.parts.low_specifiers.Goals as goal

@@ -3,11 +3,11 @@ use Rattle.c_ast.specs.ExprMarks.{declared_name}
 use Rattle.c_ast.specs.Heights.{declarator_height}
 use Rattle.c_ast.specs.ValueHeights.{declarator_high}
 use Rattle.c_ast.specs.Trees.{DeclaratorTree}
+use Rattle.c_ast.specs.Seen.{declarator_seen}
 use Rattle.c_readings.specs.Reading.{State, Read, bind, gives, forget_state, put_state}
 use Rattle.c_readings.specs.Readers.{readers}
 use Rattle.c_readings.specs.Exact.{where_left}
 use Rattle.c_readings.specs.DeclarationReaders.{whole_declarator}
-use Rattle.c_expr.specs.Seen.{declarator_seen}
 use Rattle.c_expr.specs.State.{ahead}
 use Rattle.c_decl.proofs.Lows.{low_read, high_read, measured_high, measured_low}
 use Rattle.c_decl.proofs.parts.whole_declarator.Goals as goal

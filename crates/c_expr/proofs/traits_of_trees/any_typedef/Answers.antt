@@ -2,7 +2,7 @@ use Rattle.std.proofs.Common.{◌≤◌, length, map, sym, ◌∙◌, arith}
 use Rattle.std.proofs.lemmas.List.{at_drop_all}
 use Rattle.c_ast.specs.ExprMarks.{any_typedef}
 use Rattle.c_ast.specs.Views.{specifier_list_of}
-use Rattle.c_expr.specs.Seen.{specifier_seen}
+use Rattle.c_ast.specs.Seen.{specifier_seen}
 use Rattle.c_expr.proofs.Searches.{at_specifier, behind_specifier}
 use Rattle.c_expr.proofs.traits_of_trees.any_typedef.Goals as goal
 

@@ -1,7 +1,7 @@
 use Rattle.std.proofs.Common.{◌≡◌, map, drop}
 use Rattle.c_ast.specs.ExprMarks.{any_typedef}
 use Rattle.c_ast.specs.Views.{specifier_list_of}
-use Rattle.c_expr.specs.Seen.{specifier_seen}
+use Rattle.c_ast.specs.Seen.{specifier_seen}
 use Rattle.c_expr.proofs.traits_of_trees.any_typedef.Given as goal
 
 -- those behind say the same

@@ -2,7 +2,7 @@ use Rattle.std.proofs.Common.{◌≤◌, length, not, map, sym, ap, ◌∙◌, a
 use Rattle.std.proofs.lemmas.List.{at_drop_all}
 use Rattle.c_ast.specs.Levels.{no_name_lists}
 use Rattle.c_ast.specs.Views.{suffixes_of}
-use Rattle.c_expr.specs.Seen.{suffix_seen}
+use Rattle.c_ast.specs.Seen.{suffix_seen}
 use Rattle.c_expr.proofs.Searches.{at_suffix, behind_suffix}
 use Rattle.c_expr.proofs.traits_of_trees.has_name_list.Goals as goal
 

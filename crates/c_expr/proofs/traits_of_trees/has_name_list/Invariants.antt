@@ -1,7 +1,7 @@
 use Rattle.std.proofs.Common.{◌≡◌, map, drop}
 use Rattle.c_ast.specs.Levels.{no_name_lists}
 use Rattle.c_ast.specs.Views.{suffixes_of}
-use Rattle.c_expr.specs.Seen.{suffix_seen}
+use Rattle.c_ast.specs.Seen.{suffix_seen}
 use Rattle.c_expr.proofs.traits_of_trees.has_name_list.Given as goal
 
 -- those behind say the same

@@ -1,7 +1,7 @@
 use Rattle.std.proofs.Common.{◌&&◌, map, sym, ap, ◌∙◌}
 use Rattle.c_ast.specs.ExprMarks.{no_suffixes}
 use Rattle.c_ast.specs.Views.{suffixes_of}
-use Rattle.c_expr.specs.Seen.{suffix_seen}
+use Rattle.c_ast.specs.Seen.{suffix_seen}
 use Rattle.c_expr.proofs.Bare.{no_pointers_if, no_suffixes_if}
 use Rattle.c_expr.proofs.traits_of_trees.is_bare.Goals as goal
 

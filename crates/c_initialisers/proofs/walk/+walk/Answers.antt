@@ -1,12 +1,13 @@
 use Rattle.std.proofs.Common.{map, sym, ap, ◌∙◌, arith}
-use Rattle.c_meaning.specs.Initialising.{is_scalar_at, is_within}
 use Rattle.c_ast.specs.UnitViews.{initialisers_of}
+use Rattle.c_ast.specs.SeenUnits.{initialiser_seen}
+use Rattle.c_ast.specs.SeenUnits.{form_list}
+use Rattle.c_meaning.specs.Initialising.{is_scalar_at, is_within}
 use Rattle.c_check_expr.specs.Kept.{keeps_itself, keeps_on}
-use Rattle.c_initialisers.specs.Seen.{initialiser_seen}
 use Rattle.c_initialisers.specs.Storing.{filling_in}
 use Rattle.c_initialisers.proofs.Braces.{list_breaks, list_goes, list_stops}
 use Rattle.c_initialisers.proofs.FillingStays.{filling_later}
-use Rattle.c_initialisers.proofs.SeenNodes.{form_expr, form_list}
+use Rattle.c_initialisers.proofs.SeenNodes.{form_expr}
 use Rattle.c_initialisers.proofs.Walked.{item_as, items_end, items_on, items_start, items_stop, value_stops, value_walk}
 use Rattle.c_initialisers.proofs.walk.+walk.Goals as goal
 

@@ -2,6 +2,8 @@ use Rattle.std.proofs.Common.{◌≡◌, map, refl, sym, ap, ◌∙◌, subst}
 use Rattle.std.specs.Prelude.{not, IfErr, IfOk}
 use Rattle.c_ast.specs.Trees.{Braced}
 use Rattle.c_ast.specs.UnitViews.{initialisers_of}
+use Rattle.c_ast.specs.SeenUnits.{initialiser_seen}
+use Rattle.c_ast.specs.SeenUnits.{form_list}
 use Rattle.c_types.specs.Table.{tags, type_at}
 use Rattle.c_meaning.specs.CoreTrees.{seen}
 use Rattle.c_meaning.specs.Initialising.{Initialised}
@@ -13,10 +15,9 @@ use Rattle.c_check_expr.specs.Kept.{keeps_itself}
 use Rattle.c_check_expr.specs.Walking.{memory_stops}
 use Rattle.c_initialisers.specs.declared.nodes.Standing.{Standing}
 use Rattle.c_initialisers.specs.Objects.{IsFilledIn, filled_in, object_in}
-use Rattle.c_initialisers.specs.Seen.{initialiser_seen}
 use Rattle.c_initialisers.specs.Storing.{filling_in}
 use Rattle.c_initialisers.specs.Wholes.{whole_in, whole_list, whole_value}
-use Rattle.c_initialisers.proofs.SeenNodes.{form_expr, form_list}
+use Rattle.c_initialisers.proofs.SeenNodes.{form_expr}
 use Rattle.c_initialisers.proofs.WholeWalks.{object_stays, whole_as, whole_list_goes, whole_list_stops, whole_value_goes, whole_value_stops}
 use Rattle.c_initialisers.proofs.whole.whole.Goals as goal
 

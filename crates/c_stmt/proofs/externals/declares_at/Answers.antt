@@ -1,10 +1,10 @@
 use Rattle.std.proofs.Common.{map, Some, inr, sym, ap, ◌∙◌, arith}
 use Rattle.c_ast.specs.Trees.{Declares}
 use Rattle.c_ast.specs.UnitViews.{option_of}
+use Rattle.c_ast.specs.Seen.{specifiers_seen}
+use Rattle.c_ast.specs.SeenUnits.{init_seen}
 use Rattle.c_readings.specs.UnitReaders as reader
-use Rattle.c_expr.specs.Seen.{specifiers_seen}
 use Rattle.c_expr.specs.State.{ahead}
-use Rattle.c_decl.specs.Seen.{init_seen}
 use Rattle.c_stmt.proofs.Declared.{too_high, low_enough}
 use Rattle.c_stmt.proofs.externals.declares_at.Goals as goal
 

@@ -1,7 +1,7 @@
 use Rattle.std.proofs.Common.{false, true, ap, sym, ◌∙◌, length}
 use Rattle.c_ast.specs.InForce.{forgotten}
 use Rattle.c_expr.specs.Productions.{declarator}
-use Rattle.c_expr.specs.Seen.{declarator_seen}
+use Rattle.c_ast.specs.Seen.{declarator_seen}
 use Rattle.c_expr.specs.State.{ahead}
 use Rattle.c_expr.proofs.Taken.{took_by, refused_by, again, declarator_exact, some_declarator, declarator_given, declarator_fails}
 use Rattle.c_expr.proofs.parser.Parser.declarator.Goals as goal

@@ -1,7 +1,7 @@
 use Rattle.std.proofs.Common.{ap, sym, ◌∙◌, length, arith}
 use Rattle.c_readings.specs.Readers.{readers}
 use Rattle.c_expr.specs.Productions.{expression}
-use Rattle.c_expr.specs.Seen.{expr_seen}
+use Rattle.c_ast.specs.Seen.{expr_seen}
 use Rattle.c_expr.specs.State.{ahead}
 use Rattle.c_expr.proofs.Taken.{took_by, refused_by, again, piece_exact}
 use Rattle.c_expr.proofs.parser.Parser.piece.Goals as goal

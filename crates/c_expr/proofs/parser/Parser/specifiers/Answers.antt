@@ -1,7 +1,7 @@
 use Rattle.std.proofs.Common.{ap, sym, ◌∙◌, length, arith}
 use Rattle.c_readings.specs.Readers.{readers, specifiers}
 use Rattle.c_expr.specs.Productions as production
-use Rattle.c_expr.specs.Seen.{specifiers_seen}
+use Rattle.c_ast.specs.Seen.{specifiers_seen}
 use Rattle.c_expr.specs.State.{ahead}
 use Rattle.c_expr.proofs.Taken.{took_by, refused_by, again, specifiers_exact}
 use Rattle.c_expr.proofs.parser.Parser.specifiers.Goals as goal

@@ -1,7 +1,7 @@
 use Rattle.std.proofs.Common.{ap, sym, ◌∙◌, length, arith}
 use Rattle.c_readings.specs.Readers.{readers, type_name}
 use Rattle.c_expr.specs.Productions as production
-use Rattle.c_expr.specs.Seen.{type_name_seen}
+use Rattle.c_ast.specs.Seen.{type_name_seen}
 use Rattle.c_expr.specs.State.{ahead}
 use Rattle.c_expr.proofs.Taken.{took_by, refused_by, again, type_name_exact}
 use Rattle.c_expr.proofs.parser.Parser.type_name.Goals as goal

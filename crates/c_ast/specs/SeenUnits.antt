@@ -1,15 +1,33 @@
--- The trees of initialisers and declarations, one layer at a time, as contracts speak of them.
+-- The trees of initialisers and declarations, as contracts of readers and checkers speak of them: they are not unfolded
+-- there; and one layer of them at a time.
 use Rattle.std.proofs.Common.{◌≡◌, ℕ, Option, Some, None, map, refl, ap}
 use Rattle.std.specs.Global.{Box}
 use Rattle.c_ast.specs.declared.statement.Initialiser.{Initialiser as InitialiserValue, out-Initialiser}
+use Rattle.c_ast.specs.declared.statement.InitialiserForm.{InitialiserForm}
 use Rattle.c_ast.specs.declared.statement.InitialiserForm.TheVariants as initialiser_form
 use Rattle.c_ast.specs.declared.statement.InitDeclarator.{InitDeclarator}
 use Rattle.c_ast.specs.declared.statement.Declaration.{Declaration}
-use Rattle.c_ast.specs.Trees.{InitialiserTree, ByExpr, Braced}
-use Rattle.c_ast.specs.UnitViews.{boxed_initialiser_of, initialisers_of, option_of}
+use Rattle.c_ast.specs.Trees.{InitialiserTree, InitTree, DeclarationTree, ByExpr, Braced}
+use Rattle.c_ast.specs.UnitViews.{boxed_initialiser_of, declaration_of, init_of, initialiser_form_of, initialiser_of, initialisers_of, option_of}
 use Rattle.c_ast.specs.UnitLayers.{initialiser_is, is_expr, is_list}
-use Rattle.c_expr.specs.Seen.{declarator_seen, expr_seen, specifiers_seen}
-use Rattle.c_decl.specs.Seen.{boxed_initialiser_seen, declaration_seen, init_seen, initialiser_form_seen, initialiser_seen}
+use Rattle.c_ast.specs.Seen.{declarator_seen, expr_seen, specifiers_seen}
+
+unfoldable pub initialiser_seen : InitialiserValue → InitialiserTree
+initialiser_seen v = initialiser_of v
+
+abbrev pub boxed_initialiser_seen : Box InitialiserValue → InitialiserTree
+boxed_initialiser_seen b = initialiser_seen b.value
+
+unfoldable pub initialiser_form_seen : InitialiserForm → ℕ → InitialiserTree
+initialiser_form_seen v line = initialiser_form_of v line
+
+unfoldable pub init_seen : InitDeclarator → InitTree
+init_seen v = init_of v
+
+unfoldable pub declaration_seen : Declaration → DeclarationTree
+declaration_seen v = declaration_of v
+
+-- ---- one layer at a time
 
 pub initialiser_parts : (v : InitialiserValue) → initialiser_seen v ≡ initialiser_form_seen (out-Initialiser v).form (out-Initialiser v).line
 unfolding initialiser_seen initialiser_form_seen

@@ -17,7 +17,7 @@ use Rattle.c_ast.specs.Trees.{SpecifierTree, SuffixTree, TypeNamed, Specified, S
 use Rattle.c_ast.specs.Views.{enumerators_of, fields_of, maybe_declarator_of, members_of, parameters_of, specifier_list_of, suffixes_of, declarator_of}
 use Rattle.c_ast.specs.UnitViews.{option_of, maybe_of}
 use Rattle.c_ast.specs.Layers.{declarator_is, enumerator_is, field_is, member_is, parameter_is, specifier_is, specifiers_is, suffix_is, type_name_is, is_array, is_basic, is_declared, is_empty, is_enum, is_enum_tag, is_named, is_names, is_omitted, is_parameters, is_parentheses, is_qualifier, is_record, is_record_tag, is_storage}
-use Rattle.c_check_expr.specs.Seen.{core_seen, declarator_seen, enumerator_seen, expr_seen, field_seen, maybe_declarator_seen, maybe_expr_seen, member_seen, parameter_tree, specifier_form_seen, specifier_seen, specifiers_seen, suffix_form_seen, suffix_seen, type_name_seen}
+use Rattle.c_ast.specs.Seen.{core_seen, declarator_seen, enumerator_seen, expr_seen, field_seen, maybe_declarator_seen, maybe_expr_seen, member_seen, parameter_seen, specifier_form_seen, specifier_seen, specifiers_seen, suffix_form_seen, suffix_seen, type_name_seen}
 
 -- ---- what may be left out
 
@@ -91,8 +91,8 @@ pub type_name_parts : (v : TypeNameValue) → type_name_seen v ≡ TypeNamed (ou
 unfolding type_name_seen specifiers_seen
 type_name_parts v = type_name_is v ∙ ap (TypeNamed (out-TypeName v).line (specifiers_seen (out-TypeName v).specifiers)) (any_declarator (out-TypeName v).declarator)
 
-pub parameter_parts : (v : ParameterValue) → parameter_tree v ≡ Parameter (out-Parameter v).line (specifiers_seen (out-Parameter v).specifiers) (maybe_declarator_seen (out-Parameter v).declarator)
-unfolding parameter_tree specifiers_seen
+pub parameter_parts : (v : ParameterValue) → parameter_seen v ≡ Parameter (out-Parameter v).line (specifiers_seen (out-Parameter v).specifiers) (maybe_declarator_seen (out-Parameter v).declarator)
+unfolding parameter_seen specifiers_seen
 parameter_parts v = parameter_is v ∙ ap (Parameter (out-Parameter v).line (specifiers_seen (out-Parameter v).specifiers)) (any_declarator (out-Parameter v).declarator)
 
 -- ---- declarators
@@ -123,8 +123,8 @@ pub form_array : (o : _) (line : ℕ) → suffix_form_seen (suffix_form.Array o)
 unfolding suffix_form_seen
 form_array o line = ap (λ (g : ℕ → SuffixTree). g line) (is_array o) ∙ ap (ArraySuffix line) (any_expr o)
 
-pub form_parameters : (ps : _) (more : _) (line : ℕ) → suffix_form_seen (suffix_form.Parameters ps more) line ≡ Prototype line (parameters_of (map parameter_tree ps)) more
-unfolding suffix_form_seen parameter_tree
+pub form_parameters : (ps : _) (more : _) (line : ℕ) → suffix_form_seen (suffix_form.Parameters ps more) line ≡ Prototype line (parameters_of (map parameter_seen ps)) more
+unfolding suffix_form_seen parameter_seen
 form_parameters ps more line = ap (λ (g : ℕ → SuffixTree). g line) (is_parameters ps more)
 
 pub form_names : (ns : _) (line : ℕ) → suffix_form_seen (suffix_form.Names ns) line ≡ NameList line ns

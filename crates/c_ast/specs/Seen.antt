@@ -1,5 +1,5 @@
--- The trees that values are, as contracts of readers speak of them: they are not unfolded there.
-use Rattle.std.specs.Prelude.{ℕ, Bool, true, false, Option, Some, None}
+-- The trees that values are, as contracts of readers and checkers speak of them: they are not unfolded there.
+use Rattle.std.specs.Prelude.{ℕ, Option, Some, None}
 use Rattle.c_ast.specs.declared.expr.DeclaratorCore.{DeclaratorCore}
 use Rattle.c_ast.specs.declared.expr.ExprForm.{ExprForm}
 use Rattle.c_ast.specs.declared.expr.SpecifierForm.{SpecifierForm}
@@ -14,7 +14,7 @@ use Rattle.c_ast.specs.declared.expr.Specifier.{Specifier}
 use Rattle.c_ast.specs.declared.expr.Specifiers.{Specifiers}
 use Rattle.c_ast.specs.declared.expr.Suffix.{Suffix}
 use Rattle.c_ast.specs.declared.expr.TypeName.{TypeName}
-use Rattle.c_ast.specs.Trees.{ExprTree, MaybeExpr, TypeNameTree, SpecifiersTree, SpecifierTree, MemberTree, FieldTree, EnumeratorTree, DeclaratorTree, MaybeDeclarator, CoreTree, SuffixTree, ArraySuffix, Prototype, NameList, NoParameters, ParameterTree}
+use Rattle.c_ast.specs.Trees.{ExprTree, MaybeExpr, TypeNameTree, SpecifiersTree, SpecifierTree, MemberTree, FieldTree, EnumeratorTree, DeclaratorTree, MaybeDeclarator, CoreTree, SuffixTree, ParameterTree}
 use Rattle.c_ast.specs.Views.{expr_of, type_name_of, specifiers_of, specifier_of, member_of, field_of, enumerator_of, declarator_of, maybe_declarator_of, maybe_expr_of, suffix_of, parameter_of, core_of, expr_form_of, specifier_form_of, suffix_form_of}
 
 unfoldable pub expr_seen : Expr → ExprTree
@@ -69,10 +69,3 @@ maybe_expr_seen o = maybe_expr_of (if_seen expr_seen o)
 
 abbrev pub maybe_declarator_seen : Option Declarator → MaybeDeclarator
 maybe_declarator_seen o = maybe_declarator_of (if_seen declarator_seen o)
-
--- a list of names in parentheses
-abbrev pub is_name_list : SuffixTree → Bool
-is_name_list (ArraySuffix l e) = false
-is_name_list (Prototype l ps more) = false
-is_name_list (NameList l ns) = true
-is_name_list (NoParameters l) = false
