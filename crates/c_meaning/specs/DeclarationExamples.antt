@@ -243,6 +243,16 @@ sizes_in_blocks : fault_of (nested outside (of (with_class class.Extern) (open_a
 unfolding fold fault_at init_fault decl_fault
 sizes_in_blocks = refl
 
+-- extern int k; { extern enum e k; extern enum e k; }
+enumeration_in_a_block : fault_of (nested outside (of (with_class class.Extern) (name k) ∷ (of (Stored 1 class.Extern ∷ EnumerationTag 1 (codes "e") ∷ []) (name k) ++ again (Stored 1 class.Extern ∷ EnumerationTag 1 (codes "e") ∷ []) (name k)) ∷ [])) ≡ None
+unfolding fold fault_at init_fault decl_fault
+enumeration_in_a_block = refl
+
+-- extern int k; { extern enum e k; extern enum {a} k; }
+two_enumerations_in_a_block : fault_of (nested outside (of (with_class class.Extern) (name k) ∷ (of (Stored 1 class.Extern ∷ EnumerationTag 1 (codes "e") ∷ []) (name k) ++ again (Stored 1 class.Extern ∷ Enumeration 1 None (Enumerators (Enumerator 1 (codes "a") NoExpr) NoEnumerators) false ∷ []) (name k)) ∷ [])) ≡ Some (Breaks 6 2)
+unfolding fold fault_at init_fault decl_fault
+two_enumerations_in_a_block = refl
+
 -- int f();
 function_without_parameters_given : file_fault (of (of_int ∷ []) (function (codes "f"))) ≡ None
 unfolding fold fault_at init_fault decl_fault

@@ -90,10 +90,11 @@ differs_from s of None = false
 differs_from s of (Some id) = not (compatible of (known_at s id).of)
 
 abbrev pub is_linked_otherwise : State → Naming → Bool
-is_linked_otherwise s n = is_linked n.linkage && differs_from s n.of (symbol_named s.links n.name)
+is_linked_otherwise s n =
+    is_linked n.linkage && (differs_from s n.of (place_here s n.name) || differs_from s n.of (symbol_named s.links n.name))
 
--- 6: declarations of one linked name have types that aren't compatible. An array of unknown size has its type completed behind its
--- initialiser (C89 3.5.7), and it is asked again there.
+-- 6: declarations of one linked name have types that aren't compatible: with those of its scope, and with all. An array of unknown
+-- size has its type completed behind its initialiser (C89 3.5.7), and it is asked again there.
 abbrev pub is_declared_otherwise : State → DeclNode → Bool
 is_declared_otherwise s (Name n) = is_linked_otherwise s n
 is_declared_otherwise s (Whole n initialised) = is_linked_otherwise s n
