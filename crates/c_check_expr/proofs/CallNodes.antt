@@ -11,7 +11,7 @@ use Rattle.c_meaning.specs.declared.core_expr.CoreKind.TheVariants as kind
 use Rattle.c_meaning.specs.Constraints.{Breaks, Passes, constraints, count_of, extents, first_broken, first_passed, some_deep, some_large, some_nested, types_formed, value_types}
 use Rattle.c_meaning.specs.CoreTrees.{AreIn, Core, CoreOf, CoresOf, IsIn, NoCore, Cores, all_seen, cores_of, seen, type_of}
 use Rattle.c_meaning.specs.ExprConstraints.{all_passable, are_as_many, are_assignable, is_last_open, is_open_record}
-use Rattle.c_meaning.specs.Nodes.{ExprNode, Expression}
+use Rattle.c_meaning.specs.Nodes.{Expression}
 use Rattle.c_meaning.specs.Nodes as node
 use Rattle.c_meaning.specs.Rows.{call, called, last_type, parameters_type, result_type}
 use Rattle.c_meaning.specs.State.{State}

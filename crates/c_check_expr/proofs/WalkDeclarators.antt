@@ -8,7 +8,7 @@ use Rattle.c_ast.specs.declared.expr.DeclaratorCore.{DeclaratorCore}
 use Rattle.c_ast.specs.declared.expr.Parameter.{Parameter as ParameterSyntax, out-Parameter}
 use Rattle.c_ast.specs.declared.expr.Suffix.{Suffix, out-Suffix}
 use Rattle.c_ast.specs.declared.expr.SuffixForm.{SuffixForm}
-use Rattle.c_ast.specs.Trees.{ADeclarator, CoreTree as CoreSyntax, DeclaratorTree, MaybeDeclarator, MaybeExpr, NoDeclarator, SuffixTree, ParameterTrees}
+use Rattle.c_ast.specs.Trees.{ADeclarator, CoreTree as CoreSyntax, DeclaratorTree, MaybeExpr, NoDeclarator, SuffixTree, ParameterTrees}
 use Rattle.c_ast.specs.Trees as tree
 use Rattle.c_ast.specs.Views.{suffixes_of}
 use Rattle.c_ast.specs.Seen.{core_seen, declarator_seen, maybe_declarator_seen, parameter_seen as parameter_tree, specifiers_seen, suffix_form_seen, suffix_seen}
@@ -20,9 +20,9 @@ use Rattle.c_meaning.specs.CoreTrees.{CoreOf}
 use Rattle.c_meaning.specs.Nodes.{Typing}
 use Rattle.c_meaning.specs.Nodes as node
 use Rattle.c_meaning.specs.State.{State}
-use Rattle.c_meaning.specs.TypeRows.{adjusted, enumerator_value, formed, none_if_void, pointer_steps, with_enumerator, with_parameter}
+use Rattle.c_meaning.specs.TypeRows.{adjusted, formed, pointer_steps, with_parameter}
 use Rattle.c_meaning.specs.TypeRows as rows
-use Rattle.c_meaning.specs.Typing.{Outcome, Fine, at, declared, maybe_typed, shaped, then_do, typed_core, typed_declarator, typed_parameter_shape, typed_parameters, typed_shape, typed_specifiers, typed_suffix, typed_suffixes}
+use Rattle.c_meaning.specs.Typing.{Outcome, Fine, at, declared, maybe_typed, shaped, then_do, typed_core, typed_declarator, typed_parameter_shape, typed_specifiers, typed_suffix, typed_suffixes}
 use Rattle.c_meaning.specs.Typing as typing
 use Rattle.c_values.specs.declared.check_fault.CheckFault.{CheckFault}
 use Rattle.c_check_expr.specs.declared.parts.Declared.{Declared as DeclaredValue}

@@ -17,7 +17,7 @@ use Rattle.c_meaning.specs.Nodes.{Typing}
 use Rattle.c_meaning.specs.Nodes as node
 use Rattle.c_meaning.specs.State.{State, entered, left}
 use Rattle.c_meaning.specs.TypeRows.{enumerator_value, member, none_if_void, with_enumerator}
-use Rattle.c_meaning.specs.Typing.{Outcome, Fine, Bad, at, maybe_typed, then_do, typed_parameters, typed_shape, typed_suffix}
+use Rattle.c_meaning.specs.Typing.{Outcome, Fine, at, maybe_typed, then_do, typed_parameters, typed_shape, typed_suffix}
 use Rattle.c_meaning.specs.Typing as typing
 use Rattle.c_meaning.specs.Values.{CoreTree}
 use Rattle.c_values.specs.declared.check_fault.CheckFault.{CheckFault}

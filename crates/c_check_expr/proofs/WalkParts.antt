@@ -5,7 +5,7 @@ use Rattle.c_ast.specs.declared.expr.Member.{Member as MemberSyntax, out-Member}
 use Rattle.c_ast.specs.declared.expr.Specifier.{Specifier, out-Specifier}
 use Rattle.c_ast.specs.declared.expr.SpecifierForm.{SpecifierForm}
 use Rattle.c_ast.specs.declared.specifier.RecordKind.{RecordKind}
-use Rattle.c_ast.specs.Trees.{ADeclarator, DeclaratorTree, EnumeratorTrees, MaybeDeclarator, MemberTrees, NoDeclarator, SpecifierTree, SuffixTree, ParameterTrees}
+use Rattle.c_ast.specs.Trees.{EnumeratorTrees, MemberTrees, SpecifierTree}
 use Rattle.c_ast.specs.Trees as tree
 use Rattle.c_ast.specs.Views.{fields_of}
 use Rattle.c_ast.specs.Seen.{field_seen, member_seen, specifier_form_seen, specifier_seen, specifiers_seen}
@@ -18,7 +18,7 @@ use Rattle.c_meaning.specs.Nodes.{Typing}
 use Rattle.c_meaning.specs.Nodes as node
 use Rattle.c_meaning.specs.State.{State, place_of}
 use Rattle.c_meaning.specs.TypeRows.{enumerated, number_of, opened}
-use Rattle.c_meaning.specs.Typing.{Outcome, Fine, at, at_record, at_tag, declared, then_do, typed_core, typed_declarator, typed_enumerators, typed_fields, typed_members, typed_part, typed_specifiers, typed_suffixes}
+use Rattle.c_meaning.specs.Typing.{Outcome, Fine, at_record, at_tag, declared, then_do, typed_enumerators, typed_fields, typed_members, typed_part, typed_specifiers}
 use Rattle.c_meaning.specs.Typing as typing
 use Rattle.c_values.specs.declared.check_fault.CheckFault.{CheckFault}
 use Rattle.c_check_expr.specs.declared.parts.Part.{Part}

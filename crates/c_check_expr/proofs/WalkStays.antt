@@ -1,18 +1,15 @@
 -- What a walk has seen over an earlier table is seen over the later one.
 use Rattle.std.proofs.Common.{◌≡◌, ℕ, ◌<◌, Option, Some, None, List, [], ◌∷◌, ◌++◌, length, map, refl, ◌∙◌, arith}
-use Rattle.c_symbols.specs.Scoping.{Scoping}
 use Rattle.c_types.specs.declared.type_form.Member.{Member}
-use Rattle.c_types.specs.Table.{Table, Extends, Grows, AreMembersBelow, member_types, type_at, types}
+use Rattle.c_types.specs.Table.{Table, Extends, AreMembersBelow, member_types, type_at, types}
 use Rattle.c_meaning.specs.CoreTrees.{AreIn, CoreOf, IsIn, all_seen, cores_of, seen}
 use Rattle.c_check_expr.specs.declared.parts.Part.{Part}
 use Rattle.c_check_expr.specs.declared.parts.Part.TheVariants as part
 use Rattle.c_check_expr.specs.declared.parts.NamedParameter.{NamedParameter}
 use Rattle.c_check_expr.specs.declared.parts.Step.{Step}
 use Rattle.c_check_expr.specs.declared.parts.Step.TheVariants as step
-use Rattle.c_check_expr.specs.Keeps.{Keeps}
-use Rattle.c_check_expr.specs.Known.{AreSymbolsIn}
 use Rattle.c_check_expr.specs.PartsSeen.{AreParametersIn, ArePartsIn, AreStepsIn, IsPartIn, IsSizeIn, IsStepIn, parameter_seen, parameters_seen, part_seen, parts_seen, size_seen, step_seen, steps_seen}
-use Rattle.c_values.specs.Stays.{extends_itself, extends_on, in_more, longer, seen_stays}
+use Rattle.c_values.specs.Stays.{in_more, longer, seen_stays}
 use Rattle.c_check_expr.specs.Kept.{below_later}
 
 -- ---- expressions in a list

@@ -14,9 +14,9 @@ use Rattle.c_meaning.specs.CoreTrees.{CoreOf, IsIn}
 use Rattle.c_meaning.specs.Nodes.{Typing}
 use Rattle.c_meaning.specs.Nodes as node
 use Rattle.c_meaning.specs.State.{State}
-use Rattle.c_meaning.specs.TypeRows.{adjusted, enumerator_value, formed, pointer_steps, specified, with_enumerator, with_parameter}
+use Rattle.c_meaning.specs.TypeRows.{formed, specified}
 use Rattle.c_meaning.specs.TypeRows as rows
-use Rattle.c_meaning.specs.Typing.{Outcome, Fine, at, declared, maybe_typed, shaped, then_do, typed, typed_core, typed_declarator, typed_field, typed_fields, typed_parts, typed_shape, typed_specifiers, typed_suffixes}
+use Rattle.c_meaning.specs.Typing.{Outcome, Fine, at, declared, shaped, then_do, typed, typed_declarator, typed_parts, typed_shape, typed_specifiers}
 use Rattle.c_meaning.specs.Typing as typing
 use Rattle.c_values.specs.declared.check_fault.CheckFault.{CheckFault}
 use Rattle.c_check_expr.specs.declared.parts.Declared.{Declared as DeclaredValue}

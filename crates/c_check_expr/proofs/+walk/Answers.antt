@@ -2,7 +2,7 @@
 use Rattle.std.proofs.Common.{rules, ◌≡◌, Some, None, ◌++◌, map, refl, ap, ◌∙◌, arith}
 use Rattle.std.specs.Prelude.{pos, ◌+ℤ◌}
 use Rattle.std.proofs.lemmas.Int.{ints, to_z-of_z}
-use Rattle.c_ast.specs.Trees.{Combined, Assigned, Selected, Enclosed, Variable, IntegerConstant, CharacterConstant, Literal, Prefixed, Stepped, SizedExpr, Subscript}
+use Rattle.c_ast.specs.Trees.{Combined, Assigned, Selected, IntegerConstant, CharacterConstant, Literal, Prefixed, Stepped, SizedExpr, Subscript}
 use mir.Syntax.{w64}
 use mir.Val.{SFits, of_z, to_z}
 use Rattle.c_ast.specs.Trees as tree
