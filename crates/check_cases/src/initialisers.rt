@@ -2,7 +2,7 @@
 //! which constraint breaks is C89 3.5.7, by this compiler's numbers.
 use crate::checking::{Declared, declare_all, parser_of, type_of};
 use c_decl::initialiser;
-use c_initialisers::{Filled, Initialised, initialise};
+use c_initialisers::{Filled, Initialised, fill, initialise};
 use c_symbols::{Scopes, Storage};
 use c_types::TypeTable;
 use c_values::{CheckFault, fold};
@@ -48,6 +48,16 @@ fn filled(
         }
         Err(fault) => Some(Err(fault)),
     }
+}
+
+/// What an initialiser of a local object stores. None where a text is no such thing.
+fn filled_local(alloc: Global, declared: &[u8], text: &[u8]) -> Option<Result<Filled, CheckFault>> {
+    let mut scopes = Scopes::new(alloc).ok()?;
+    let mut types = TypeTable::new(alloc);
+    let of = type_of(alloc, &mut scopes, &mut types, declared)?;
+    let mut parser = parser_of(alloc, text)?;
+    let i = initialiser(&mut parser).ok()?;
+    Some(fill(alloc, &mut scopes, &mut types, of, &i))
 }
 
 /// Whether these constants are stored at these offsets, and nothing else.
@@ -136,6 +146,14 @@ fn places(rt: HostRuntime) -> Result<(), Fail> {
         assert_eq!(rt; bytes, Some(size));
         assert!(rt; stores(&filled, wanted));
     }
+    Ok(())
+}
+
+#[test]
+fn local_objects(rt: HostRuntime) -> Result<(), Fail> {
+    let answer = filled_local(rt.alloc(), b"int a[3]", b"{1, 2}").ok_or("no text")?;
+    let filled = answer.map_err(|_| "refused")?;
+    assert!(rt; stores(&filled, &[(0, 1), (4, 2)]));
     Ok(())
 }
 
