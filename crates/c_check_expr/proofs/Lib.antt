@@ -6,7 +6,6 @@ mod DeclaratorNodes
 mod EnumeratorNodes
 mod FieldNodes
 mod Handed
-mod KnownSymbols
 mod LinkedNames
 mod MemberLists
 mod MemberNodes

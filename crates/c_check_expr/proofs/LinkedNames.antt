@@ -1,5 +1,5 @@
 -- What is known behind the declaration of a name with linkage, and of a call that declares its name.
-use Rattle.std.proofs.Common.{◌≡◌, ℕ, ℤ, pos, Bool, true, false, List, [], ◌∷◌, ◌++◌, length, refl, ap, ◌∙◌}
+use Rattle.std.proofs.Common.{◌≡◌, ℕ, ℤ, pos, Bool, true, false, List, [], refl, ap, ◌∙◌}
 use Rattle.std.specs.Prelude.{Option, Some, None, not}
 use Rattle.c_symbols.specs.declared.symbol.Storage.TheVariants as storage
 use Rattle.c_symbols.specs.declared.symbol.Symbol.{Symbol}
@@ -22,11 +22,6 @@ use Rattle.c_values.specs.declared.check_fault.CheckFault.{CheckFault}
 use Rattle.c_values.specs.declared.check_fault.CheckFault.TheVariants.{Constraint, Limit, Memory}
 use Rattle.c_check_expr.specs.Redeclared.{IsRedeclared}
 use Rattle.c_check_expr.specs.Known.{known_of, state_of}
-use Rattle.c_check_expr.proofs.KnownSymbols.{all_known-append, length-all_known}
-
--- with a further symbol of a name with linkage
-pub linked_state : (old new : Scoping) (t : Table) (name : List ℕ) (y : Symbol) (id : ℕ) → new.outer ≡ old.outer → new.inner ≡ old.inner → new.links ≡ old.links ++ (name, id) ∷ [] → id ≡ length old.symbols → new.symbols ≡ old.symbols ++ y ∷ [] → state_of new t ≡ with_link (state_of old t) name None (known_of (types t) y)
-linked_state old new t name y id o i l e s = rw (o, i, l, s, e, all_known-append (types t) old.symbols y, length-all_known (types t) old.symbols) refl
 
 -- ---- a call of an undeclared name
 

@@ -1,38 +1,20 @@
--- What the public calls say of a walk: typing as a relation, and the first fault.
-use Rattle.std.proofs.Common.{◌≡◌, ℕ, Some, List, ap, ◌∙◌, subst}
-use Rattle.std.specs.Prelude.{Result, Ok, Err, IfOk, IfErr, IsErrAnd}
-use Rattle.lcc_base.specs.declared.which.Which.{Which}
+-- The walk of specifiers with a declarator.
+use Rattle.std.proofs.Common.{◌≡◌, ℕ, ap}
+use Rattle.std.specs.Prelude.{Result, Ok, Err, IsErrAnd}
 use Rattle.c_ast.specs.Trees.{ADeclarator, DeclaratorTree, SpecifiersTree}
 use Rattle.c_symbols.specs.Scoping.{Scoping}
 use Rattle.c_types.specs.CType.{CType}
 use Rattle.c_types.specs.Table.{Table, type_at}
-use Rattle.c_meaning.specs.Constraints.{Breaks, Passes}
-use Rattle.c_meaning.specs.Laws.{IsFirst, IsTyping, fault_of}
-use Rattle.c_meaning.specs.Postorder.{Place, first_fault}
-use Rattle.c_meaning.specs.State.{State}
 use Rattle.c_meaning.specs.TypeRows as rows
-use Rattle.c_meaning.specs.Typing.{Outcome, Fine, Bad, then_do, typed_shape, typed_specifiers}
+use Rattle.c_meaning.specs.Typing.{Fine, then_do, typed_shape, typed_specifiers}
 use Rattle.c_values.specs.declared.check_fault.CheckFault.{CheckFault}
-use Rattle.c_values.specs.declared.check_fault.CheckFault.TheVariants.{Constraint, Limit}
 use Rattle.c_check_expr.specs.declared.parts.Shaped.{Shaped as ShapedValue}
 use Rattle.c_check_expr.specs.declared.parts.Specified.{Specified as SpecifiedValue}
-use Rattle.c_check_expr.specs.AtNode.{Tells}
 use Rattle.c_check_expr.specs.Known.{state_of}
 use Rattle.c_check_expr.specs.PartsSeen.{shaped_seen, specified_seen}
 use Rattle.c_check_expr.specs.TypedIn.{declared_in, shape_in, specifiers_in}
 use Rattle.c_check_expr.specs.Walks.{IsBelow, IsShapeIn, IsSpecifiedIn, Walks}
 use Rattle.c_check_expr.specs.Walking.{both_go, first_stops, second_stops, walk_none}
-
-pub relates : {V T : Type 0} (view : Table → V → T) (o : Outcome T) (types : State → T → Type 0) (u : Scoping) (b : Table) (r : Result V CheckFault) → IsTyping o types → IfOk r (λ v. o ≡ Fine (state_of u b) (view b v)) → IfOk r (λ v. types (state_of u b) (view b v))
-relates view o types u b (Ok v) h k = (h (state_of u b) (view b v)).1 k
-relates view o types u b (Err e) h k = tt
-
--- the fault that is told is the first
-pub breaks : {V T : Type 0} (o : Outcome T) (places : List Place) (r : Result V CheckFault) (n l : ℕ) → IsFirst o places → IfErr r (λ e. Tells e o) → r ≡ Err (Constraint n l) → first_fault places ≡ Some (Breaks n l)
-breaks {V = V} o places r n l h k e = let f : o ≡ Bad (Breaks n l) = subst (λ (x : Result V CheckFault). IfErr x (λ e. Tells e o)) e k in h ∙ ap fault_of f
-
-pub passes : {V T : Type 0} (o : Outcome T) (places : List Place) (r : Result V CheckFault) (w : Which) (l : ℕ) → IsFirst o places → IfErr r (λ e. Tells e o) → r ≡ Err (Limit w l) → first_fault places ≡ Some (Passes w l)
-passes {V = V} o places r w l h k e = let f : o ≡ Bad (Passes w l) = subst (λ (x : Result V CheckFault). IfErr x (λ e. Tells e o)) e k in h ∙ ap fault_of f
 
 -- ---- declared types
 

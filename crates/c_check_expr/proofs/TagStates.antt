@@ -7,10 +7,9 @@ use Rattle.c_types.specs.declared.type_form.TypeForm.{TypeForm}
 use Rattle.c_types.specs.Layout.{Tag}
 use Rattle.c_types.specs.Table.{Adds, Completed, Extends, Table, is_tagged, tag_of, tagged, tags, tags_of}
 use Rattle.c_meaning.specs.State.{counted}
-use Rattle.c_check_expr.specs.Keeps.{Keeps}
 use Rattle.c_check_expr.specs.Known.{AreSymbolsIn, state_of}
-use Rattle.c_check_expr.proofs.KnownSymbols.{tagged-append}
-use Rattle.c_check_expr.specs.SymbolsStay.{symbols_in_later, symbols_stay}
+use Rattle.c_check_expr.specs.KnownSymbols.{tagged-append}
+use Rattle.c_check_expr.specs.SymbolsStay.{symbols_stay}
 
 length-tags_of : (t : Table) (cs : List Completed) → length (tags_of t cs) ≡ length cs
 length-tags_of t [] = refl
@@ -41,7 +40,3 @@ pub state_counted : (s : Scoping) (old new : Table) (f : TypeForm) → Extends o
 state_counted s old new f h e g i =
     let more : tagged new.forms ≡ tagged old.forms + 1 = ap (λ (t : Table). tagged t.forms) e ∙ tagged-append old.forms f ∙ ap (λ b. tagged old.forms + (if b then 1 else 0)) g in
     rw (symbols_stay old new h s.symbols i, tags_kept old new h (ap (λ (t : Table). t.completed) e), more) refl
-
--- what stands in the scopes stays
-pub keeps_later : (s : Scoping) (old new : Table) → Extends old new → AreSymbolsIn (length old.forms) s.symbols → Keeps s old s new
-keeps_later s old new h i = record { outer = refl; extends = h; symbols = symbols_in_later old new h s.symbols i }

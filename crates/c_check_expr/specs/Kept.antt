@@ -13,8 +13,12 @@ keeps_itself s t i = record { outer = refl; extends = extends_itself t; symbols 
 pub keeps_on : (r s u : Scoping) (a b c : Table) → Keeps r a s b → Keeps s b u c → Keeps r a u c
 keeps_on r s u a b c h k = record { outer = k.outer ∙ h.outer; extends = extends_on a b c h.extends k.extends; symbols = k.symbols }
 
+-- whatever the table has further, what stands in the scopes stays
+pub keeps_later : (s : Scoping) (old new : Table) → Extends old new → AreSymbolsIn (length old.forms) s.symbols → Keeps s old s new
+keeps_later s old new h i = record { outer = refl; extends = h; symbols = symbols_in_later old new h s.symbols i }
+
 pub keeps_grown : (s : Scoping) (a b : Table) → AreSymbolsIn (length a.forms) s.symbols → Grows a b → Keeps s a s b
-keeps_grown s a b i g = record { outer = refl; extends = g.extends; symbols = symbols_in_later a b g.extends s.symbols i }
+keeps_grown s a b i g = keeps_later s a b g.extends i
 
 pub below_later : (a b : Table) → Extends a b → (id : ℕ) → id < length a.forms → id < length b.forms
 below_later a b h id l = let n = longer a b h in omega arith

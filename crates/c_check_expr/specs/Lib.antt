@@ -6,6 +6,7 @@ pub mod Counted
 pub mod Keeps
 pub mod Known
 pub mod KnownLaws
+pub mod KnownSymbols
 pub mod Listed
 pub mod MemberNames
 pub mod Operators
@@ -17,6 +18,7 @@ pub mod SomeDeep
 pub mod StepFaults
 pub mod TypedIn
 pub mod Walks
+pub mod Told
 pub mod SymbolsStay
 pub mod Kept
 pub mod Walking

@@ -3,7 +3,7 @@ use Rattle.std.proofs.Common.{◌≡◌, ℕ, length, refl, sym, ap, ◌∙◌, 
 use Rattle.std.specs.Prelude.{Result, Ok, Err, IfOk, IfErr, IsErrAnd}
 use Rattle.std.proofs.lemmas.Int.{to_z-of_z}
 use Rattle.c_symbols.specs.Scoping.{Scoping}
-use Rattle.c_types.specs.Table.{Table, Grows}
+use Rattle.c_types.specs.Table.{Table, Grows, tags}
 use Rattle.c_meaning.specs.CoreTrees.{CoreOf, IsIn}
 use Rattle.c_meaning.specs.Nodes.{ExprNode}
 use Rattle.c_meaning.specs.State.{State}
@@ -86,6 +86,25 @@ walk_node s a b line n r i g ok err within =
       err = refused s a line n r err;
       within = within;
       keeps = keeps_grown s a b i g;
+    }
+
+node_ok : {V T : Type 0} (view : Table → V → T) (node : State → Outcome T) (s u : State) (b d : Table) (r : Result V CheckFault) → s.tags ≡ tags b → u ≡ s → IfOk r (λ v. (s : State) → s.tags ≡ tags b → node s ≡ Fine s (view d v)) → IfOk r (λ v. node s ≡ Fine u (view d v))
+node_ok view node s u b d (Ok v) e g h = h s e ∙ ap (λ x. Fine x (view d v)) (sym g)
+node_ok view node s u b d (Err f) e g h = tt
+
+node_err : {V T : Type 0} (node : State → Outcome T) (s : State) (b : Table) (r : Result V CheckFault) → s.tags ≡ tags b → IfErr r (λ e. (s : State) → s.tags ≡ tags b → Tells e (node s)) → IfErr r (λ e. Tells e (node s))
+node_err node s b (Ok f) e h = tt
+node_err node s b (Err f) e h = h s e
+
+-- a node of any kind whose parts are checked, which looks at no names
+pub walk_grown : {V T : Type 0} (view : Table → V → T) (IsWithin : ℕ → V → Type 0) (node : State → Outcome T) (u : Scoping) (b d : Table) (r : Result V CheckFault) → AreSymbolsIn (length b.forms) u.symbols → Grows b d
+    → IfOk r (λ v. (s : State) → s.tags ≡ tags b → node s ≡ Fine s (view d v)) → IfErr r (λ e. (s : State) → s.tags ≡ tags b → Tells e (node s)) → IfOk r (IsWithin (length d.forms)) → Walks view IsWithin (node (state_of u b)) u b u d r
+walk_grown view IsWithin node u b d r i g ok err within =
+    record {
+      ok = node_ok view node (state_of u b) (state_of u d) b d r refl (state_stays u b d g i) ok;
+      err = node_err node (state_of u b) b r refl err;
+      within = within;
+      keeps = keeps_grown u b d i g;
     }
 
 -- ---- parts in order, and what comes behind them

@@ -22,7 +22,7 @@ use lcc_base::{Bytes, Which};
 use std::alloc::Global;
 
 /// The name and the type of a declarator, over the type of the specifiers, at the declarator's own line.
-pub(crate) fn shape(
+pub fn shape(
     alloc: Global,
     types: &mut TypeTable,
     base: TypeId,

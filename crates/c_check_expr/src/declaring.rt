@@ -11,14 +11,14 @@ use c_types::TypeTable;
 use lcc_base::Memory;
 
 /// The level of the innermost scope. No source has scopes as deep as a number of 32 bits counts.
-pub(crate) fn level(scopes: &Scopes) -> Result<u32, Memory>
+pub fn level(scopes: &Scopes) -> Result<u32, Memory>
     ensures { IfOk result (λ n. n ≡ length scopes.now.outer) }
 {
     u32::try_from(scopes.level()).map_err(|_| Memory)
 }
 
 /// Declares a name that the innermost scope doesn't have.
-pub(crate) fn declare(
+pub fn declare(
     scopes: &mut Scopes,
     types: &TypeTable,
     name: &[u8],

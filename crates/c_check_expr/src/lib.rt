@@ -18,6 +18,7 @@ mod operand_values;
 mod outline;
 mod parameters;
 mod parts;
+pub mod pieces;
 mod public;
 mod specifiers;
 mod step_types;

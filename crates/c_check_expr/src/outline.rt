@@ -72,7 +72,7 @@ pub(crate) fn after(types: &TypeTable, before: Outline, step: &Step) -> Outline
 }
 
 /// The length that the expression of an array's size gives. None where it is no constant above 0.
-pub(crate) fn array_length(types: &TypeTable, size: &Option<CoreExpr>) -> Option<u64>
+pub fn array_length(types: &TypeTable, size: &Option<CoreExpr>) -> Option<u64>
     requires { IsSizeIn (length types.now.forms) size.now }
     ensures { result ≡ length_of (size_seen types.now size.now) }
 {

@@ -6,7 +6,7 @@ use lcc_base::{Bytes, Items};
 
 /// One specifier of a list: a storage class, a qualifier, a word, or a whole type.
 #[derive(Clone, Copy, Debug)]
-pub(crate) enum Part {
+pub enum Part {
     Stored(Storage),
     Qualified(Qualifier),
     Word(BasicType),
@@ -15,21 +15,21 @@ pub(crate) enum Part {
 
 /// What specifiers say: the storage classes, and the type.
 #[derive(Debug, Drop)]
-pub(crate) struct Specified {
-    pub(crate) classes: Items<Storage>,
-    pub(crate) of: TypeId,
+pub struct Specified {
+    pub classes: Items<Storage>,
+    pub of: TypeId,
 }
 
 /// A parameter of a prototype: its name, if it has one, and its type, which is no array and no function.
 #[derive(Debug, Drop)]
-pub(crate) struct NamedParameter {
-    pub(crate) name: Option<Bytes>,
-    pub(crate) of: TypeId,
+pub struct NamedParameter {
+    pub name: Option<Bytes>,
+    pub of: TypeId,
 }
 
 /// What a declarator makes of a type, step by step, from the type outwards (C89 3.5.4).
 #[derive(Drop)]
-pub(crate) enum Step {
+pub enum Step {
     /// A pointer with these qualifiers.
     Pointer(Qualifiers),
     /// An array, with the expression of its size if there is any.
@@ -49,15 +49,15 @@ pub(crate) enum Step {
 
 /// A declarator's line and name, and its steps.
 #[derive(Drop)]
-pub(crate) struct Declared {
-    pub(crate) line: u32,
-    pub(crate) name: Option<Bytes>,
-    pub(crate) steps: Items<Step>,
+pub struct Declared {
+    pub line: u32,
+    pub name: Option<Bytes>,
+    pub steps: Items<Step>,
 }
 
 /// A name, and its type.
 #[derive(Drop)]
-pub(crate) struct Shaped {
-    pub(crate) name: Option<Bytes>,
-    pub(crate) of: TypeId,
+pub struct Shaped {
+    pub name: Option<Bytes>,
+    pub of: TypeId,
 }

@@ -198,7 +198,7 @@ fn classes(alloc: Global, parts: &[Part]) -> Result<Items<Storage>, Memory>
 }
 
 /// What the specifiers of a list say together.
-pub(crate) fn specified(
+pub fn specified(
     alloc: Global,
     types: &mut TypeTable,
     line: u32,

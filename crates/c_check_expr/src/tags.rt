@@ -34,7 +34,7 @@ pub(crate) struct OpenRecord {
 }
 
 /// The name under which a tag stands among the names: with a blank before it, as no other name.
-fn tag_key(alloc: Global, tag: &[u8]) -> Result<Vec<u8>, Memory>
+pub fn tag_key(alloc: Global, tag: &[u8]) -> Result<Vec<u8>, Memory>
     ensures { IfOk result (λ key. key.items ≡ key_of tag.now) }
 {
     let mut key = Vec::new(alloc);
@@ -44,7 +44,7 @@ fn tag_key(alloc: Global, tag: &[u8]) -> Result<Vec<u8>, Memory>
 }
 
 /// The type that a symbol was declared as. Each name's symbol was declared; of another it is int.
-fn symbol_type(scopes: &Scopes, types: &TypeTable, id: SymbolId) -> TypeId
+pub fn symbol_type(scopes: &Scopes, types: &TypeTable, id: SymbolId) -> TypeId
     requires { AreSymbolsIn (length types.now.forms) scopes.now.symbols }
     ensures means { type_at types.now result ≡ (known_at (state_of scopes.now types.now) id).of }
     ensures within { result < length types.now.forms }
@@ -64,7 +64,7 @@ fn has_stood(scopes: &Scopes, id: SymbolId) -> bool
 }
 
 /// Whether the type is a structure, or a union, as asked.
-fn is_of_kind(types: &TypeTable, kind: RecordKind, id: TypeId) -> bool
+pub fn is_of_kind(types: &TypeTable, kind: RecordKind, id: TypeId) -> bool
     requires { id < length types.now.forms }
     ensures { result ≡ is_of kind (type_at types.now id) }
 {
@@ -86,7 +86,7 @@ fn is_enumeration(types: &TypeTable, id: TypeId) -> bool
 }
 
 /// The form of a structure or a union.
-fn record_form(kind: RecordKind) -> TypeForm
+pub fn record_form(kind: RecordKind) -> TypeForm
     ensures tagged { is_tagged result ≡ true }
     ensures means { (known : List CType) → (n : ℕ) → formed known n result ≡ record_type kind n }
 {
@@ -111,7 +111,7 @@ fn add_tagged(types: &mut TypeTable, form: TypeForm) -> Result<TypeId, Memory>
 }
 
 /// A new structure, union or enumeration, under a name that the innermost scope doesn't have.
-fn new_tag(
+pub fn new_tag(
     scopes: &mut Scopes,
     types: &mut TypeTable,
     line: u32,

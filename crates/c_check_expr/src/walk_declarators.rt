@@ -26,7 +26,7 @@ use std::alloc::Global;
 
 /// A declarator.
 #[cycle(walk)]
-pub(crate) fn declarator(
+pub fn declarator(
     alloc: Global,
     scopes: &mut Scopes,
     types: &mut TypeTable,

@@ -5,7 +5,7 @@ ghost use Rattle.c_ast.specs.Views.{enumerators_of, fields_of, members_of, speci
 ghost use Rattle.c_ast.specs.Seen.{enumerator_seen, field_seen, maybe_declarator_seen, member_seen, specifier_seen, specifiers_seen, type_name_seen};
 ghost use Rattle.c_types.specs.Table.{AreMembersBelow, type_at};
 ghost use Rattle.c_meaning.specs.Nodes as node;
-ghost use Rattle.c_meaning.specs.State.{known_at, place_of};
+ghost use Rattle.c_meaning.specs.State.{place_of};
 ghost use Rattle.c_meaning.specs.Typing.{named_type};
 ghost use Rattle.c_check_expr.specs.Known.{AreSymbolsIn, state_of};
 ghost use Rattle.c_check_expr.specs.PartsSeen.{ArePartsIn, IsPartIn, part_seen, parts_seen, shaped_seen, specified_seen};
@@ -15,7 +15,7 @@ ghost use Rattle.c_check_expr.specs.Walks.{IsAnyNumber, IsBelow, IsShapeIn, IsSp
 use crate::member_list::MemberList;
 use crate::parts::{Part, Shaped, Specified};
 use crate::specifiers::specified;
-use crate::tags::OpenRecord;
+use crate::tags::{OpenRecord, symbol_type};
 use crate::walk_declarators::declarator;
 use crate::walk_expr::maybe_expression;
 use crate::{declarators, members, tags};
@@ -23,7 +23,7 @@ use c_ast::{
     Declarator, Enumerator, Member, MemberDeclarator, RecordKind, Specifier, SpecifierForm,
     Specifiers, TypeName,
 };
-use c_symbols::{Scopes, SymbolId};
+use c_symbols::Scopes;
 use c_types::{TypeId, TypeTable};
 use c_values::CheckFault;
 use c_values::basic_places::INT;
@@ -73,7 +73,7 @@ pub(crate) fn shape(
 
 /// Specifiers.
 #[cycle(walk)]
-pub(crate) fn specifiers(
+pub fn specifiers(
     alloc: Global,
     scopes: &mut Scopes,
     types: &mut TypeTable,
@@ -150,19 +150,6 @@ fn typedef_type(scopes: &Scopes, types: &TypeTable, name: &[u8]) -> TypeId
     match scopes.find(name) {
         Some(id) => symbol_type(scopes, types, id),
         None => types.basic_type(INT),
-    }
-}
-
-/// The type of a symbol.
-fn symbol_type(scopes: &Scopes, types: &TypeTable, id: SymbolId) -> TypeId
-    requires { AreSymbolsIn (length types.now.forms) scopes.now.symbols }
-    ensures means { type_at types.now result ≡ (known_at (state_of scopes.now types.now) id).of }
-    ensures within { result < length types.now.forms }
-{
-    if id < scopes.count() {
-        scopes.symbol(id).of
-    } else {
-        types.basic_type(INT)
     }
 }
 

@@ -21,11 +21,9 @@ use Rattle.c_meaning.specs.Typing.{Outcome, Fine, Bad, then_do, typed}
 use Rattle.c_values.specs.declared.check_fault.CheckFault.{CheckFault}
 use Rattle.c_values.specs.declared.check_fault.CheckFault.TheVariants.{Constraint, Limit, Memory}
 use Rattle.c_check_expr.specs.AtNode.{Tells}
-use Rattle.c_check_expr.specs.Kept.{keeps_grown}
 use Rattle.c_check_expr.specs.Known.{AreSymbolsIn, state_of}
-use Rattle.c_check_expr.specs.SymbolsStay.{state_stays}
 use Rattle.c_check_expr.specs.WalkLists.{Going, folded, going_ends, going_on, going_starts, going_stops, then_same, then_then}
-use Rattle.c_check_expr.specs.Walking.{first_stops, passed, walk_as, walk_then}
+use Rattle.c_check_expr.specs.Walking.{first_stops, passed, walk_as, walk_grown, walk_then}
 use Rattle.c_check_expr.specs.Walks.{Walks, core}
 use Rattle.c_initialisers.specs.declared.stored.Filling.{Filling}
 use Rattle.c_initialisers.specs.declared.walk.Listing.{Listing}
@@ -104,26 +102,6 @@ pub items_end : (l : Listing) (start : Filling) (r s : Scoping) (a t : Table) (l
 unfolding ItemsGoing
 items_end l start r s a t list done i k g = going_ends filling_in IsFillingIn (step l) (items_in r a l (filling_in a start) (initialisers_of (map initialiser_seen list))) r a s t done list i k g
 
--- ---- nodes whose parts are checked
-
-node_ok : {V T : Type 0} (view : Table → V → T) (node : State → Outcome T) (s u : State) (b d : Table) (r : Result V CheckFault) → s.tags ≡ tags b → u ≡ s → IfOk r (λ v. (s : State) → s.tags ≡ tags b → node s ≡ Fine s (view d v)) → IfOk r (λ v. node s ≡ Fine u (view d v))
-node_ok view node s u b d (Ok v) e g h = h s e ∙ ap (λ x. Fine x (view d v)) (sym g)
-node_ok view node s u b d (Err f) e g h = tt
-
-node_err : {V T : Type 0} (node : State → Outcome T) (s : State) (b : Table) (r : Result V CheckFault) → s.tags ≡ tags b → IfErr r (λ e. (s : State) → s.tags ≡ tags b → Tells e (node s)) → IfErr r (λ e. Tells e (node s))
-node_err node s b (Ok f) e h = tt
-node_err node s b (Err f) e h = h s e
-
-pub node_walk : {V T : Type 0} (view : Table → V → T) (IsWithin : ℕ → V → Type 0) (node : State → Outcome T) (u : Scoping) (b d : Table) (r : Result V CheckFault) → AreSymbolsIn (length b.forms) u.symbols → Grows b d
-    → IfOk r (λ v. (s : State) → s.tags ≡ tags b → node s ≡ Fine s (view d v)) → IfErr r (λ e. (s : State) → s.tags ≡ tags b → Tells e (node s)) → IfOk r (IsWithin (length d.forms)) → Walks view IsWithin (node (state_of u b)) u b u d r
-node_walk view IsWithin node u b d r i g ok err within =
-    record {
-      ok = node_ok view node (state_of u b) (state_of u d) b d r refl (state_stays u b d g i) ok;
-      err = node_err node (state_of u b) b r refl err;
-      within = within;
-      keeps = keeps_grown u b d i g;
-    }
-
 -- ---- an expression among the items
 
 pub value_walk : (l : Listing) (line : ℕ) (e : ExprTree) (before : Filling) (s u : Scoping) (a b d : Table) (c : CoreOf ℕ) (r : Result Filling CheckFault) → IsFillingIn (length a.forms) before
@@ -137,7 +115,7 @@ value_walk l line e before s u a b d c r w x g ok err within =
     let B = filling_in a before in
     let stay : filling_in b before ≡ B = filling_stays a b x.keeps.extends before w in
     let next : State → _ → Outcome Stored = λ m k. value_onto m l.is_static line B k in
-    let node : Walks filling_in IsFillingIn (value_onto (state_of u b) l.is_static line (filling_in b before) (core b c)) u b u d r = node_walk filling_in IsFillingIn (λ m. value_onto m l.is_static line (filling_in b before) (core b c)) u b d r x.keeps.symbols g ok err within in
+    let node : Walks filling_in IsFillingIn (value_onto (state_of u b) l.is_static line (filling_in b before) (core b c)) u b u d r = walk_grown filling_in IsFillingIn (λ m. value_onto m l.is_static line (filling_in b before) (core b c)) u b d r x.keeps.symbols g ok err within in
     walk_as (then_do (typed (state_of s a) e) next) (item_in s a l B (ByExpr line e)) (then_then (typed (state_of s a) e) _ _)
     (walk_then filling_in IsFillingIn (typed (state_of s a) e) next s u u a b d c r x (subst (λ z. Walks filling_in IsFillingIn (value_onto (state_of u b) l.is_static line z (core b c)) u b u d r) stay node))
 

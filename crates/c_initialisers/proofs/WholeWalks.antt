@@ -17,7 +17,7 @@ use Rattle.c_meaning.specs.DeclaringNodes.{first_any, initialiser_nodes}
 use Rattle.c_meaning.specs.DeclaringRelation.{TypesInitialiser}
 use Rattle.c_meaning.specs.Filling.{Waiting, begun_in}
 use Rattle.c_meaning.specs.Initialising.{Initialised as InitialisedTrees, Stored, can_be_initialised, stored, typed_initialiser, typed_items, whole}
-use Rattle.c_meaning.specs.Laws.{IsFirstOf, IsTyping, fault_of}
+use Rattle.c_meaning.specs.Laws.{IsFirstOf, IsTyping}
 use Rattle.c_meaning.specs.State.{State}
 use Rattle.c_meaning.specs.Types.{is_scalar}
 use Rattle.c_meaning.specs.Typing.{Outcome, Fine, Bad, then_do, typed}
@@ -25,7 +25,8 @@ use Rattle.c_values.specs.declared.check_fault.CheckFault.{CheckFault}
 use Rattle.c_values.specs.declared.check_fault.CheckFault.TheVariants.{Constraint, Limit}
 use Rattle.c_check_expr.specs.AtNode.{Tells}
 use Rattle.c_check_expr.specs.Known.{state_of}
-use Rattle.c_check_expr.specs.Walking.{first_stops, walk_as, walk_then}
+use Rattle.c_check_expr.specs.Walking.{first_stops, walk_as, walk_grown, walk_then}
+use Rattle.c_check_expr.specs.Told.{breaks, passes, relates}
 use Rattle.c_check_expr.specs.Walks.{Walks, core}
 use Rattle.c_initialisers.specs.declared.filled.Filled.{Filled}
 use Rattle.c_initialisers.specs.declared.nodes.Standing.{Standing}
@@ -35,7 +36,6 @@ use Rattle.c_initialisers.specs.Listed.{items_in, onto}
 use Rattle.c_initialisers.specs.Objects.{IsFilledIn, filled_in}
 use Rattle.c_initialisers.specs.Storing.{IsFillingIn, filling_in}
 use Rattle.c_initialisers.specs.Wholes.{object_of, whole_in, whole_list, whole_value}
-use Rattle.c_initialisers.proofs.Walked.{node_walk}
 
 -- ---- what is typed of it
 
@@ -66,7 +66,7 @@ module _ (s : Scoping) (a : Table) (o : InitialisedTrees) (unfit : Bool) (can : 
       → Walks filled_in IsFilledIn (whole_in s a o (ByExpr line e)) s a u d r
   whole_value_goes u b d c r x g ok err within =
       walk_as (then_do (typed (state_of s a) e) (λ t c. whole_value t line o unfit c)) (whole_in s a o (ByExpr line e)) value_is
-      (walk_then filled_in IsFilledIn (typed (state_of s a) e) (λ t c. whole_value t line o unfit c) s u u a b d c r x (node_walk filled_in IsFilledIn (λ t. whole_value t line o unfit (core b c)) u b d r x.keeps.symbols g ok err within))
+      (walk_then filled_in IsFilledIn (typed (state_of s a) e) (λ t c. whole_value t line o unfit c) s u u a b d c r x (walk_grown filled_in IsFilledIn (λ t. whole_value t line o unfit (core b c)) u b d r x.keeps.symbols g ok err within))
 
 -- ---- by a list
 
@@ -90,7 +90,7 @@ module _ (s : Scoping) (a : Table) (o : InitialisedTrees) (unfit : Bool) (can : 
       → Walks filled_in IsFilledIn (whole_in s a o (Braced line is comma)) s a u d r
   whole_list_goes u b d v r x g ok err within =
       walk_as (then_do (items_in s a l (filling_in a start) is) (λ t inner. whole_list t line o unfit inner)) (whole_in s a o (Braced line is comma)) list_is
-      (walk_then filled_in IsFilledIn (items_in s a l (filling_in a start) is) (λ t inner. whole_list t line o unfit inner) s u u a b d v r x (node_walk filled_in IsFilledIn (λ t. whole_list t line o unfit (filling_in b v)) u b d r x.keeps.symbols g ok err within))
+      (walk_then filled_in IsFilledIn (items_in s a l (filling_in a start) is) (λ t inner. whole_list t line o unfit inner) s u u a b d v r x (walk_grown filled_in IsFilledIn (λ t. whole_list t line o unfit (filling_in b v)) u b d r x.keeps.symbols g ok err within))
 
 -- ---- the syntax of it, and its object
 
@@ -107,15 +107,14 @@ module _ (s : Scoping) (a : Table) (o : InitialisedTrees) (i : InitialiserValue)
   pub whole_typed : (u : Scoping) (b : Table) (r : Result Filled CheckFault) → IsTyping (typed_initialiser (state_of s a) o (initialiser_of i)) (TypesInitialiser (state_of s a) o (initialiser_of i)) → IfOk r (λ v. whole_in s a o (initialiser_seen i) ≡ Fine (state_of u b) (filled_in b v))
       → IfOk r (λ v. TypesInitialiser (state_of s a) o (initialiser_of i) (state_of u b) (filled_in b v))
   unfolding whole_in initialiser_seen
-  whole_typed u b (Ok v) h k = (h (state_of u b) (filled_in b v)).1 k
-  whole_typed u b (Err e) h k = tt
+  whole_typed u b r h k = relates filled_in (typed_initialiser (state_of s a) o (initialiser_of i)) (TypesInitialiser (state_of s a) o (initialiser_of i)) u b r h k
 
   pub whole_breaks : (r : Result Filled CheckFault) (n l : ℕ) → IsFirstOf (typed_initialiser (state_of s a) o (initialiser_of i)) (initialiser_nodes (state_of s a) o (initialiser_of i)) → IfErr r (λ e. Tells e (whole_in s a o (initialiser_seen i))) → r ≡ Err (Constraint n l)
       → first_any (initialiser_nodes (state_of s a) o (initialiser_of i)) ≡ Some (Breaks n l)
   unfolding whole_in initialiser_seen
-  whole_breaks r n l h k e = let f : typed_initialiser (state_of s a) o (initialiser_of i) ≡ Bad (Breaks n l) = subst (λ (x : Result Filled CheckFault). IfErr x (λ e. Tells e (typed_initialiser (state_of s a) o (initialiser_of i)))) e k in h ∙ ap fault_of f
+  whole_breaks r n l h k e = breaks (typed_initialiser (state_of s a) o (initialiser_of i)) (first_any (initialiser_nodes (state_of s a) o (initialiser_of i))) r n l h k e
 
   pub whole_passes : (r : Result Filled CheckFault) (w : Which) (l : ℕ) → IsFirstOf (typed_initialiser (state_of s a) o (initialiser_of i)) (initialiser_nodes (state_of s a) o (initialiser_of i)) → IfErr r (λ e. Tells e (whole_in s a o (initialiser_seen i))) → r ≡ Err (Limit w l)
       → first_any (initialiser_nodes (state_of s a) o (initialiser_of i)) ≡ Some (Passes w l)
   unfolding whole_in initialiser_seen
-  whole_passes r w l h k e = let f : typed_initialiser (state_of s a) o (initialiser_of i) ≡ Bad (Passes w l) = subst (λ (x : Result Filled CheckFault). IfErr x (λ e. Tells e (typed_initialiser (state_of s a) o (initialiser_of i)))) e k in h ∙ ap fault_of f
+  whole_passes r w l h k e = passes (typed_initialiser (state_of s a) o (initialiser_of i)) (first_any (initialiser_nodes (state_of s a) o (initialiser_of i))) r w l h k e

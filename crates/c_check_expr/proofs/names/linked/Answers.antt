@@ -3,8 +3,8 @@ use Rattle.c_types.specs.Compatible.{compatible}
 use Rattle.c_types.specs.Table.{type_at, types}
 use Rattle.c_check_expr.specs.Known.{known_of, state_of}
 use Rattle.c_check_expr.specs.KnownLaws.{symbols_in-append}
-use Rattle.c_check_expr.proofs.KnownSymbols.{known_there, length-all_known, symbol_in}
-use Rattle.c_check_expr.proofs.LinkedNames.{differs_by, linked_state}
+use Rattle.c_check_expr.specs.KnownSymbols.{known_there, length-all_known, state-link, symbol_in}
+use Rattle.c_check_expr.proofs.LinkedNames.{differs_by}
 use Rattle.c_check_expr.proofs.names.linked.Goals as goal
 
 pub compatible-requires-clause-a : goal.compatible-requires-clause-a
@@ -39,7 +39,7 @@ pub returns-in-Ok-clause-state : goal.returns-in-Ok-clause-state
 returns-in-Ok-clause-state c =
     let e = c.in-Ok.ensures in
     rw (sym c.linked.ensures ∙ c.in-None.is, ← c.requires.function)
-    (linked_state c.args.scopes.now c.link.new.self c.args.types.now c.args.name.now _ c.in-Ok.id e.outer e.inner e.links e.id e.symbols)
+    (state-link c.args.scopes.now c.link.new.self c.args.types.now c.args.name.now c.in-Ok.id _ e.outer e.inner e.links e.id e.symbols)
 
 pub returns-in-Ok-clause-symbols : goal.returns-in-Ok-clause-symbols
 returns-in-Ok-clause-symbols c =

@@ -3,7 +3,7 @@ use Rattle.c_types.specs.Table.{member_types, type_at, types}
 use Rattle.c_meaning.specs.TypeRows.{number_of}
 use Rattle.c_check_expr.specs.Known.{state_of}
 use Rattle.c_check_expr.proofs.RecordNodes.{record_fine, record_misused, record_told}
-use Rattle.c_check_expr.proofs.TagStates.{keeps_later}
+use Rattle.c_check_expr.specs.Kept.{keeps_later}
 use Rattle.c_check_expr.proofs.tags.complete_record.Goals as goal
 
 pub returns-then-branch-clause-err : goal.returns-then-branch-clause-err

@@ -12,7 +12,7 @@ use Rattle.c_check_expr.specs.AtNode.{Tells}
 use Rattle.c_check_expr.specs.Known.{state_of}
 use Rattle.c_check_expr.specs.Listed.{is_listed}
 use Rattle.c_check_expr.proofs.TagNodes.{at_list, enumeration_bare, enumeration_known, enumeration_listed, enumeration_new}
-use Rattle.c_check_expr.proofs.TagStates.{keeps_later}
+use Rattle.c_check_expr.specs.Kept.{keeps_later}
 use Rattle.c_check_expr.proofs.Telling.{tells_constraint}
 use Rattle.c_check_expr.proofs.tags.enumeration.Goals as goal
 

@@ -1,4 +1,4 @@
-use Rattle.c_check_expr.proofs.TagStates.{keeps_later}
+use Rattle.c_check_expr.specs.Kept.{keeps_later}
 use Rattle.c_check_expr.proofs.tags.new_tag.Goals as goal
 
 pub returns-in_err-of-clause-keeps : goal.returns-in_err-of-clause-keeps

@@ -1,4 +1,4 @@
-use Rattle.c_check_expr.proofs.TagStates.{keeps_later}
+use Rattle.c_check_expr.specs.Kept.{keeps_later}
 use Rattle.c_check_expr.proofs.tags.open_record.Goals as goal
 
 pub returns-in_default-clause-keeps : goal.returns-in_default-clause-keeps

@@ -1,12 +1,12 @@
 -- What is known of symbols when one is added, or put in another's place, and of a table when a form is added.
 use Rattle.std.proofs.Common.{◌≡◌, ℕ, zero, suc, ◌+◌, ◌<◌, ◌≤◌, List, [], ◌∷◌, ◌++◌, length, refl, sym, ap, arith}
-use Rattle.std.specs.Prelude.{Some, get_or, slice_get, slice_set}
+use Rattle.std.specs.Prelude.{None, Some, get_or, slice_get, slice_set}
 use Rattle.c_symbols.specs.declared.symbol.Symbol.{Symbol}
 use Rattle.c_symbols.specs.Scoping.{Scoping}
 use Rattle.c_types.specs.declared.type_form.TypeForm.{TypeForm}
 use Rattle.c_types.specs.CType.{CType}
 use Rattle.c_types.specs.Table.{Table, counted, tagged, types}
-use Rattle.c_meaning.specs.State.{declared, nothing_known, replaced}
+use Rattle.c_meaning.specs.State.{declared, nothing_known, replaced, with_link}
 use Rattle.c_check_expr.specs.Known.{AreSymbolsIn, all_known, known_of, state_of}
 
 -- ---- what symbols were declared as
@@ -65,3 +65,8 @@ state-declare s n t name id y o i e l h =
 pub state-replace : (s n : Scoping) (t : Table) (id : ℕ) (y : Symbol) → n.outer ≡ s.outer → n.inner ≡ s.inner → n.links ≡ s.links → n.symbols ≡ slice_set s.symbols id y →
     state_of n t ≡ replaced (state_of s t) id (known_of (types t) y)
 state-replace s n t id y o i l h = rw (o, i, l, h, all_known-set (types t) s.symbols id y) refl
+
+-- a further symbol, of a name with linkage
+pub state-link : (s n : Scoping) (t : Table) (name : List ℕ) (id : ℕ) (y : Symbol) → n.outer ≡ s.outer → n.inner ≡ s.inner → n.links ≡ s.links ++ (name, id) ∷ [] → id ≡ length s.symbols →
+    n.symbols ≡ s.symbols ++ y ∷ [] → state_of n t ≡ with_link (state_of s t) name None (known_of (types t) y)
+state-link s n t name id y o i l e h = rw (o, i, l, h, e, all_known-append (types t) s.symbols y, length-all_known (types t) s.symbols) refl

@@ -1,0 +1,10 @@
+//! Of what checkers of declarations and statements are made, beside whole expressions and declared types.
+
+pub use crate::declarators::shape;
+pub use crate::declaring::{declare, level};
+pub use crate::outline::array_length;
+pub use crate::parts::{Declared, NamedParameter, Part, Shaped, Specified, Step};
+pub use crate::specifiers::specified;
+pub use crate::tags::{is_of_kind, new_tag, record_form, symbol_type, tag_key};
+pub use crate::walk_declarators::declarator;
+pub use crate::walk_types::specifiers;
