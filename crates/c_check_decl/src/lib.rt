@@ -1,0 +1,24 @@
+//! Declarations of C, checked (C89 3.5): linkage and scopes, what is declared again, the types that names
+//! have from then on, and the objects that are defined.
+#![tactic(auto)]
+
+mod counting;
+mod declares;
+mod defining;
+mod fitting;
+mod forming;
+mod initialising;
+mod kept_parameters;
+mod linkage;
+mod linked;
+mod name_faults;
+mod naming;
+mod own_specifiers;
+mod public;
+mod unlinked;
+mod walk;
+mod whole;
+mod whole_faults;
+
+pub use declares::Declares;
+pub use public::check_declaration;
