@@ -1,0 +1,69 @@
+//! Declarations, read and checked one behind the other.
+ghost use Rattle.std.specs.Prelude.{length};
+ghost use Rattle.c_check_expr.specs.Known.{AreSymbolsIn};
+
+use c_check_decl::{Declares, check_declaration};
+use c_decl::declaration;
+use c_expr::Parser;
+use c_symbols::Scopes;
+use c_types::TypeTable;
+use c_values::CheckFault;
+use std::alloc::Global;
+
+/// No text of a case has as many declarations.
+const MOST: usize = 100;
+
+/// A parser of a text in which no name is a typedef name.
+fn parser_of<'s>(alloc: Global, text: &'s [u8]) -> Option<Parser<'s>> {
+    if text.len() > 16_777_216 {
+        return None;
+    }
+    Parser::new(alloc, text).ok()
+}
+
+/// The declarations of a text, checked in order: what the last one declares, or the first fault. None where
+/// the text is something else.
+pub(crate) fn check_all(
+    alloc: Global,
+    scopes: &mut Scopes,
+    types: &mut TypeTable,
+    text: &[u8],
+) -> Option<Result<Declares, CheckFault>>
+    requires { AreSymbolsIn (length types.old.forms) scopes.old.symbols }
+    ensures { AreSymbolsIn (length types.new.forms) scopes.new.symbols }
+{
+    let mut parser = parser_of(alloc, text)?;
+    let mut last = None;
+    for _ in 0..MOST {
+        if parser.token().is_none() {
+            break;
+        }
+        let d = declaration(&mut parser).ok()?;
+        match check_declaration(alloc, scopes, types, &d) {
+            Ok(declares) => last = Some(Ok(declares)),
+            Err(fault) => return Some(Err(fault)),
+        }
+    }
+    last
+}
+
+/// The declarations of a text at file scope, and then those of another one in a block, checked: what the last
+/// one declares, or the first fault.
+pub(crate) fn check(
+    alloc: Global,
+    outside: &[u8],
+    inside: &[u8],
+) -> Option<Result<Declares, CheckFault>> {
+    let mut scopes = Scopes::new(alloc).ok()?;
+    let mut types = TypeTable::new(alloc);
+    if inside.is_empty() {
+        return check_all(alloc, &mut scopes, &mut types, outside);
+    }
+    if !outside.is_empty() {
+        if let Err(fault) = check_all(alloc, &mut scopes, &mut types, outside)? {
+            return Some(Err(fault));
+        }
+    }
+    scopes.enter().ok()?;
+    check_all(alloc, &mut scopes, &mut types, inside)
+}
