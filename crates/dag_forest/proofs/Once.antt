@@ -43,7 +43,7 @@ parted_by m false a p q n h k = let e = times_append m q.others (a ∷ []) in om
 times_parted : (m : ℕ) (ns : List ℕ) (xs : List Act) → times m (parted ns xs).below + times m (parted ns xs).others ≡ times m xs
 times_parted m ns [] = omega arith
 times_parted m ns (a ∷ as') =
-    parted_by m (is_in (number_of a) ns) a (parted (kids_list (kids_of a) ++ ns) as') (parted ns as') (times m as') (times_parted m (kids_list (kids_of a) ++ ns) as') (times_parted m ns as')
+    parted_by m (is_in (number_of a) ns) a (parted (ns ++ kids_list (kids_of a)) as') (parted ns as') (times m as') (times_parted m (ns ++ kids_list (kids_of a)) as') (times_parted m ns as')
 
 comes_next : (n m : ℕ) → hit m n + to_come (suc n) m ≤ to_come n m
 comes_next n m = search (nat_tests, arith)

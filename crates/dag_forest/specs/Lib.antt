@@ -8,4 +8,10 @@ pub mod Meaning
 pub mod Emission
 pub mod Meant
 pub mod Slots
+pub mod Choice
+pub mod Walks
+pub mod NewSlots
+pub mod Standings
+pub mod Split
+pub mod Places
 pub mod BlockExamples

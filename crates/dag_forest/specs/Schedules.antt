@@ -4,17 +4,14 @@
 use Rattle.std.specs.Prelude.{ℕ, suc, ◌==◌, ◌||◌, Bool, false, List, [], ◌∷◌, ◌++◌, cond, if◌then◌else◌}
 use Rattle.op_forest.specs.Nodes.{Head}
 use Rattle.forests.specs.Words.{Word}
+pub use Rattle.dag_forest.specs.declared.act.Act.{Act}
+pub use Rattle.dag_forest.specs.declared.act.Act.TheVariants.{Made, Acts}
 use Rattle.dag_forest.specs.declared.entry.Entry.{Entry}
 use Rattle.dag_forest.specs.declared.entry.Entry.TheVariants.{Value, Root}
 use Rattle.dag_forest.specs.declared.kids.Kids.{Kids}
 use Rattle.dag_forest.specs.declared.kids.Kids.TheVariants.{Zero, One, Two}
 use Rattle.dag_forest.specs.declared.parts.Parts.{Parts}
 use Rattle.dag_forest.specs.Entries.{is_call}
-
--- a node, with its number, is made; a root acts
-pub data Act : Type 0 where
-  Made : (number : ℕ) (node : Parts) → Act
-  Acts : (root : Parts) → Act
 
 abbrev pub head_of : Parts → Head
 head_of x = record { operator = x.operator; sym = x.sym; value = x.constant }
@@ -74,7 +71,7 @@ with_other a p = record { below = p.below; others = p.others ++ a ∷ [] }
 abbrev pub parted : List ℕ → List Act → Parted
 parted ns [] = record { below = []; others = [] }
 parted ns (a ∷ as') =
-    if is_in (number_of a) ns then with_below a (parted (kids_list (kids_of a) ++ ns) as') else with_other a (parted ns as')
+    if is_in (number_of a) ns then with_below a (parted (ns ++ kids_list (kids_of a)) as') else with_other a (parted ns as')
 
 abbrev pub reversed : List Act → List Act
 reversed [] = []

@@ -18,13 +18,9 @@ use Rattle.op_forest.specs.Nodes.{One as OneTree, Two as TwoTree}
 use Rattle.forests.specs.WordBytes.{word_bytes}
 use Rattle.forests.specs.Objects.{shapes, stored_through}
 use Rattle.forests.specs.Worlds.{with_objects}
+pub use Rattle.dag_forest.specs.declared.kind.Kind.{Kind}
+pub use Rattle.dag_forest.specs.declared.kind.Kind.TheVariants.{Signed, Unsigned, Address}
 use Rattle.dag_forest.specs.Meaning.{Temporary}
-
--- what is kept: a signed or unsigned number, or an address
-pub data Kind : Type 0 where
-  Signed : Kind
-  Unsigned : Kind
-  Address : Kind
 
 abbrev pub head : Op → Suffix → Option ℤ → Head
 head o x value = record { operator = record { op = o; suffix = x }; sym = sym.Nothing; value = value }

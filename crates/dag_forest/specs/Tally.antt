@@ -1,13 +1,13 @@
 -- What the entries of a block so far tell of the next one: the keys of the nodes, which of them have a call at or below
 -- them, and how many stretches have ended.
-use Rattle.std.specs.Prelude.{◌≡◌, ℕ, ◌+◌, ◌≤◌, ◌||◌, Bool, false, List, [], ◌∷◌, ◌++◌, length, fold, slice_get, Some, get_or, if◌then◌else◌}
+use Rattle.std.specs.Prelude.{◌≡◌, ℕ, suc, ◌+◌, ◌≤◌, ◌||◌, Bool, false, List, [], ◌∷◌, ◌++◌, length, fold, slice_get, Some, get_or, if◌then◌else◌}
 use Rattle.dag_forest.specs.declared.entry.Entry.{Entry}
 use Rattle.dag_forest.specs.declared.entry.Entry.TheVariants.{Value, Root}
 use Rattle.dag_forest.specs.declared.key.Key.{Key}
 use Rattle.dag_forest.specs.declared.kids.Kids.{Kids}
 use Rattle.dag_forest.specs.declared.kids.Kids.TheVariants.{Zero, One, Two}
 use Rattle.dag_forest.specs.declared.parts.Parts.{Parts}
-use Rattle.dag_forest.specs.Entries.{is_call, is_write}
+use Rattle.dag_forest.specs.Entries.{AreBelow, is_call, is_write}
 use Rattle.dag_forest.specs.Keys.{key_at}
 
 pub record Tally : Type 0 where
@@ -55,6 +55,17 @@ IsFresh keys k = (i : ℕ) → slice_get keys i ≡ Some k → ⊥
 abbrev pub key_behind : List Entry → Parts → Key
 key_behind entries x = key_at (tally entries).stretch (length (keys_of entries)) x
 
+-- each operand is an earlier node, where so many nodes stand before
+abbrev pub AreFormed : List Entry → ℕ → Type 0
+AreFormed [] n = Unit {0}
+AreFormed (Value x ∷ es) n = AreBelow n x.kids × AreFormed es (suc n)
+AreFormed (Root x ∷ es) n = AreBelow n x.kids × AreFormed es n
+
+abbrev pub node_count : List Entry → ℕ
+node_count [] = 0
+node_count (Value x ∷ es) = suc (node_count es)
+node_count (Root x ∷ es) = node_count es
+
 -- what a block keeps beside its entries
 pub record IsTallied (entries : List Entry) (keys : List Key) (calling : List Bool) (stretch : ℕ) : Type 0 where
   pub keyed : keys ≡ keys_of entries
@@ -63,3 +74,5 @@ pub record IsTallied (entries : List Entry) (keys : List Key) (calling : List Bo
   pub nodes : length calling ≡ length keys
   pub few : length keys + stretch ≤ length entries
   pub distinct : AreDistinct keys
+  pub formed : AreFormed entries 0
+  pub named : length keys ≡ node_count entries

@@ -1,15 +1,23 @@
 ghost use Rattle.std.specs.Prelude.{◌≡◌, ◌⊎◌, ◌++◌, ◌∷◌, [], ◌<◌, ◌≤◌, ◌+◌, ◌-◌, ◌^◌, length, slice_get, Some, None, IfOk, OnOk, OnErr, ℕ, true, false};
 ghost use Rattle.dag_forest.specs.Entries.{AreBelow, parts_of};
+ghost use Rattle.lcc_base.specs.declared.order.Order.{Order};
+ghost use Rattle.forests.specs.Addresses.{Home};
+ghost use Rattle.dag_forest.specs.Split.{Split, split_frame, split_trees};
 ghost use Rattle.dag_forest.specs.Tally.{IsFresh};
 
+use crate::choice::choose;
+use crate::emission::trees_of;
 use crate::entry::Entry;
+use crate::frames::{grown, lowest};
 use crate::key::Key;
 use crate::kids::Kids;
 use crate::parts::Parts;
+use crate::turns::acts_in_turn;
+use crate::uses::used_steps;
 use indexmap::IndexSet;
-use lcc_base::Memory;
+use lcc_base::{Items, Memory};
 use node_arena::Arena;
-use op_forest::{Op, Operator, Sym};
+use op_forest::{Frame, Op, Operator, Sym, Tree};
 use std::alloc::Global;
 use std::cmp::max;
 use std::marker::Model;
@@ -112,11 +120,37 @@ impl Block {
             constant: None,
         };
         make_room(&mut self.entries)?;
-        if operator.op == Op::Asgn || self.holds_call(parts) {
-            self.stretch += 1;
-        }
+        let ends = self.ends(parts);
+        self.stretch += u32::from(ends);
         let _ = self.entries.push(Entry::Root(parts));
         Ok(())
+    }
+
+    /// The trees of what the block does, in order. A node that is no address or constant is assigned to a
+    /// new slot of the frame where it is used more than once, where it is a call, or where a write or call
+    /// between its stretch and its use could change what it reads. Each new slot has 4 bytes and begins
+    /// where the lowest one did that was there. `Memory` comes where an allocation is refused, or where a
+    /// slot would begin below -2^31; the frame is as before then.
+    pub fn finish(self, alloc: Global, frame: &mut Frame) -> Result<Items<Tree>, Memory>
+        ensures trees { (order : Order) → (home : Home) → IfOk result (λ trees. trees ≡ split_trees order home frame.old self []) }
+        ensures frame { OnOk result (frame.new ≡ split_frame frame.old self) }
+        ensures split { OnOk result (Split frame.old self) }
+        ensures err { OnErr result (frame.new ≡ frame.old) }
+    {
+        let nodes = self.keys.len();
+        let steps = used_steps(alloc, acts_in_turn(alloc, &self.entries)?, nodes)?;
+        let choice = choose(alloc, &steps, nodes, lowest(frame.slots()))?;
+        let trees = trees_of(alloc, &steps, &choice.standing)?;
+        *frame = grown(alloc, frame, choice.slots)?;
+        Ok(trees)
+    }
+
+    // Whether a stretch ends at a root of these parts: it writes or holds a call.
+    fn ends(&self, parts: Parts) -> bool
+        requires { AreBelow (length (keys_of self.now)) parts.kids }
+        ensures { result ≡ ends (tally self.now).calling parts }
+    {
+        parts.operator.op == Op::Asgn || self.holds_call(parts)
     }
 
     // Whether a call stands at or below a node or a root of these parts.

@@ -10,6 +10,10 @@ ghost use Rattle.dag_forest.specs.Meaning.{IsTemporary, Keeps};
 ghost use Rattle.dag_forest.specs.Meant.{HaveMeaning};
 ghost use Rattle.dag_forest.specs.Schedules.{acts_of};
 ghost use Rattle.dag_forest.specs.Slots.{Kind, slot_temporary};
+ghost use Rattle.dag_forest.specs.Split.{Split};
+ghost use Rattle.dag_forest.specs.Tally.{AreFormed};
+ghost use Rattle.op_forest.specs.declared.frame.Slot.{Slot};
+ghost use Rattle.op_forest.specs.Frames.{IsFrame};
 
 /// A block makes each of its nodes once at most. Where some of its nodes are kept in temporaries of their
 /// own, and each use of a node stands in the stretch of the reads below it that aren't kept, the trees of
@@ -23,4 +27,10 @@ pub fn trees_do_what_blocks_do()
 /// it is read back, wherever its object is the same, and no other object changes.
 pub fn slots_are_temporaries()
     ensures { (s : Setting) → (name : ObjectName) → (offset : ℤ) → local s.environment.home (Some offset) ≡ Some (Plain (Pointer name 0)) → (k : Kind) → IsTemporary s (slot_temporary s.environment.order k name offset) }
+{}
+
+/// The split of a block of which each operand is an earlier node: no two nodes have one slot, each use of a
+/// node stands where its tree has the node's value, and the new slots are temporaries.
+pub fn blocks_are_split()
+    ensures { (before : List Slot) → IsFrame before → (entries : List Entry) → AreFormed entries 0 → Split before entries }
 {}

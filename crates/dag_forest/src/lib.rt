@@ -2,18 +2,31 @@
 //! Source: Fraser and Hanson, A Retargetable C Compiler, chapter 12 (common subexpressions).
 #![tactic(auto)]
 
+mod act;
 mod block;
+mod choice;
+mod emission;
 mod entry;
+mod frames;
 mod key;
 mod kids;
+mod kind;
 mod laws;
 mod parts;
+mod slot_trees;
+mod standing;
 #[cfg(test)]
 mod tests;
+mod turns;
+mod uses;
 
+pub use act::Act;
 pub use block::Block;
 pub use entry::Entry;
 pub use key::Key;
 pub use kids::Kids;
-pub use laws::{slots_are_temporaries, trees_do_what_blocks_do};
+pub use kind::Kind;
+pub use laws::{blocks_are_split, slots_are_temporaries, trees_do_what_blocks_do};
 pub use parts::Parts;
+pub use standing::Standing;
+pub use uses::{Step, Times, Use};

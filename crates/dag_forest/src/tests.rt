@@ -1,5 +1,7 @@
 use crate::{Block, Kids};
-use op_forest::{Op, Operator, Suffix, Sym};
+use lcc_base::Items;
+use op_forest::{Frame, Op, Operator, Slot, Suffix, Sym, Tree};
+use std::alloc::Global;
 use std::test::Fail;
 
 const READ: Operator = Operator {
@@ -84,5 +86,168 @@ fn a_constant_differs_by_its_number(rt: HostRuntime) -> Result<(), Fail> {
     assert_ne!(rt; two, one);
     let again = block.value(CONSTANT, Kids::Zero, Sym::Nothing, Some(1))?;
     assert_eq!(rt; again, one);
+    Ok(())
+}
+
+// ---- trees
+
+const POINTER: Operator = Operator {
+    op: Op::Indir,
+    suffix: Suffix::P,
+};
+
+const LOCAL: Operator = Operator {
+    op: Op::Addrl,
+    suffix: Suffix::P,
+};
+
+fn name(alloc: Global, name: u32) -> Tree {
+    Tree::new(ADDRESS, global(name), None, Items::new(alloc))
+}
+
+fn number(alloc: Global, value: i64) -> Tree {
+    Tree::new(CONSTANT, Sym::Nothing, Some(value), Items::new(alloc))
+}
+
+// The address of a slot.
+fn slot(alloc: Global, offset: i64) -> Tree {
+    Tree::new(LOCAL, Sym::Nothing, Some(offset), Items::new(alloc))
+}
+
+fn one(alloc: Global, operator: Operator, a: Tree) -> Result<Tree, Fail> {
+    let mut kids = Items::new(alloc);
+    kids.push(a)?;
+    Ok(Tree::new(operator, Sym::Nothing, None, kids))
+}
+
+fn two(alloc: Global, operator: Operator, a: Tree, b: Tree) -> Result<Tree, Fail> {
+    let mut kids = Items::new(alloc);
+    kids.push(a)?;
+    kids.push(b)?;
+    Ok(Tree::new(operator, Sym::Nothing, None, kids))
+}
+
+// A read of a slot.
+fn kept(alloc: Global, offset: i64) -> Result<Tree, Fail> {
+    one(alloc, READ, slot(alloc, offset))
+}
+
+// A read of a name.
+fn read(alloc: Global, place: u32) -> Result<Tree, Fail> {
+    one(alloc, READ, name(alloc, place))
+}
+
+#[test]
+fn a_read_that_is_used_twice_is_kept(rt: HostRuntime) -> Result<(), Fail> {
+    let alloc = rt.alloc();
+    let mut block = Block::new(alloc);
+    let x = block.value(ADDRESS, Kids::Zero, global(0), None)?;
+    let y = block.value(ADDRESS, Kids::Zero, global(1), None)?;
+    let n = block.value(READ, Kids::One(x), Sym::Nothing, None)?;
+    let sum = block.value(SUM, Kids::Two(n, n), Sym::Nothing, None)?;
+    block.root(WRITE, Kids::Two(y, sum), Sym::Nothing)?;
+    let mut frame = Frame::new(alloc);
+    let trees = block.finish(alloc, &mut frame)?;
+    let mut expected = Items::new(alloc);
+    expected.push(two(alloc, WRITE, slot(alloc, -4), read(alloc, 0)?)?)?;
+    let sum = two(alloc, SUM, kept(alloc, -4)?, kept(alloc, -4)?)?;
+    expected.push(two(alloc, WRITE, name(alloc, 1), sum)?)?;
+    let text = format!(in alloc; "{:?}", trees)?;
+    let wanted = format!(in alloc; "{:?}", expected)?;
+    assert_eq!(rt; text, wanted);
+    let slots = [Slot {
+        offset: -4,
+        size: 4,
+    }];
+    assert_eq!(rt; frame.slots(), slots.as_slice());
+    Ok(())
+}
+
+#[test]
+fn a_read_is_kept_over_a_store_through_a_pointer(rt: HostRuntime) -> Result<(), Fail> {
+    let alloc = rt.alloc();
+    let mut block = Block::new(alloc);
+    let x = block.value(ADDRESS, Kids::Zero, global(0), None)?;
+    let p = block.value(ADDRESS, Kids::Zero, global(1), None)?;
+    let n = block.value(READ, Kids::One(x), Sym::Nothing, None)?;
+    let pointer = block.value(POINTER, Kids::One(p), Sym::Nothing, None)?;
+    let value = block.value(CONSTANT, Kids::Zero, Sym::Nothing, Some(1))?;
+    block.root(WRITE, Kids::Two(pointer, value), Sym::Nothing)?;
+    block.root(RETURN, Kids::One(n), Sym::Nothing)?;
+    let mut frame = Frame::new(alloc);
+    let trees = block.finish(alloc, &mut frame)?;
+    let mut expected = Items::new(alloc);
+    expected.push(two(alloc, WRITE, slot(alloc, -4), read(alloc, 0)?)?)?;
+    let pointer = one(alloc, POINTER, name(alloc, 1))?;
+    expected.push(two(alloc, WRITE, pointer, number(alloc, 1))?)?;
+    expected.push(one(alloc, RETURN, kept(alloc, -4)?)?)?;
+    let text = format!(in alloc; "{:?}", trees)?;
+    let wanted = format!(in alloc; "{:?}", expected)?;
+    assert_eq!(rt; text, wanted);
+    Ok(())
+}
+
+#[test]
+fn a_read_is_kept_over_a_call_and_made_again_behind_it(rt: HostRuntime) -> Result<(), Fail> {
+    let alloc = rt.alloc();
+    let mut block = Block::new(alloc);
+    let x = block.value(ADDRESS, Kids::Zero, global(0), None)?;
+    let f = block.value(ADDRESS, Kids::Zero, global(1), None)?;
+    let before = block.value(READ, Kids::One(x), Sym::Nothing, None)?;
+    let call = block.value(CALL, Kids::One(f), Sym::Nothing, None)?;
+    let sum = block.value(SUM, Kids::Two(before, call), Sym::Nothing, None)?;
+    block.root(WRITE, Kids::Two(x, sum), Sym::Nothing)?;
+    let behind = block.value(READ, Kids::One(x), Sym::Nothing, None)?;
+    block.root(RETURN, Kids::One(behind), Sym::Nothing)?;
+    let mut frame = Frame::new(alloc);
+    let trees = block.finish(alloc, &mut frame)?;
+    let mut expected = Items::new(alloc);
+    expected.push(two(alloc, WRITE, slot(alloc, -4), read(alloc, 0)?)?)?;
+    let call = one(alloc, CALL, name(alloc, 1))?;
+    expected.push(two(alloc, WRITE, slot(alloc, -8), call)?)?;
+    let sum = two(alloc, SUM, kept(alloc, -4)?, kept(alloc, -8)?)?;
+    expected.push(two(alloc, WRITE, name(alloc, 0), sum)?)?;
+    expected.push(one(alloc, RETURN, read(alloc, 0)?)?)?;
+    let text = format!(in alloc; "{:?}", trees)?;
+    let wanted = format!(in alloc; "{:?}", expected)?;
+    assert_eq!(rt; text, wanted);
+    Ok(())
+}
+
+#[test]
+fn a_read_of_two_roots_is_kept_over_the_first(rt: HostRuntime) -> Result<(), Fail> {
+    let alloc = rt.alloc();
+    let mut block = Block::new(alloc);
+    let x = block.value(ADDRESS, Kids::Zero, global(0), None)?;
+    let y = block.value(ADDRESS, Kids::Zero, global(1), None)?;
+    let n = block.value(READ, Kids::One(x), Sym::Nothing, None)?;
+    block.root(WRITE, Kids::Two(y, n), Sym::Nothing)?;
+    block.root(RETURN, Kids::One(n), Sym::Nothing)?;
+    let mut frame = Frame::new(alloc);
+    let trees = block.finish(alloc, &mut frame)?;
+    let mut expected = Items::new(alloc);
+    expected.push(two(alloc, WRITE, slot(alloc, -4), read(alloc, 0)?)?)?;
+    expected.push(two(alloc, WRITE, name(alloc, 1), kept(alloc, -4)?)?)?;
+    expected.push(one(alloc, RETURN, kept(alloc, -4)?)?)?;
+    let text = format!(in alloc; "{:?}", trees)?;
+    let wanted = format!(in alloc; "{:?}", expected)?;
+    assert_eq!(rt; text, wanted);
+    Ok(())
+}
+
+#[test]
+fn a_long_chain_of_shared_nodes_is_kept(rt: HostRuntime) -> Result<(), Fail> {
+    let alloc = rt.alloc();
+    let mut block = Block::new(alloc);
+    let x = block.value(ADDRESS, Kids::Zero, global(0), None)?;
+    let mut last = block.value(READ, Kids::One(x), Sym::Nothing, None)?;
+    for _ in 0..100_000 {
+        last = block.value(SUM, Kids::Two(last, last), Sym::Nothing, None)?;
+    }
+    block.root(RETURN, Kids::One(last), Sym::Nothing)?;
+    let mut frame = Frame::new(alloc);
+    let trees = block.finish(alloc, &mut frame)?;
+    assert_eq!(rt; trees.len(), 100_001);
+    assert_eq!(rt; frame.slots().len(), 100_000);
     Ok(())
 }

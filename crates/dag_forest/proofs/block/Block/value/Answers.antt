@@ -1,8 +1,9 @@
 use Rattle.std.proofs.Common.{◌≡◌, ◌++◌, ◌∷◌, [], length, List, Bool, subst, ap, sym, ◌∙◌, rules}
 use Rattle.dag_forest.specs.declared.entry.Entry.{Entry}
-use Rattle.dag_forest.specs.Entries.{parts_of}
+use Rattle.dag_forest.specs.declared.key.Key.{Key}
+use Rattle.dag_forest.specs.Entries.{AreBelow, parts_of}
 use Rattle.dag_forest.specs.Keys.{key_at}
-use Rattle.dag_forest.specs.Tally.{IsFresh, tally, holds_call}
+use Rattle.dag_forest.specs.Tally.{IsFresh, keys_of, tally, holds_call}
 use Rattle.dag_forest.proofs.Tallies.{keys_here, grown_value}
 use Rattle.dag_forest.proofs.block.Block.value.Goals as goal
 
@@ -15,6 +16,7 @@ invariant_of-self-then-is_new c =
     c.holds_call-calls.ensures ∙ ap (λ (es : List Entry). holds_call (tally es).calling x) c.make_room.ensures.values ∙ ap (λ (l : List Bool). holds_call l x) (sym c.self.invariant.marked) in
     grown_value s.entries.values s.keys.keys s.calling.items s.stretch x c.push.new.self.values c.numbered.new.keys.keys c.push_reserved.new.self.items
     c.self.invariant
+    (subst (λ (l : List Key). AreBelow (length l) c.args.kids) (ap keys_of (sym c.self.view_is) ∙ sym c.self.invariant.keyed) c.requires)
     (subst (λ u. IsFresh s.keys.keys u) k (c.in_ok-number.ensures.fresh c.if-is_new.true))
     (search rules)
     (c.in_ok-number.ensures.new c.if-is_new.true ∙ ap (λ u. s.keys.keys ++ u ∷ []) k)

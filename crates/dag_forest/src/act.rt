@@ -1,0 +1,25 @@
+ghost use Rattle.std.specs.Prelude.{◌≡◌};
+ghost use Rattle.dag_forest.specs.Schedules.{kids_of};
+
+use crate::kids::Kids;
+use crate::parts::Parts;
+
+/// What a block does.
+#[derive(Clone, Copy, Debug, PartialEq, Eq)]
+pub enum Act {
+    /// The node of this number is made.
+    Made(u32, Parts),
+    /// A root acts.
+    Acts(Parts),
+}
+
+impl Act {
+    /// The operands.
+    pub(crate) fn kids(self) -> Kids
+        ensures { result ≡ kids_of self }
+    {
+        match self {
+            Act::Made(_, parts) | Act::Acts(parts) => parts.kids,
+        }
+    }
+}

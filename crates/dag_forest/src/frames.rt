@@ -1,0 +1,48 @@
+//! New slots below those of a frame.
+ghost use Rattle.std.specs.Prelude.{◌≡◌, ◌++◌, IfOk, pos};
+ghost use Rattle.op_forest.specs.Frames.{IsFrame};
+ghost use Rattle.dag_forest.specs.NewSlots.{lowest, offset_below, slots_below};
+
+use lcc_base::{Items, Memory};
+use op_forest::{Frame, Slot};
+use std::alloc::Global;
+use std::cmp::min;
+
+/// The size of a slot that keeps a node, in bytes.
+const WORD: u32 = 4;
+
+/// Where the lowest of the slots begins, or the frame's top.
+pub(crate) fn lowest(slots: &[Slot]) -> i32
+    ensures { result ≡ lowest slots.now }
+{
+    let mut lowest = 0;
+    for slot in slots {
+        lowest = min(lowest, slot.offset);
+    }
+    lowest
+}
+
+/// Where the new slot of this number begins, from 0. `Memory` comes where that is below -2^31.
+pub(crate) fn offset_below(lowest: i32, number: u32) -> Result<i32, Memory>
+    ensures { IfOk result (λ o. o ≡ offset_below lowest number) }
+{
+    let offset = i64::from(lowest) - i64::from(WORD) * (i64::from(number) + 1);
+    match i32::try_from(offset) {
+        Ok(offset) => Ok(offset),
+        Err(_) => Err(Memory),
+    }
+}
+
+/// The frame with so many new slots below its lowest one.
+pub(crate) fn grown(alloc: Global, frame: &Frame, number: u32) -> Result<Frame, Memory>
+    ensures { IfOk result (λ f. f ≡ frame.now ++ slots_below (lowest frame.now) number) }
+{
+    let lowest = lowest(frame.slots());
+    let mut slots = Vec::new(alloc);
+    slots.extend_from_slice(frame.slots())?;
+    for n in 0..number {
+        let offset = offset_below(lowest, n)?;
+        slots.push(Slot { offset, size: WORD })?;
+    }
+    Ok(Frame::of_slots(Items::from_vec(slots)))
+}

@@ -1,0 +1,25 @@
+ghost use Rattle.std.specs.Prelude.{◌≡◌};
+ghost use Rattle.dag_forest.specs.Choice.{kind_of};
+
+use op_forest::Suffix;
+
+/// What is kept in a temporary: a signed or unsigned number, or an address.
+#[derive(Clone, Copy, Debug, PartialEq, Eq)]
+pub enum Kind {
+    Signed,
+    Unsigned,
+    Address,
+}
+
+impl Kind {
+    /// What a node of this suffix is kept as.
+    pub(crate) fn of(suffix: Suffix) -> Self
+        ensures { result ≡ kind_of suffix }
+    {
+        match suffix {
+            Suffix::U => Kind::Unsigned,
+            Suffix::P => Kind::Address,
+            _ => Kind::Signed,
+        }
+    }
+}
