@@ -169,10 +169,22 @@ below_get low (suc n) k l = ⊎_elim
     (λ q. get_left (slots_below low n) (slot_below low n ∷ []) k (slot_below low k) (below_get low n k (omega (arith, ints, l, q))))
     (cases_eq k n)
 
-pub place_of : (place made : ℕ) (before : List Slot) → IsFrame before → (n k : ℕ) → k < n → slot_place place made (before ++ slots_below (lowest before) n) (offset_below (lowest before) k) ≡ Some (Plain (Pointer (record { place = place + (length before + k); made = made + (length before + k); size = 4 }) 0))
-place_of place made before frame n k l =
+get_inside : {X : Type 0} (xs ys : List X) (n : ℕ) (x : X) → n < length xs → slice_get (xs ++ ys) n ≡ Some x → slice_get xs n ≡ Some x
+get_inside [] ys n x l e = absurd (omega (arith, l))
+get_inside (y ∷ xs) ys zero x l e = e
+get_inside (y ∷ xs) ys (suc n) x l e = get_inside xs ys n x (omega (arith, l)) e
+
+get_below : {X : Type 0} (xs : List X) (n : ℕ) (x : X) → slice_get xs n ≡ Some x → n < length xs
+get_below [] n x e = let no : ⊥ = cc in absurd no
+get_below (y ∷ xs) zero x e = omega arith
+get_below (y ∷ xs) (suc n) x e = let h = get_below xs n x e in omega (arith, h)
+
+-- also where more slots stand behind
+pub place_of : (place made : ℕ) (before more : List Slot) → IsFrame before → (n k : ℕ) → k < n → slot_place place made ((before ++ slots_below (lowest before) n) ++ more) (offset_below (lowest before) k) ≡ Some (Plain (Pointer (record { place = place + (length before + k); made = made + (length before + k); size = 4 }) 0))
+place_of place made before more frame n k l =
     let slots = before ++ slots_below (lowest before) n in
     let s = slot_below (lowest before) k in
     let here : slice_get slots (length before + k) ≡ Some s = get_right before (slots_below (lowest before) n) k s (below_get (lowest before) n k l) in
-    slot_at place made slots (length before + k) s here (omega (arith, ints))
-    (λ j t lt e. ⊎_elim (λ q. absurd (omega (arith, ints, q, lt))) (λ q. q) ((frame_below before frame n).apart (length before + k) j s t here e))
+    let within = get_below slots (length before + k) s here in
+    slot_at place made (slots ++ more) (length before + k) s (get_left slots more (length before + k) s here) (omega (arith, ints))
+    (λ j t lt e. ⊎_elim (λ q. absurd (omega (arith, ints, q, lt))) (λ q. q) ((frame_below before frame n).apart (length before + k) j s t here (get_inside slots more j t (omega (arith, lt, within)) e)))

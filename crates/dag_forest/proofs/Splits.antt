@@ -1,5 +1,5 @@
 -- The split of a block.
-use Rattle.std.proofs.Common.{◌≡◌, ℕ, ◌+◌, true, false, Option, Some, None, refl, [], true≢false, sym, ap, ◌∙◌, length, List, subst, arith}
+use Rattle.std.proofs.Common.{◌≡◌, ◌++◌, ℕ, ◌+◌, true, false, Option, Some, None, refl, [], true≢false, sym, ap, ◌∙◌, length, List, subst, arith}
 use Rattle.lcc_base.specs.declared.order.Order.{Order}
 use Rattle.op_forest.specs.declared.frame.Slot.{Slot}
 use Rattle.op_forest.specs.Frames.{IsFrame}
@@ -35,20 +35,20 @@ distinct_of order home before entries m p t u a b e =
     let same : home.place + (length before + x.0.number) ≡ home.place + (length before + y.0.number) = ap (λ (v : Temporary). v.object) x.2 ∙ e ∙ sym (ap (λ (v : Temporary). v.object) y.2) in
     apart (acts_of entries) (λ q. false) 0 m p x.0 y.0 x.1 y.1 (omega (arith, same))
 
-temporary : (s : Setting) (before : List Slot) → IsFrame before → (entries : List Entry) → s.environment.home.slots ≡ split_frame before entries → (m : ℕ) (t : Temporary) → keeps_of s.environment.order s.environment.home before entries m ≡ Some t → IsTemporary s t
-temporary s before frame entries is m t e =
+temporary : (s : Setting) (before more : List Slot) → IsFrame before → (entries : List Entry) → s.environment.home.slots ≡ split_frame before entries ++ more → (m : ℕ) (t : Temporary) → keeps_of s.environment.order s.environment.home before entries m ≡ Some t → IsTemporary s t
+temporary s before more frame entries is m t e =
     let x = kept_is (temporary_of s.environment.order s.environment.home before) (room_of entries m) t e in
     let l = (between (acts_of entries) (λ q. false) 0 m x.0 x.1).1 in
     subst (IsTemporary s) x.2
     (is_temporary s (slot_name s.environment.home (length before + x.0.number)) (offset_below (lowest before) x.0.number)
-    (ap (λ z. slot_place s.environment.home.place s.environment.home.made z (offset_below (lowest before) x.0.number)) is ∙ place_of s.environment.home.place s.environment.home.made before frame (room_count entries) x.0.number l)
+    (ap (λ z. slot_place s.environment.home.place s.environment.home.made z (offset_below (lowest before) x.0.number)) is ∙ place_of s.environment.home.place s.environment.home.made before more frame (room_count entries) x.0.number l)
     x.0.kind)
 
 pub split_is : (before : List Slot) → IsFrame before → (entries : List Entry) → AreFormed entries 0 → Split before entries
 split_is before frame entries formed = record {
   distinct = λ order home. distinct_of order home before entries;
   holds = λ order home. holds_from (temporary_of order home before) (acts_of entries) (λ m. false) (λ m. Lost) (λ m. false) 0 (room_of entries) (λ m e. refl) (acts_are_once entries) (acts_are_ready entries (λ m. false ≡ true) formed) (are_used (in_turn entries 0 [])) (λ m e. absurd (true≢false (sym e)));
-  temporaries = λ s is. temporary s before frame entries is;
+  temporaries = λ s more is. temporary s before more frame entries is;
   are = λ order home rest. sym (erased_are (keeps_of order home before entries) (acts_of entries) (λ m. Plain no_tree) rest);
   once = λ order home m. computed_once (keeps_of order home before entries) (acts_of entries) (λ q. false) no_tree m (acts_are_once entries) (thrifty (temporary_of order home before) (acts_of entries) (λ q. false) (λ q. false) 0 (room_of entries) (λ q e. refl) (acts_are_once entries) (are_used (in_turn entries 0 [])));
   sparing = sparing (acts_of entries) (λ q. false) (λ q. false) 0 (room_of entries) (λ q e. refl) (acts_are_once entries);

@@ -52,12 +52,12 @@ abbrev pub split_marked : Order → Home → List Slot → List Entry → List M
 split_marked order home before entries = marked (keeps_of order home before entries) (acts_of entries) (λ m. Plain no_tree)
 
 -- No two nodes have one slot, each use of a node stands where its tree has the node's value, and in a frame with the new
--- slots they are temporaries. And in the trees each node is computed once that a root stands above and that is neither an
+-- slots, and maybe more behind them, they are temporaries. And in the trees each node is computed once that a root stands above and that is neither an
 -- address nor a constant, and no other; and no node has a slot without need.
 pub record Split (before : List Slot) (entries : List Entry) : Type 0 where
   pub distinct : (order : Order) (home : Home) → Distinct (keeps_of order home before entries)
   pub holds : (order : Order) (home : Home) → Holds (keeps_of order home before entries) (acts_of entries) (λ m. Lost)
-  pub temporaries : (s : Setting) → s.environment.home.slots ≡ split_frame before entries → AreTemporaries s (keeps_of s.environment.order s.environment.home before entries)
+  pub temporaries : (s : Setting) (more : List Slot) → s.environment.home.slots ≡ split_frame before entries ++ more → AreTemporaries s (keeps_of s.environment.order s.environment.home before entries)
   pub are : (order : Order) (home : Home) (rest : List Tree) → split_trees order home before entries rest ≡ erased_all (split_marked order home before entries) rest
   pub once : (order : Order) (home : Home) (m : ℕ) → all_places m (split_marked order home before entries) ≡ times_computed (acts_of entries) m
   pub sparing : AreSparing (room_of entries) (acts_of entries)
