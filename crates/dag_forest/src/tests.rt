@@ -137,24 +137,46 @@ fn read(alloc: Global, place: u32) -> Result<Tree, Fail> {
     one(alloc, READ, name(alloc, place))
 }
 
-#[test]
-fn a_read_that_is_used_twice_is_kept(rt: HostRuntime) -> Result<(), Fail> {
-    let alloc = rt.alloc();
+// The trees of a block on an empty frame, and what they should be, as texts.
+fn texts(alloc: Global, block: Block, expected: Items<Tree>) -> Result<(String, String), Fail> {
+    let mut frame = Frame::new(alloc);
+    let trees = block.finish(alloc, &mut frame)?;
+    let text = format!(in alloc; "{:?}", trees)?;
+    let wanted = format!(in alloc; "{:?}", expected)?;
+    Ok((text, wanted))
+}
+
+// `y = x + x`, with one read.
+fn sum_of_one_read(alloc: Global) -> Result<Block, Fail> {
     let mut block = Block::new(alloc);
     let x = block.value(ADDRESS, Kids::Zero, global(0), None)?;
     let y = block.value(ADDRESS, Kids::Zero, global(1), None)?;
     let n = block.value(READ, Kids::One(x), Sym::Nothing, None)?;
     let sum = block.value(SUM, Kids::Two(n, n), Sym::Nothing, None)?;
     block.root(WRITE, Kids::Two(y, sum), Sym::Nothing)?;
-    let mut frame = Frame::new(alloc);
-    let trees = block.finish(alloc, &mut frame)?;
+    Ok(block)
+}
+
+fn sum_of_one_kept_read(alloc: Global) -> Result<Items<Tree>, Fail> {
     let mut expected = Items::new(alloc);
-    expected.push(two(alloc, WRITE, slot(alloc, -4), read(alloc, 0)?)?)?;
+    expected.push(kept_read(alloc, -4)?)?;
     let sum = two(alloc, SUM, kept(alloc, -4)?, kept(alloc, -4)?)?;
     expected.push(two(alloc, WRITE, name(alloc, 1), sum)?)?;
-    let text = format!(in alloc; "{:?}", trees)?;
-    let wanted = format!(in alloc; "{:?}", expected)?;
+    Ok(expected)
+}
+
+// The first name's value, stored in a slot.
+fn kept_read(alloc: Global, offset: i64) -> Result<Tree, Fail> {
+    two(alloc, WRITE, slot(alloc, offset), read(alloc, 0)?)
+}
+
+#[test]
+fn a_read_that_is_used_twice_is_kept(rt: HostRuntime) -> Result<(), Fail> {
+    let alloc = rt.alloc();
+    let (text, wanted) = texts(alloc, sum_of_one_read(alloc)?, sum_of_one_kept_read(alloc)?)?;
     assert_eq!(rt; text, wanted);
+    let mut frame = Frame::new(alloc);
+    let _trees = sum_of_one_read(alloc)?.finish(alloc, &mut frame)?;
     let slots = [Slot {
         offset: -4,
         size: 4,
@@ -163,9 +185,8 @@ fn a_read_that_is_used_twice_is_kept(rt: HostRuntime) -> Result<(), Fail> {
     Ok(())
 }
 
-#[test]
-fn a_read_is_kept_over_a_store_through_a_pointer(rt: HostRuntime) -> Result<(), Fail> {
-    let alloc = rt.alloc();
+// A read, a store through a pointer, and the value that was read.
+fn read_before_a_store(alloc: Global) -> Result<Block, Fail> {
     let mut block = Block::new(alloc);
     let x = block.value(ADDRESS, Kids::Zero, global(0), None)?;
     let p = block.value(ADDRESS, Kids::Zero, global(1), None)?;
@@ -174,22 +195,32 @@ fn a_read_is_kept_over_a_store_through_a_pointer(rt: HostRuntime) -> Result<(), 
     let value = block.value(CONSTANT, Kids::Zero, Sym::Nothing, Some(1))?;
     block.root(WRITE, Kids::Two(pointer, value), Sym::Nothing)?;
     block.root(RETURN, Kids::One(n), Sym::Nothing)?;
-    let mut frame = Frame::new(alloc);
-    let trees = block.finish(alloc, &mut frame)?;
+    Ok(block)
+}
+
+fn read_kept_over_a_store(alloc: Global) -> Result<Items<Tree>, Fail> {
     let mut expected = Items::new(alloc);
-    expected.push(two(alloc, WRITE, slot(alloc, -4), read(alloc, 0)?)?)?;
+    expected.push(kept_read(alloc, -4)?)?;
     let pointer = one(alloc, POINTER, name(alloc, 1))?;
     expected.push(two(alloc, WRITE, pointer, number(alloc, 1))?)?;
     expected.push(one(alloc, RETURN, kept(alloc, -4)?)?)?;
-    let text = format!(in alloc; "{:?}", trees)?;
-    let wanted = format!(in alloc; "{:?}", expected)?;
+    Ok(expected)
+}
+
+#[test]
+fn a_read_is_kept_over_a_store_through_a_pointer(rt: HostRuntime) -> Result<(), Fail> {
+    let alloc = rt.alloc();
+    let (text, wanted) = texts(
+        alloc,
+        read_before_a_store(alloc)?,
+        read_kept_over_a_store(alloc)?,
+    )?;
     assert_eq!(rt; text, wanted);
     Ok(())
 }
 
-#[test]
-fn a_read_is_kept_over_a_call_and_made_again_behind_it(rt: HostRuntime) -> Result<(), Fail> {
-    let alloc = rt.alloc();
+// `x = x + f()`, and then the value of x.
+fn read_around_a_call(alloc: Global) -> Result<Block, Fail> {
     let mut block = Block::new(alloc);
     let x = block.value(ADDRESS, Kids::Zero, global(0), None)?;
     let f = block.value(ADDRESS, Kids::Zero, global(1), None)?;
@@ -199,38 +230,59 @@ fn a_read_is_kept_over_a_call_and_made_again_behind_it(rt: HostRuntime) -> Resul
     block.root(WRITE, Kids::Two(x, sum), Sym::Nothing)?;
     let behind = block.value(READ, Kids::One(x), Sym::Nothing, None)?;
     block.root(RETURN, Kids::One(behind), Sym::Nothing)?;
-    let mut frame = Frame::new(alloc);
-    let trees = block.finish(alloc, &mut frame)?;
+    Ok(block)
+}
+
+fn read_kept_over_a_call(alloc: Global) -> Result<Items<Tree>, Fail> {
     let mut expected = Items::new(alloc);
-    expected.push(two(alloc, WRITE, slot(alloc, -4), read(alloc, 0)?)?)?;
+    expected.push(kept_read(alloc, -4)?)?;
     let call = one(alloc, CALL, name(alloc, 1))?;
     expected.push(two(alloc, WRITE, slot(alloc, -8), call)?)?;
     let sum = two(alloc, SUM, kept(alloc, -4)?, kept(alloc, -8)?)?;
     expected.push(two(alloc, WRITE, name(alloc, 0), sum)?)?;
     expected.push(one(alloc, RETURN, read(alloc, 0)?)?)?;
-    let text = format!(in alloc; "{:?}", trees)?;
-    let wanted = format!(in alloc; "{:?}", expected)?;
+    Ok(expected)
+}
+
+#[test]
+fn a_read_is_kept_over_a_call_and_made_again_behind_it(rt: HostRuntime) -> Result<(), Fail> {
+    let alloc = rt.alloc();
+    let (text, wanted) = texts(
+        alloc,
+        read_around_a_call(alloc)?,
+        read_kept_over_a_call(alloc)?,
+    )?;
     assert_eq!(rt; text, wanted);
     Ok(())
 }
 
-#[test]
-fn a_read_of_two_roots_is_kept_over_the_first(rt: HostRuntime) -> Result<(), Fail> {
-    let alloc = rt.alloc();
+// `y = x`, and then the value that was read.
+fn read_of_two_roots(alloc: Global) -> Result<Block, Fail> {
     let mut block = Block::new(alloc);
     let x = block.value(ADDRESS, Kids::Zero, global(0), None)?;
     let y = block.value(ADDRESS, Kids::Zero, global(1), None)?;
     let n = block.value(READ, Kids::One(x), Sym::Nothing, None)?;
     block.root(WRITE, Kids::Two(y, n), Sym::Nothing)?;
     block.root(RETURN, Kids::One(n), Sym::Nothing)?;
-    let mut frame = Frame::new(alloc);
-    let trees = block.finish(alloc, &mut frame)?;
+    Ok(block)
+}
+
+fn read_kept_for_two_roots(alloc: Global) -> Result<Items<Tree>, Fail> {
     let mut expected = Items::new(alloc);
-    expected.push(two(alloc, WRITE, slot(alloc, -4), read(alloc, 0)?)?)?;
+    expected.push(kept_read(alloc, -4)?)?;
     expected.push(two(alloc, WRITE, name(alloc, 1), kept(alloc, -4)?)?)?;
     expected.push(one(alloc, RETURN, kept(alloc, -4)?)?)?;
-    let text = format!(in alloc; "{:?}", trees)?;
-    let wanted = format!(in alloc; "{:?}", expected)?;
+    Ok(expected)
+}
+
+#[test]
+fn a_read_of_two_roots_is_kept_over_the_first(rt: HostRuntime) -> Result<(), Fail> {
+    let alloc = rt.alloc();
+    let (text, wanted) = texts(
+        alloc,
+        read_of_two_roots(alloc)?,
+        read_kept_for_two_roots(alloc)?,
+    )?;
     assert_eq!(rt; text, wanted);
     Ok(())
 }
