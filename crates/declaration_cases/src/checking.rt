@@ -47,8 +47,60 @@ pub(crate) fn check_all(
     last
 }
 
-/// The declarations of a text at file scope, and then those of another one in a block, checked: what the last
-/// one declares, or the first fault.
+/// The declarations of a text at file scope, before others: the first fault, if there is one.
+fn check_before(
+    alloc: Global,
+    scopes: &mut Scopes,
+    types: &mut TypeTable,
+    text: &[u8],
+) -> Option<Result<(), CheckFault>>
+    requires { AreSymbolsIn (length types.old.forms) scopes.old.symbols }
+    ensures { AreSymbolsIn (length types.new.forms) scopes.new.symbols }
+{
+    if text.is_empty() {
+        return Some(Ok(()));
+    }
+    match check_all(alloc, scopes, types, text)? {
+        Ok(_) => Some(Ok(())),
+        Err(fault) => Some(Err(fault)),
+    }
+}
+
+/// The declarations of a text in a block.
+fn check_inside(
+    alloc: Global,
+    scopes: &mut Scopes,
+    types: &mut TypeTable,
+    text: &[u8],
+) -> Option<Result<Declares, CheckFault>>
+    requires { AreSymbolsIn (length types.old.forms) scopes.old.symbols }
+{
+    match scopes.enter() {
+        Ok(()) => check_all(alloc, scopes, types, text),
+        Err(_) => None,
+    }
+}
+
+/// The declarations of a text at file scope, and those of another one in a block behind them.
+fn check_both(
+    alloc: Global,
+    scopes: &mut Scopes,
+    types: &mut TypeTable,
+    outside: &[u8],
+    inside: &[u8],
+) -> Option<Result<Declares, CheckFault>>
+    requires { AreSymbolsIn (length types.old.forms) scopes.old.symbols }
+{
+    if inside.is_empty() {
+        return check_all(alloc, scopes, types, outside);
+    }
+    match check_before(alloc, scopes, types, outside)? {
+        Ok(()) => check_inside(alloc, scopes, types, inside),
+        Err(fault) => Some(Err(fault)),
+    }
+}
+
+/// The same from the beginning of a unit: what the last declaration declares, or the first fault.
 pub(crate) fn check(
     alloc: Global,
     outside: &[u8],
@@ -56,14 +108,5 @@ pub(crate) fn check(
 ) -> Option<Result<Declares, CheckFault>> {
     let mut scopes = Scopes::new(alloc).ok()?;
     let mut types = TypeTable::new(alloc);
-    if inside.is_empty() {
-        return check_all(alloc, &mut scopes, &mut types, outside);
-    }
-    if !outside.is_empty() {
-        if let Err(fault) = check_all(alloc, &mut scopes, &mut types, outside)? {
-            return Some(Err(fault));
-        }
-    }
-    scopes.enter().ok()?;
-    check_all(alloc, &mut scopes, &mut types, inside)
+    check_both(alloc, &mut scopes, &mut types, outside, inside)
 }

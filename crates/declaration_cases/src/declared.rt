@@ -1,6 +1,7 @@
 //! What declarations declare: objects with their places, local objects, and the symbols of names.
 use crate::checking::{check, check_all};
 use c_check_decl::Declares;
+use c_check_expr::pieces::symbol_type;
 use c_meaning::CoreStmt;
 use c_symbols::{Scopes, Storage};
 use c_types::TypeTable;
@@ -109,8 +110,9 @@ fn linked(alloc: Global, text: &[u8]) -> Option<(Storage, Option<u32>, Option<i6
     if id >= scopes.count() {
         return None;
     }
+    let size = types.size(symbol_type(&scopes, &types, id));
     let symbol = scopes.symbol(id);
-    Some((symbol.class, types.size(symbol.of), symbol.value))
+    Some((symbol.class, size, symbol.value))
 }
 
 #[test]
