@@ -3,5 +3,6 @@ pub mod Known
 pub mod Size
 pub mod Meaning
 pub mod WellFormedRoots
+pub mod RuledRoots
 pub mod Small
 pub mod Running

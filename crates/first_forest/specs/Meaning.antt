@@ -3,11 +3,12 @@
 use Rattle.std.specs.Prelude.{◌≡◌, ℕ, ◌≤◌, List, [], ◌∷◌, ◌++◌, length}
 use Rattle.first_form.specs.FirstProgram.{MProgram}
 use Rattle.first_form.specs.Meaning.{value, output}
-use Rattle.op_forest.specs.Words.{Number}
+use Rattle.objects.specs.declared.value.Value.TheVariants.{Number}
 use Rattle.op_forest.specs.Traces.{Event, output_of, depth_of}
-use Rattle.op_forest.specs.Worlds.{Next, Effect, Went, Exits, Unfinished, Stuck}
-use Rattle.op_forest.specs.Meaning.{call_of}
-use Rattle.op_forest.specs.Units.{program_of, start_world}
+use Rattle.forests.specs.Words.{Plain}
+use Rattle.forests.specs.Worlds.{Next, Effect, Went, Exits, Unfinished, Stuck}
+use Rattle.forests.specs.Meaning.{call_of}
+use Rattle.forests.specs.Units.{program_of, start_world}
 use Rattle.first_forest.specs.FirstForest.{roots_of, unit_of}
 
 -- the call of `main` with so many root steps, on this input
@@ -21,7 +22,7 @@ IsPrefix a b = (rest : List ℕ) × (a ++ rest ≡ b)
 -- a run that is over has printed the program's output and returns its result; one that goes on has printed a first part
 -- of the output
 abbrev pub IsRun : MProgram → Effect → Type 0
-IsRun p (Went values point move) = (values ≡ Number (value p.result) ∷ []) × (move ≡ Next) × (output_of point.world.trace ≡ output p)
+IsRun p (Went values point move) = (values ≡ Plain (Number (value p.result)) ∷ []) × (move ≡ Next) × (output_of point.world.trace ≡ output p)
 IsRun p (Exits status world) = ⊥
 IsRun p (Unfinished world) = IsPrefix (output_of world.trace) (output p)
 IsRun p Stuck = ⊥

@@ -3,7 +3,8 @@ ghost use Rattle.std.specs.List.{AllByRecursion};
 ghost use Rattle.first_form.specs.FirstProgram.{program_of};
 ghost use Rattle.first_form.specs.FirstForm.{IsFirst, IsExpression};
 ghost use Rattle.op_forest.specs.Nodes.{nodes};
-ghost use Rattle.op_forest.specs.WellFormed.{IsWellFormed};
+ghost use Rattle.forests.specs.WellFormed.{IsWellFormed};
+ghost use Rattle.forests.specs.HasRules.{HasRules};
 ghost use Rattle.first_forest.specs.FirstForest.{main_of, roots_of, unit_names, unit_of};
 ghost use Rattle.first_forest.specs.Size.{program_nodes};
 ghost use Rattle.first_forest.specs.Meaning.{IsMeant};
@@ -56,7 +57,9 @@ pub fn lower(alloc: Global, program: &FirstProgram) -> Result<Lowered, Memory>
     ensures unit { IfOk result (λ u. u ≡ unit_of (program_of program.now)) }
     // Its forest is well formed, where the grammar derives the program's expressions.
     ensures well_formed { let p = program_of program.now in AllByRecursion IsExpression p.prints → IsExpression p.result → IsWellFormed (main_of p).forest }
-    // They have no more nodes than a text of the program has bytes, and at most three for each
+    // Each operator of its roots has a rule.
+    ensures ruled { HasRules (roots_of (program_of program.now)) }
+    // The roots have no more nodes than a text of the program has bytes, and at most three for each
     // node of the program.
     ensures small { (text : List ℕ) → IsFirst text (program_of program.now) → sum_by nodes (roots_of (program_of program.now)) ≤ length text }
     ensures few { sum_by nodes (roots_of (program_of program.now)) ≤ 3 * program_nodes (program_of program.now) }

@@ -33,6 +33,8 @@ const ARG: Part = Part::Over(Op::Arg, Suffix::I, 1);
 
 const CALL: Part = Part::Over(Op::Call, Suffix::I, 1);
 
+const ADD: Part = Part::Over(Op::Add, Suffix::I, 2);
+
 const RET: Part = Part::Over(Op::Ret, Suffix::I, 1);
 
 const LOAD: Part = Part::Over(Op::Indir, Suffix::I, 1);
@@ -79,12 +81,12 @@ fn tree(alloc: Global, part: Part, trees: &mut Vec<Tree>) -> Result<Tree, Fail> 
 
 /// A frame with one slot of the bytes from -8 to -3.
 fn frame(alloc: Global) -> Result<Frame, Memory> {
-    let mut slots = Items::new(alloc);
-    slots.push(Slot {
+    let mut frame = Frame::new(alloc);
+    frame.extend(&[Slot {
         offset: -8,
         size: 6,
-    })?;
-    Ok(Frame::of_slots(slots))
+    }])?;
+    Ok(frame)
 }
 
 /// A forest with these roots and that frame.
@@ -124,7 +126,11 @@ fn good_forests(rt: HostRuntime) -> Result<(), Fail> {
         [FIVE, FIVE, LESS, LABEL, OTHER].as_slice(),
         // A jump whose label is read.
         [NAME, Part::Over(Op::Indir, Suffix::P, 1), JUMP].as_slice(),
+        // Arguments and the call that takes them.
         [FIVE, ARG, FIVE, ARG, NAME, CALL, RET].as_slice(),
+        [FIVE, ARG, NAME, CALL, ARG, NAME, CALL].as_slice(),
+        [FIVE, ARG, FIVE, NAME, CALL, ADD].as_slice(),
+        [LABEL, FIVE, ARG, FIVE, NAME, CALL, LESS].as_slice(),
         [
             FIVE,
             ARG,
@@ -192,6 +198,12 @@ fn kinds(rt: HostRuntime) -> Result<(), Fail> {
         // No call takes an argument.
         ([LABEL, FIVE, ARG].as_slice(), 1),
         ([FIVE, ARG, OTHER, NAME, CALL].as_slice(), 0),
+        ([NAME, CALL, ARG].as_slice(), 0),
+        ([FIVE, RET, FIVE, ARG, FIVE, RET, NAME, CALL].as_slice(), 1),
+        (
+            [LABEL, FIVE, ARG, FIVE, FIVE, LESS, NAME, CALL].as_slice(),
+            1,
+        ),
         ([LABEL, FIVE, ARG, PLACE, JUMP, NAME, CALL].as_slice(), 1),
     ];
     for (parts, root) in cases {

@@ -8,6 +8,6 @@ mod first_forests;
 #[cfg(test)]
 mod first_programs;
 #[cfg(test)]
-mod forests_of_numbers;
-#[cfg(test)]
 mod stored_values;
+#[cfg(test)]
+mod trees_and_units;

@@ -3,7 +3,7 @@ use Rattle.std.proofs.Common.{◌≡◌, ◌↔◌, ℕ, zero, suc, ◌+◌, ◌
 use Rattle.std.proofs.lemmas.Bool.{eqb-true, eq-eqb, true≢false, cases_lt}
 use Rattle.std.proofs.lemmas.Option.{slice_get_within, slice_get-get_or, get_or_from_slice_get}
 use Rattle.op_forest.specs.Nodes.{Node}
-use Rattle.op_forest.specs.Bodies.{label_of}
+use Rattle.op_forest.specs.Labels.{label_of}
 use Rattle.op_forest.specs.Lowered.{HasLabel}
 use Rattle.forests.specs.FirstPlaces.{first_by, first_place, AreFirst, HasPlaces}
 use Rattle.forests.specs.WellFormed.{HasLabels}

@@ -7,7 +7,7 @@ use Rattle.op_forest.specs.declared.frame.Slot.{Slot}
 use Rattle.op_forest.specs.declared.op.Op.TheVariants as op
 use Rattle.op_forest.specs.declared.suffix.Suffix.TheVariants.{I, U, P, V}
 use Rattle.op_forest.specs.declared.sym.Sym.TheVariants as sym
-use Rattle.op_forest.specs.Functions.{Callee, Defined, Provided, Missing, Putchar}
+use Rattle.op_forest.specs.Callees.{Callee, Defined, Provided, Missing, Putchar}
 use Rattle.op_forest.specs.Nodes.{Node, Leaf, One, Two}
 use Rattle.op_forest.specs.Traces.{output_of}
 use Rattle.forests.specs.Words.{Word, Plain, Label, unknown}

@@ -5,8 +5,8 @@ use Rattle.op_forest.specs.Nodes.{Head, Node, Leaf, One, Two}
 use Rattle.forests.specs.Words.{Word, Plain}
 use Rattle.op_forest.specs.Traces.{Event, Wrote, Opened, Closed}
 use Rattle.forests.specs.Worlds.{World, Point, at_world, Move, Next, To, End, Effect, Went, Exits, Unfinished, Stuck, then_do, Outcome, Finished, Exited, Going, Failed, goes}
-use Rattle.op_forest.specs.Bodies.{behind}
-use Rattle.op_forest.specs.Functions.{Body, BuiltIn, Putchar, Getchar, Exit, Callee, Defined, Provided, Missing}
+use Rattle.op_forest.specs.Labels.{behind}
+use Rattle.op_forest.specs.Callees.{Body, BuiltIn, Putchar, Getchar, Exit, Callee, Defined, Provided, Missing}
 use Rattle.objects.specs.declared.value.Value.TheVariants.{Number}
 use Rattle.forests.specs.Bodies.{Setting, does, evaluate, at_label, follow, act, body_run}
 use Rattle.forests.specs.Functions.{Program, entered, answered, put_character, get_character, exit_with, provided, setting_of, call_by}

@@ -3,7 +3,7 @@
 -- Source: Fraser and Hanson, A Retargetable C Compiler, chapter 5.
 use Rattle.std.specs.Prelude.{ℕ, zero, suc, Option, Some, None, List, [], ◌∷◌, ◌++◌}
 use Rattle.op_forest.specs.Nodes.{Head, Node, Leaf, One, Two}
-use Rattle.op_forest.specs.Bodies.{behind}
+use Rattle.op_forest.specs.Labels.{behind}
 use Rattle.forests.specs.Words.{Word}
 use Rattle.forests.specs.Worlds.{Point, Move, Next, To, End, Effect, then_do, goes, Outcome, Finished, Going, Failed}
 use Rattle.forests.specs.Actions.{Calls, effect_of}

@@ -1,7 +1,7 @@
 -- The place of the first root that is a label, and what a root's labels are by such places.
 use Rattle.std.specs.Prelude.{◌≡◌, ℕ, suc, ◌==◌, Option, Some, None, IsSome, List, [], ◌∷◌, if◌then◌else◌}
 use Rattle.op_forest.specs.Nodes.{Node}
-use Rattle.op_forest.specs.Bodies.{label_of}
+use Rattle.op_forest.specs.Labels.{label_of}
 use Rattle.forests.specs.WellFormed.{target_of}
 
 abbrev pub first_by : Option ℕ → ℕ → ℕ → Option ℕ → Option ℕ

@@ -10,8 +10,8 @@ use Rattle.objects.specs.declared.value.Value.TheVariants.{Number, Pointer, Func
 use Rattle.objects.specs.Bytes.{unknown_byte}
 use Rattle.objects.specs.Objects.{overwritten}
 use Rattle.op_forest.specs.Nodes.{Head, Node, Leaf, One, Two}
-use Rattle.op_forest.specs.Bodies.{behind}
-use Rattle.op_forest.specs.Functions.{Body, BuiltIn, Putchar, Getchar, Exit, Callee, Defined, Provided, Missing}
+use Rattle.op_forest.specs.Labels.{behind}
+use Rattle.op_forest.specs.Callees.{Body, BuiltIn, Putchar, Getchar, Exit, Callee, Defined, Provided, Missing}
 use Rattle.forests.specs.Words.{Word, Plain}
 use Rattle.forests.specs.Objects.{Object, shape_of, shapes, objects_from, with_bytes, stored, stored_through}
 use Rattle.forests.specs.Worlds.{World, Point, at_world, Move, Next, To, End, Effect, Went, Exits, Unfinished, Stuck, then_do, Outcome, Finished, Exited, Going, Failed, goes}

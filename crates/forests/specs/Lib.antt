@@ -32,6 +32,6 @@ pub mod SoundRows
 pub mod SoundRuns
 pub mod SoundUnits
 pub mod WellFormed
+pub mod HasRules
 pub mod FirstPlaces
 pub mod ForestFaults
-pub mod Shape

@@ -4,7 +4,7 @@ use Rattle.std.specs.Prelude.{◌≡◌, ℕ, zero, suc, ◌+◌, ◌<◌, ◌�
 use Rattle.std.proofs.Common.{refl, sym, ap, ◌∙◌, arith}
 use Rattle.op_forest.specs.Nodes.{Node}
 use Rattle.forests.specs.Worlds.{World, Point, Effect, Went, Exits, Unfinished, Stuck, Outcome, Finished, Exited, Going, Failed}
-use Rattle.op_forest.specs.Functions.{Callee, Defined, Provided, Missing}
+use Rattle.op_forest.specs.Callees.{Callee, Defined, Provided, Missing}
 use Rattle.forests.specs.Bodies.{Setting, act}
 use Rattle.forests.specs.Functions.{Program, entered, answered, setting_of, call_by}
 use Rattle.forests.specs.Meaning.{counted_run, counted_call, call_of}

@@ -8,8 +8,8 @@ use Rattle.objects.specs.declared.value.Value.{Value}
 use Rattle.objects.specs.declared.value.Value.TheVariants.{Number}
 use Rattle.objects.specs.Bytes.{unknown_byte}
 use Rattle.op_forest.specs.declared.frame.Slot.{Slot}
-use Rattle.op_forest.specs.Bodies.{behind}
-use Rattle.op_forest.specs.Functions.{Body, BuiltIn, Putchar, Getchar, Exit, Callee, Defined, Provided, Missing}
+use Rattle.op_forest.specs.Labels.{behind}
+use Rattle.op_forest.specs.Callees.{Body, BuiltIn, Putchar, Getchar, Exit, Callee, Defined, Provided, Missing}
 use Rattle.op_forest.specs.Nodes.{Head, Node, Leaf, One, Two}
 use Rattle.forests.specs.Words.{Word, Plain, IsWord}
 use Rattle.forests.specs.WordBytes.{word_bytes}

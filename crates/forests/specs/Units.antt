@@ -12,7 +12,7 @@ use Rattle.op_forest.specs.declared.lowered.LoweredFunction.{LoweredFunction}
 use Rattle.op_forest.specs.declared.lowered.LoweredObject.{LoweredObject}
 use Rattle.op_forest.specs.declared.lowered.Datum.{Datum}
 use Rattle.op_forest.specs.declared.lowered.Datum.TheVariants as datum
-use Rattle.op_forest.specs.Functions.{BuiltIn}
+use Rattle.op_forest.specs.Callees.{BuiltIn}
 use Rattle.op_forest.specs.Lowered.{LoweredUnit}
 use Rattle.op_forest.specs.Units.{function_of, object_place, built_in_named, callee_of}
 use Rattle.forests.specs.Words.{Word, Plain, Label, unknown}

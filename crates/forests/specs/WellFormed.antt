@@ -1,7 +1,7 @@
 -- Well-formed forests: each node has the operands, the symbol and the constant that its operator needs; each argument is
 -- taken by a call; each jump goes to a label, and no label stands twice; each local is in a slot.
 -- Source: Fraser and Hanson, A Retargetable C Compiler, chapter 5.
-use Rattle.std.specs.Prelude.{◌≡◌, ◌≤◌, ◌<◌, ℕ, suc, ℤ, ◌≤ℤ◌, ◌<ℤ◌, Option, Some, None, IsSomeAnd, FitsSigned, List, take, drop, slice_get, Any}
+use Rattle.std.specs.Prelude.{◌≡◌, ◌≢◌, ◌≤◌, ◌<◌, ◌⊎◌, ℕ, suc, ℤ, ◌≤ℤ◌, ◌<ℤ◌, Option, Some, None, IsSomeAnd, IsTrue, IsFalse, FitsSigned, List, [], ◌∷◌, length, take, drop, slice_get, Any}
 use Rattle.std.specs.Int.{w8, w16, w32, FitsUnsigned}
 use Rattle.op_forest.specs.declared.forest.Forest.{Forest}
 use Rattle.op_forest.specs.declared.frame.Slot.{Slot}
@@ -12,14 +12,39 @@ use Rattle.op_forest.specs.declared.suffix.Suffix.TheVariants.{C, S, I, U, P, B,
 use Rattle.op_forest.specs.declared.sym.Sym.{Sym}
 use Rattle.op_forest.specs.declared.sym.Sym.TheVariants as sym
 use Rattle.op_forest.specs.Nodes.{Node, Leaf, One, Two, head_of, kids_of, number_of}
-use Rattle.op_forest.specs.EachNode.{AtEachNode}
-use Rattle.op_forest.specs.Signature.{takes}
+use Rattle.op_forest.specs.EachNode.{AtEachNode, AtSomeNode}
+use Rattle.op_forest.specs.Signature.{takes, gives_value, moves}
 use Rattle.op_forest.specs.Frames.{end_of}
-use Rattle.op_forest.specs.Bodies.{label_of}
+use Rattle.op_forest.specs.Labels.{label_of}
 use Rattle.op_forest.specs.Lowered.{HasLabel}
-pub use Rattle.op_forest.specs.WellFormed.{op_of, suffix_of, HasArity, HasArities, IsOperand, AreOperands, HasCall, IsTakenFrom, IsTaken}
+
+abbrev pub op_of : Node → Op
+op_of t = (head_of t).operator.op
+
+abbrev pub suffix_of : Node → Suffix
+suffix_of t = (head_of t).operator.suffix
+
+-- ---- arities
+
+-- an operator has as many operands as its row; a pair that is no operator has no row
+abbrev pub HasArity : Node → Type 0
+HasArity t = 1 ≤ number_of (head_of t) → length (kids_of t) ≡ length (takes (op_of t) (suffix_of t))
+
+abbrev pub HasArities : Node → Type 0
+HasArities = AtEachNode HasArity
 
 -- ---- kinds
+
+-- an operand gives a value of this suffix
+abbrev pub IsOperand : Suffix → Node → Type 0
+IsOperand s k = IsTrue (gives_value (op_of k) (suffix_of k)) × (suffix_of k ≡ s)
+
+-- operands of these suffixes, in order
+abbrev pub AreOperands : List Suffix → List Node → Type 0
+AreOperands [] [] = Unit {0}
+AreOperands [] (k ∷ ks) = ⊥
+AreOperands (s ∷ ss) [] = ⊥
+AreOperands (s ∷ ss) (k ∷ ks) = IsOperand s k × AreOperands ss ks
 
 -- the number is one of the suffix's type
 abbrev pub FitsType : Suffix → ℤ → Type 0
@@ -75,6 +100,19 @@ pub record HasKind (t : Node) : Type 0 where
 
 abbrev pub HasKinds : Node → Type 0
 HasKinds = AtEachNode HasKind
+
+abbrev pub HasCall : Node → Type 0
+HasCall = AtSomeNode (λ t. op_of t ≡ op.Call)
+
+-- A root with a call takes the arguments before it, its operands coming before its move of control. Any other root
+-- leaves them to the roots behind, unless it is a label or a move of control.
+abbrev pub IsTakenFrom : Node → Type 0 → Type 0
+IsTakenFrom t later = (op_of t ≢ op.Label) × (HasCall t ⊎ (IsFalse (moves (op_of t)) × later))
+
+-- a call in these roots takes the arguments before them
+abbrev pub IsTaken : List Node → Type 0
+IsTaken [] = ⊥
+IsTaken (t ∷ ts) = IsTakenFrom t (IsTaken ts)
 
 -- a root of the kinds that its operators need, which is taken if it is an argument
 pub record IsFit (t : Node) (taken : Type 0) : Type 0 where

@@ -1,8 +1,7 @@
 ghost use Rattle.std.specs.Prelude.{◌≡◌, ◌↔◌, IsTrue};
 ghost use Rattle.forests.specs.WellFormed.{HasArity, HasArities};
 
-use crate::operands::{Operands, operands_of, takes};
-use op_forest::Tree;
+use op_forest::{Operands, Tree};
 
 /// Whether each operator of the tree has as many operands as its row.
 pub(crate) fn has_arities(tree: &Tree) -> bool
@@ -11,7 +10,7 @@ pub(crate) fn has_arities(tree: &Tree) -> bool
     if !has_arity(tree) {
         return false;
     }
-    match operands_of(tree) {
+    match tree.operands() {
         Operands::Leaf => true,
         Operands::Unary(a) => has_arities(a),
         Operands::Binary(a, b) => has_arities(a) && has_arities(b),
@@ -26,7 +25,7 @@ fn has_arity(tree: &Tree) -> bool
     if operator.number() == 0 {
         return true;
     }
-    match takes(operator) {
+    match operator.takes() {
         Operands::Leaf => tree.kids.len() == 0,
         Operands::Unary(_) => tree.kids.len() == 1,
         Operands::Binary(_, _) => tree.kids.len() == 2,

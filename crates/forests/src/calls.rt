@@ -1,8 +1,7 @@
 ghost use Rattle.std.specs.Prelude.{◌≡◌, ◌↔◌, IsTrue};
 ghost use Rattle.forests.specs.WellFormed.{HasCall, IsTakenFrom};
 
-use crate::operands::{Operands, moves, operands_of};
-use op_forest::{Op, Tree};
+use op_forest::{Op, Operands, Tree};
 
 /// Whether a call takes the arguments before this root, where `later` says whether one of the
 /// roots behind it takes arguments.
@@ -10,7 +9,7 @@ pub(crate) fn is_taken_from(tree: &Tree, later: bool) -> bool
     ensures { IsTrue result ↔ IsTakenFrom tree.now (IsTrue later) }
 {
     let op = tree.operator.op;
-    op != Op::Label && (has_call(tree) || (!moves(op) && later))
+    op != Op::Label && (has_call(tree) || (!op.moves() && later))
 }
 
 /// Whether a call stands at some node of the tree.
@@ -20,7 +19,7 @@ fn has_call(tree: &Tree) -> bool
     if tree.operator.op == Op::Call {
         return true;
     }
-    match operands_of(tree) {
+    match tree.operands() {
         Operands::Leaf => false,
         Operands::Unary(a) => has_call(a),
         Operands::Binary(a, b) => has_call(a) || has_call(b),

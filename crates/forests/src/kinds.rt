@@ -3,8 +3,7 @@ ghost use Rattle.op_forest.specs.Nodes.{head_of, kids_of};
 ghost use Rattle.op_forest.specs.Signature.{takes as suffixes};
 ghost use Rattle.forests.specs.WellFormed.{FitsType, HasKind, HasKinds, HasPart, AreOperands, IsOperand, op_of, suffix_of};
 
-use crate::operands::{Operands, operands_of, takes};
-use op_forest::{Op, Suffix, Sym, Tree};
+use op_forest::{Op, Operands, Suffix, Sym, Tree};
 
 /// Whether each operator of the tree is one of the 69, and has what it needs.
 pub(crate) fn has_kinds(tree: &Tree) -> bool
@@ -13,7 +12,7 @@ pub(crate) fn has_kinds(tree: &Tree) -> bool
     if !has_kind(tree) {
         return false;
     }
-    match operands_of(tree) {
+    match tree.operands() {
         Operands::Leaf => true,
         Operands::Unary(a) => has_kinds(a),
         Operands::Binary(a, b) => has_kinds(a) && has_kinds(b),
@@ -64,7 +63,7 @@ fn fits_type(suffix: Suffix, value: Option<i64>) -> bool
 fn has_operands(tree: &Tree) -> bool
     ensures { IsTrue result ↔ AreOperands (suffixes (op_of tree.now) (suffix_of tree.now)) (kids_of tree.now) }
 {
-    match (takes(tree.operator), operands_of(tree)) {
+    match (tree.operator.takes(), tree.operands()) {
         (Operands::Leaf, Operands::Leaf) => true,
         (Operands::Unary(s), Operands::Unary(a)) => is_operand(s, a),
         (Operands::Binary(s, t), Operands::Binary(a, b)) => is_operand(s, a) && is_operand(t, b),

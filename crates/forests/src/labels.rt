@@ -1,13 +1,12 @@
 ghost use Rattle.std.specs.Prelude.{◌≡◌, ◌↔◌, IsTrue, IfOk, nat_eq};
 ghost use Rattle.indexmap.specs.IndexMap.{get};
-ghost use Rattle.op_forest.specs.Bodies.{label_of as label_spec};
+ghost use Rattle.op_forest.specs.Labels.{label_of as label_spec};
 ghost use Rattle.forests.specs.FirstPlaces.{AreFirst, HasPlaces, HasTarget, StandsFirst};
 ghost use Rattle.forests.specs.WellFormed.{label_in as label_in_spec, target_of as target_spec};
 
-use crate::operands::{Operands, operands_of};
 use indexmap::IndexMap;
 use lcc_base::Memory;
-use op_forest::{Op, Sym, Tree};
+use op_forest::{Op, Operands, Sym, Tree};
 use std::alloc::Global;
 
 /// The place of each label's first root.
@@ -65,7 +64,7 @@ fn label_of(tree: &Tree) -> Option<u32>
 fn target_of(tree: &Tree) -> Option<u32>
     ensures { result ≡ target_spec tree.now }
 {
-    match (tree.operator.op, operands_of(tree)) {
+    match (tree.operator.op, tree.operands()) {
         (Op::Eq | Op::Ne | Op::Lt | Op::Le | Op::Gt | Op::Ge, _) => label_in(tree.sym),
         (Op::Jump, Operands::Unary(a)) if a.operator.op == Op::Addrg => label_in(a.sym),
         _ => None,

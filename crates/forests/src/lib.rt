@@ -9,7 +9,6 @@ mod forest_fault;
 mod kinds;
 mod labels;
 mod laws;
-mod operands;
 mod slots;
 mod well_formed;
 

@@ -1,8 +1,7 @@
 ghost use Rattle.std.specs.Prelude.{◌≡◌, ◌↔◌, IsTrue, ℤ};
 ghost use Rattle.forests.specs.WellFormed.{HasSlot, HasSlots, LiesIn, LiesInOne};
 
-use crate::operands::{Operands, operands_of};
-use op_forest::{Op, Slot, Tree};
+use op_forest::{Op, Operands, Slot, Tree};
 
 /// Whether each local of the tree is in a slot.
 pub(crate) fn has_slots(slots: &[Slot], tree: &Tree) -> bool
@@ -11,7 +10,7 @@ pub(crate) fn has_slots(slots: &[Slot], tree: &Tree) -> bool
     if !has_slot(slots, tree) {
         return false;
     }
-    match operands_of(tree) {
+    match tree.operands() {
         Operands::Leaf => true,
         Operands::Unary(a) => has_slots(slots, a),
         Operands::Binary(a, b) => has_slots(slots, a) && has_slots(slots, b),

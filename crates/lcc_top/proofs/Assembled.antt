@@ -25,14 +25,16 @@ use Rattle.first_forest.specs.FirstForest.{expression_node, roots_of, main_of, u
 use Rattle.first_forest.specs.Meaning.{main_run}
 use Rattle.first_forest.specs.Running.{meant}
 use Rattle.first_forest.specs.WellFormedRoots.{well_formed}
+use Rattle.first_forest.specs.RuledRoots.{ruled}
 use Rattle.first_forest.specs.Small.{small, few}
 use Rattle.first_forest.specs.Known.{each_root, lowered}
 use Rattle.op_forest.specs.Nodes.{Node, nodes, head_of}
 use Rattle.op_forest.specs.EachNode.{AtEachNode}
-use Rattle.op_forest.specs.WellFormed.{IsWellFormed}
+use Rattle.forests.specs.WellFormed.{IsWellFormed}
+use Rattle.forests.specs.HasRules.{HasRules}
 use Rattle.op_forest.specs.declared.lowered.LoweredFunction.{LoweredFunction}
 use Rattle.op_forest.specs.Lowered.{LoweredUnit, IsLowered}
-use Rattle.op_forest.specs.Functions.{BuiltIn, Putchar, Getchar, Exit, Callee, Provided}
+use Rattle.op_forest.specs.Callees.{BuiltIn, Putchar, Getchar, Exit, Callee, Provided}
 use Rattle.op_forest.specs.Units.{body_of, named_by, built_in_named, callee_by, callee_of}
 use Rattle.mips_target.specs.UnitLines.{Coded}
 use Rattle.mips_target.specs.UnitProgram.{IsUnitProgram}
@@ -58,10 +60,14 @@ callable p =
     let u = unit_of p in
     All-cons (λ f. All (MayCall u) f.forest.roots) (main_of p) [] (each_root (MayCall u) p.prints p.result (λ e. (tt, node_callable u e)) (tt, inr (Putchar, refl)) (tt, node_callable u p.result)) (All-nil (λ f. All (MayCall u) f.forest.roots))
 
--- its function is well formed and small
+-- its function is well formed, has rules and is small
 pub well_formed_unit : (p : MProgram) (input : List ℕ) (u : LoweredUnit) → u ≡ unit_of p → IsFirst input p → All (λ f. IsWellFormed f.forest) u.functions
 well_formed_unit p input u e is =
     subst (λ x. All (λ f. IsWellFormed f.forest) x.functions) (sym e) (All-cons (λ f. IsWellFormed f.forest) (main_of p) [] (well_formed p is.prints is.result) (All-nil (λ f. IsWellFormed f.forest)))
+
+pub ruled_unit : (p : MProgram) (u : LoweredUnit) → u ≡ unit_of p → All (λ f. HasRules f.forest.roots) u.functions
+ruled_unit p u e =
+    subst (λ x. All (λ f. HasRules f.forest.roots) x.functions) (sym e) (All-cons (λ f. HasRules f.forest.roots) (main_of p) [] (ruled p) (All-nil (λ f. HasRules f.forest.roots)))
 
 pub small_unit : (p : MProgram) (input : List ℕ) (u : LoweredUnit) → u ≡ unit_of p → IsFirst input p → length input ≤ 16777216 → All (λ f. sum_by nodes f.forest.roots ≤ 2 ^ 24) u.functions
 small_unit p input u e is within =

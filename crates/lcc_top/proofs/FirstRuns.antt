@@ -9,10 +9,11 @@ use Rattle.first_forest.specs.FirstForest.{main_of, roots_of, unit_of}
 use Rattle.first_forest.specs.Meaning.{IsPrefix, main_run, trace_of, IsRun, IsOver, IsMeant}
 use Rattle.first_forest.specs.Small.{few}
 use Rattle.op_forest.specs.Nodes.{nodes}
-use Rattle.op_forest.specs.Words.{Word, Number}
+use Rattle.forests.specs.Words.{Word, Plain}
+use Rattle.objects.specs.declared.value.Value.TheVariants.{Number}
 use Rattle.op_forest.specs.Traces.{output_of, depth_of}
-use Rattle.op_forest.specs.Worlds.{Effect, Went, Exits, Unfinished, Stuck}
-use Rattle.op_forest.specs.Functions.{Body, BuiltIn, Callee, Defined, Provided, Missing}
+use Rattle.forests.specs.Worlds.{Effect, Went, Exits, Unfinished, Stuck}
+use Rattle.op_forest.specs.Callees.{Body, BuiltIn, Callee, Defined, Provided, Missing}
 use Rattle.op_forest.specs.Units.{body_of, built_in_named, callee_by, callee_of}
 use Rattle.mips_programs.specs.Reached.{printed_by, depth_by, status_in, status_by, seen}
 use Rattle.mips_programs.specs.Meant.{HasMeaning}
@@ -31,7 +32,7 @@ printed_part p (Exits n w) h = absurd h
 printed_part p (Unfinished w) h = h
 printed_part p Stuck h = absurd h
 
-one_status : (p : MProgram) (ws : List Word) (answer : ℤ) → ws ≡ Number (value p.result) ∷ [] → status_in ws ≡ Some answer → answer ≡ status p
+one_status : (p : MProgram) (ws : List Word) (answer : ℤ) → ws ≡ Plain (Number (value p.result)) ∷ [] → status_in ws ≡ Some answer → answer ≡ status p
 one_status p ws answer is d = sym (same_Some (status p) answer (ap status_in (sym is) ∙ d))
 
 done_so : (p : MProgram) (e : Effect) (answer : ℤ) → IsRun p e → status_by e ≡ Some answer → (answer ≡ status p) × (printed_by e ≡ output p)

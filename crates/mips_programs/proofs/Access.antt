@@ -9,7 +9,7 @@ use Rattle.asm_lines.specs.declared.operator.BinaryOp.TheVariants as binary
 use Rattle.asm_lines.specs.declared.instruction.Value.TheVariants as operand
 use Rattle.asm_lines.specs.declared.instruction.Target.TheVariants as target
 use Rattle.asm_text.specs.Program.{MProgram}
-use Rattle.op_forest.specs.Words.{Word}
+use Rattle.forests.specs.Words.{Word}
 use Rattle.vcode.specs.Execution.{State}
 use Rattle.vcode.specs.Maps.{Map}
 use Rattle.asm_text.specs.Runs.{MStep}

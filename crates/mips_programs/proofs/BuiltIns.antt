@@ -7,11 +7,13 @@ use Rattle.std.specs.Int.{cast_signed, w32}
 use Rattle.std.specs.Prelude.{slice_index, slice_set, ◌&&◌, not, ◌==◌}
 use Rattle.lcc_base.specs.declared.order.Order.{Order}
 use Rattle.asm_text.specs.Program.{MProgram}
-use Rattle.op_forest.specs.Words.{Word, Number, Pointer, Function, Label, Partly}
+use Rattle.forests.specs.Words.{Word, Plain, Label, Partly}
+use Rattle.objects.specs.declared.value.Value.TheVariants.{Number, Pointer, Function}
 use Rattle.op_forest.specs.Traces.{Wrote, output_of, open_behind}
 use Rattle.op_forest.specs.Prefixes.{output_append}
-use Rattle.op_forest.specs.Worlds.{World, Point}
-use Rattle.op_forest.specs.Functions.{Putchar, Getchar, Exit, provided, put_character, get_character, exit_with}
+use Rattle.forests.specs.Worlds.{World, Point}
+use Rattle.op_forest.specs.Callees.{Putchar, Getchar, Exit}
+use Rattle.forests.specs.Functions.{provided, put_character, get_character, exit_with}
 use Rattle.vcode.specs.Maps.{Map}
 use Rattle.asm_text.specs.Runs.{Goes, Ends, after}
 use Rattle.asm_text.specs.Addresses.{putchar_at, getchar_at, exit_at}
@@ -57,7 +59,7 @@ record GivesBack (p : MProgram) (order : Order) (u : World) (h : Working) (v : �
   open_calls : open_behind [] w.trace ≡ open_behind [] u.trace
   taken : w.arguments ≡ []
 
-gave_back : (p : MProgram) (order : Order) (room : ℕ → ℕ) (map : Map) (outer : List Waiting) (name : ℕ) (u : World) (h : Working) (v : ℕ) (w : World) → IsBare map → Entry order room map outer name u h → GivesBack p order u h v w → CameBack p order map outer u h (Number v ∷ []) w
+gave_back : (p : MProgram) (order : Order) (room : ℕ → ℕ) (map : Map) (outer : List Waiting) (name : ℕ) (u : World) (h : Working) (v : ℕ) (w : World) → IsBare map → Entry order room map outer name u h → GivesBack p order u h v w → CameBack p order map outer u h (Plain (Number v) ∷ []) w
 gave_back p order room map outer name u h v w bare entry g =
     let registers = without lost h.cpu.registers in
     let count : length registers ≡ 32 = without_length lost h.cpu.registers ∙ entry.count in
@@ -89,7 +91,7 @@ prints_once p order h n at e =
 
 put_answered : (p : MProgram) (order : Order) (room : ℕ → ℕ) (map : Map) (long far : ℕ) (outer : List Waiting) (name : ℕ) (q : Point) (h : Working) (ws : List Word) → IsBare map → h.cpu.pc ≡ putchar_at → Entry order room map outer name q.world h → Handed map (passed_word order h.cpu) 0 ws → Answers p order room map long far outer q.world h (put_character ws q)
 put_answered p order room map long far outer name q h [] bare at entry passed = tt
-put_answered p order room map long far outer name q h (Number n ∷ []) bare at entry passed =
+put_answered p order room map long far outer name q h (Plain (Number n) ∷ []) bare at entry passed =
     let v = n % 256 in
     inl (gave_back p order room map outer name q.world h v _ bare entry (record {
       printed = h.printed ++ v ∷ [];
@@ -101,9 +103,9 @@ put_answered p order room map long far outer name q h (Number n ∷ []) bare at 
       open_calls = open_append [] q.world.trace (Wrote v ∷ []);
       taken = refl;
     }))
-put_answered p order room map long far outer name q h (Number n ∷ x ∷ ws) bare at entry passed = tt
-put_answered p order room map long far outer name q h (Pointer object offset ∷ ws) bare at entry passed = tt
-put_answered p order room map long far outer name q h (Function f ∷ ws) bare at entry passed = tt
+put_answered p order room map long far outer name q h (Plain (Number n) ∷ x ∷ ws) bare at entry passed = tt
+put_answered p order room map long far outer name q h (Plain (Pointer object offset) ∷ ws) bare at entry passed = tt
+put_answered p order room map long far outer name q h (Plain (Function f) ∷ ws) bare at entry passed = tt
 put_answered p order room map long far outer name q h (Label f l ∷ ws) bare at entry passed = tt
 put_answered p order room map long far outer name q h (Partly mask bits ∷ ws) bare at entry passed = tt
 
@@ -162,14 +164,14 @@ get_answers p order room map long far outer name q h bare at bytes entry = get_a
 
 exit_answered : (p : MProgram) (order : Order) (room : ℕ → ℕ) (map : Map) (long far : ℕ) (outer : List Waiting) (name : ℕ) (q : Point) (h : Working) (ws : List Word) → h.cpu.pc ≡ exit_at → Entry order room map outer name q.world h → Handed map (passed_word order h.cpu) 0 ws → Answers p order room map long far outer q.world h (exit_with ws q)
 exit_answered p order room map long far outer name q h [] at entry passed = tt
-exit_answered p order room map long far outer name q h (Number n ∷ []) at entry passed =
+exit_answered p order room map long far outer name q h (Plain (Number n) ∷ []) at entry passed =
     inl (record {
       steps = suc zero;
       ended = ap (after h.printed h.left) (at_exit p order h.cpu h.left at ∙ ap (λ (x : ℕ). Ends (cast_signed w32 x)) passed.0) ∙ ap (λ (out : List ℕ). after out h.left (Ends (cast_signed w32 n))) entry.shows.printed;
     })
-exit_answered p order room map long far outer name q h (Number n ∷ x ∷ ws) at entry passed = tt
-exit_answered p order room map long far outer name q h (Pointer object offset ∷ ws) at entry passed = tt
-exit_answered p order room map long far outer name q h (Function f ∷ ws) at entry passed = tt
+exit_answered p order room map long far outer name q h (Plain (Number n) ∷ x ∷ ws) at entry passed = tt
+exit_answered p order room map long far outer name q h (Plain (Pointer object offset) ∷ ws) at entry passed = tt
+exit_answered p order room map long far outer name q h (Plain (Function f) ∷ ws) at entry passed = tt
 exit_answered p order room map long far outer name q h (Label f l ∷ ws) at entry passed = tt
 exit_answered p order room map long far outer name q h (Partly mask bits ∷ ws) at entry passed = tt
 

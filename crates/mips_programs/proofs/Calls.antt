@@ -7,10 +7,11 @@ use Rattle.lcc_base.specs.declared.order.Order.{Order}
 use Rattle.asm_text.specs.Program.{MProgram}
 use Rattle.asm_text.specs.Runs.{Run}
 use Rattle.asm_text.specs.RunLaws.{prefix_of}
-use Rattle.op_forest.specs.Words.{Word, Number, Pointer, Function, Label, Partly, unknown}
+use Rattle.forests.specs.Words.{Word, Plain, Label, Partly, unknown}
+use Rattle.objects.specs.declared.value.Value.TheVariants.{Number, Pointer, Function}
 use Rattle.op_forest.specs.Traces.{output_of}
-use Rattle.op_forest.specs.Worlds.{World, Point, Outcome, Finished, Exited, Going, Failed}
-use Rattle.op_forest.specs.Begun.{BeginsIn, Starts as Goes_on, output_starts, depth_starts}
+use Rattle.forests.specs.Worlds.{World, Point, Outcome, Finished, Exited, Going, Failed}
+use Rattle.forests.specs.Begun.{BeginsIn, Starts as Goes_on, output_starts, depth_starts}
 use Rattle.vcode.specs.Execution.{State, without}
 use Rattle.vcode.specs.VirtualCode.{among}
 use Rattle.vcode.specs.Maps.{Map, IsWord, Grown}
@@ -36,9 +37,9 @@ paid n m (suc j) long len less a b c =
 
 -- what a map knows of a word, a later one does
 pub grown_word : (a b : Map) (w : Word) (h : ℕ) → Grown a b → IsWord a w h → IsWord b w h
-grown_word a b (Number n) h gr is = is
-grown_word a b (Pointer object offset) h gr is = (is.0, gr.objects object is.0 is.1, is.2)
-grown_word a b (Function name) h gr is = is ∙ sym (gr.functions name)
+grown_word a b (Plain (Number n)) h gr is = is
+grown_word a b (Plain (Pointer object offset)) h gr is = (is.0, gr.objects object.made is.0 is.1, is.2)
+grown_word a b (Plain (Function name)) h gr is = is ∙ sym (gr.functions name)
 grown_word a b (Label function label) h gr is = is ∙ sym (gr.labels function label)
 grown_word a b (Partly mask bits) h gr is = is
 

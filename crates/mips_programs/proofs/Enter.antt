@@ -9,11 +9,12 @@ use Rattle.asm_lines.specs.declared.instruction.Instruction.TheVariants.{Binary}
 use Rattle.asm_lines.specs.declared.operator.BinaryOp.TheVariants as binary
 use Rattle.asm_lines.specs.declared.instruction.Value.TheVariants as operand
 use Rattle.asm_text.specs.Program.{MProgram}
-use Rattle.op_forest.specs.Words.{unknown}
+use Rattle.forests.specs.Words.{unknown}
 use Rattle.op_forest.specs.Traces.{Event, Opened, output_of, opened_by, open_behind, room_of, depth_of}
 use Rattle.op_forest.specs.Prefixes.{output_append}
-use Rattle.op_forest.specs.Worlds.{World, Point, at_world}
-use Rattle.op_forest.specs.Functions.{Body, entered}
+use Rattle.forests.specs.Worlds.{World, Point, at_world}
+use Rattle.op_forest.specs.Callees.{Body}
+use Rattle.forests.specs.Functions.{entered}
 use Rattle.vcode.specs.Execution.{State}
 use Rattle.vcode.specs.Maps.{Map}
 use Rattle.asm_text.specs.Addresses.{code_start, stack_top, floor_of}

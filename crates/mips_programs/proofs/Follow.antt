@@ -1,5 +1,5 @@
 -- The machine follows the allocated code of a function.
-use Rattle.std.specs.Prelude.{◌≡◌, ◌≤◌, ◌<◌, ℕ, zero, suc, ◌+◌, ◌-◌, ◌*◌, ◌%◌, ◌^◌, ◌==◌, min, nat_lt, if◌then◌else◌, pos, negsuc, false, List, [], ◌∷◌, ◌++◌, length, get_or, Option, None, Some, slice_get, slice_set, IsTrue}
+use Rattle.std.specs.Prelude.{◌≡◌, ◌≤◌, ◌<◌, ℕ, zero, suc, ◌+◌, ◌-◌, ◌*◌, ◌%◌, ◌^◌, ◌==◌, ◌||◌, min, nat_lt, if◌then◌else◌, pos, negsuc, true, false, List, [], ◌∷◌, ◌++◌, length, get_or, Option, None, Some, slice_get, slice_set, IsTrue}
 use Rattle.std.proofs.Common.{refl, sym, ap, ◌∙◌, subst, inl, inr, ⊎_elim, length-append, arith}
 use Rattle.std.proofs.lemmas.Bool.{or_from, ne_eqb, cond-true, cond-false, lt-ltb, le-ltb, cases_lt, cases_eq}
 use Rattle.std.proofs.lemmas.Option.{slice_get_within}
@@ -8,15 +8,24 @@ use Rattle.asm_text.specs.Program.{MInstruction, MProgram}
 use Rattle.asm_lines.specs.declared.instruction.Instruction.TheVariants as to
 use Rattle.asm_lines.specs.declared.operator.UnaryOp.TheVariants as unary
 use Rattle.asm_lines.specs.declared.operator.LoadOp.TheVariants as load
-use Rattle.asm_lines.specs.declared.instruction.Value.{Value}
+use Rattle.asm_lines.specs.declared.instruction.Value.{Value as Operand}
 use Rattle.asm_lines.specs.declared.instruction.Value.TheVariants as operand
 use Rattle.asm_text.specs.declared.running.StuckCause.{StuckCause}
 use Rattle.asm_lines.specs.declared.instruction.Target.TheVariants as target
-use Rattle.op_forest.specs.Words.{Word, Number, Pointer, Function, Label, Partly}
+use Rattle.objects.specs.declared.operators.Unary.TheVariants.{Negate}
+use Rattle.objects.specs.declared.value.Value.{Value}
+use Rattle.objects.specs.declared.value.Value.TheVariants.{Number, Pointer, Function}
+use Rattle.objects.specs.Arithmetic.{unary_word, binary_word}
+use Rattle.objects.specs.Causes.{is_no_number}
+use Rattle.forests.specs.Words.{Word, Plain, Label, Partly}
 use Rattle.op_forest.specs.Traces.{open_behind, room_of}
-use Rattle.op_forest.specs.Worlds.{World, Point, Move, Next, To, End, Effect, Went, Exits, Unfinished, Stuck, then_do, goes, Outcome, Failed}
-use Rattle.op_forest.specs.Rows.{Setting, value_at, negated, of_one, of_two, handed, called}
-use Rattle.op_forest.specs.Functions.{value_or, Program as Meaning}
+use Rattle.forests.specs.Worlds.{World, Point, Move, Next, To, End, Effect, Went, Exits, Unfinished, Stuck, then_do, goes, Outcome, Failed}
+use Rattle.forests.specs.Actions.{handed, effect_of, gave}
+use Rattle.forests.specs.Bodies.{Setting}
+use Rattle.forests.specs.Numbers.{of_one, of_two}
+use Rattle.forests.specs.Rows.{called}
+use Rattle.forests.specs.Functions.{Program as Meaning}
+use Rattle.forests.specs.Units.{word_or_unknown}
 use Rattle.vcode.specs.Execution.{State, with_value, with_slot, state_by, moved, executed}
 use Rattle.vcode.specs.VirtualCode.{among}
 use Rattle.vcode.specs.Maps.{Map, IsWord}
@@ -56,7 +65,11 @@ combined_small arithmetic.Add x y = omega arith
 combined_small arithmetic.Subtract x y = omega arith
 combined_small arithmetic.Multiply x y = omega arith
 
-same_combined : (op : Arithmetic) (x y : ℕ) → combined_by op x y ≡ combined (binary_of op) x y
+-- the number that it gives
+abbrev result_of : Arithmetic → ℕ → ℕ → ℕ
+result_of op x y = binary_word true (combined_by op) x y
+
+same_combined : (op : Arithmetic) (x y : ℕ) → result_of op x y ≡ combined (binary_of op) x y
 same_combined arithmetic.Add x y = refl
 same_combined arithmetic.Subtract x y = refl
 same_combined arithmetic.Multiply x y = refl
@@ -68,11 +81,11 @@ no_cause arithmetic.Subtract x y = refl
 no_cause arithmetic.Multiply x y = refl
 
 -- so its row writes it
-operated : (order : Order) (cpu : Cpu) (op : Arithmetic) (d x : ℕ) (y : Value) → act order cpu (to.Binary (binary_of op) d x y) ≡ writes cpu d (combined (binary_of op) (register cpu x) (value_of cpu y))
+operated : (order : Order) (cpu : Cpu) (op : Arithmetic) (d x : ℕ) (y : Operand) → act order cpu (to.Binary (binary_of op) d x y) ≡ writes cpu d (combined (binary_of op) (register cpu x) (value_of cpu y))
 operated order cpu op d x y =
     ap (λ (cause : Option StuckCause). writes_unless cause cpu d (combined (binary_of op) (register cpu x) (value_of cpu y))) (no_cause op (register cpu x) (value_of cpu y))
 
-negated_small : (x : ℕ) → negated x < 2 ^ 32
+negated_small : (x : ℕ) → unary_word Negate x < 2 ^ 32
 negated_small x = omega arith
 
 above_zero : (d : ℕ) → IsTrue (among d temporaries) → 0 < d
@@ -94,33 +107,51 @@ low_other d l =
     (or_from (d == 9) (among d (10 ∷ [])) (ne_eqb d 9 (ne_above d 9 (omega arith)))
     (or_from (d == 10) false (ne_eqb d 10 (ne_above d 10 (omega arith))) refl))
 
--- the result of two words that are numbers
-of_numbers : (map : Map) (C : Outcome → Type 0) (f : ℕ → ℕ → ℕ) (x y : Word) (a b : ℕ) (q : Point) (go : List Word → Point → Move → Outcome) → IsWord map x a → IsWord map y b → C Failed → C (go (Number (f a b) ∷ []) q Next) → C (goes (of_two f x y q) go)
-of_numbers map C f (Number x) (Number y) a b q go e d stuck went = subst (λ z. C (go (Number z ∷ []) q Next)) (ap (λ u. f u b) e ∙ ap (f x) d) went
-of_numbers map C f (Number x) (Pointer o z) a b q go e d stuck went = stuck
-of_numbers map C f (Number x) (Function name) a b q go e d stuck went = stuck
-of_numbers map C f (Number x) (Label g l) a b q go e d stuck went = stuck
-of_numbers map C f (Number x) (Partly mask bits) a b q go e d stuck went = stuck
-of_numbers map C f (Pointer o z) y a b q go e d stuck went = stuck
-of_numbers map C f (Function name) y a b q go e d stuck went = stuck
-of_numbers map C f (Label g l) y a b q go e d stuck went = stuck
-of_numbers map C f (Partly mask bits) y a b q go e d stuck went = stuck
+-- the result of two words that are numbers; of others there is none
+two_numbers : (op : Arithmetic) (x y : ℕ) → of_two true (combined_by op) (Plain (Number x)) (Plain (Number y)) ≡ Some (Plain (Number (result_of op x y)))
+two_numbers arithmetic.Add x y = refl
+two_numbers arithmetic.Subtract x y = refl
+two_numbers arithmetic.Multiply x y = refl
 
-of_number : (map : Map) (C : Outcome → Type 0) (f : ℕ → ℕ) (x : Word) (a : ℕ) (q : Point) (go : List Word → Point → Move → Outcome) → IsWord map x a → C Failed → C (go (Number (f a) ∷ []) q Next) → C (goes (of_one f x q) go)
-of_number map C f (Number x) a q go e stuck went = subst (λ z. C (go (Number z ∷ []) q Next)) (ap f e) went
-of_number map C f (Pointer o z) a q go e stuck went = stuck
-of_number map C f (Function name) a q go e stuck went = stuck
-of_number map C f (Label g l) a q go e stuck went = stuck
-of_number map C f (Partly mask bits) a q go e stuck went = stuck
+no_numbers : (op : Arithmetic) (v w : Value) → (is_no_number v || is_no_number w) ≡ true → of_two true (combined_by op) (Plain v) (Plain w) ≡ None
+no_numbers arithmetic.Add v w e = rw e refl
+no_numbers arithmetic.Subtract v w e = rw e refl
+no_numbers arithmetic.Multiply v w e = rw e refl
+
+-- it is so of the run that goes on with a result
+abbrev Given : (Outcome → Type 0) → Setting → Point → (List Word → Point → Move → Outcome) → Option Word → Type 0
+Given C t q go result = C (goes (effect_of t.call (gave result) q) go)
+
+of_numbers : (map : Map) (C : Outcome → Type 0) (t : Setting) (op : Arithmetic) (x y : Word) (a b : ℕ) (q : Point) (go : List Word → Point → Move → Outcome) → IsWord map x a → IsWord map y b → C Failed → C (go (Plain (Number (result_of op a b)) ∷ []) q Next) → Given C t q go (of_two true (combined_by op) x y)
+of_numbers map C t op (Plain (Number x)) (Plain (Number y)) a b q go e d stuck went =
+    subst (Given C t q go) (sym (two_numbers op x y)) (subst (λ z. C (go (Plain (Number z) ∷ []) q Next)) (ap (λ u. result_of op u b) e ∙ ap (result_of op x) d) went)
+of_numbers map C t op (Plain (Number x)) (Plain (Pointer o z)) a b q go e d stuck went = subst (Given C t q go) (sym (no_numbers op (Number x) (Pointer o z) refl)) stuck
+of_numbers map C t op (Plain (Number x)) (Plain (Function name)) a b q go e d stuck went = subst (Given C t q go) (sym (no_numbers op (Number x) (Function name) refl)) stuck
+of_numbers map C t op (Plain (Number x)) (Label g l) a b q go e d stuck went = stuck
+of_numbers map C t op (Plain (Number x)) (Partly mask bits) a b q go e d stuck went = stuck
+of_numbers map C t op (Plain (Pointer o z)) (Plain w) a b q go e d stuck went = subst (Given C t q go) (sym (no_numbers op (Pointer o z) w refl)) stuck
+of_numbers map C t op (Plain (Pointer o z)) (Label g l) a b q go e d stuck went = stuck
+of_numbers map C t op (Plain (Pointer o z)) (Partly mask bits) a b q go e d stuck went = stuck
+of_numbers map C t op (Plain (Function name)) (Plain w) a b q go e d stuck went = subst (Given C t q go) (sym (no_numbers op (Function name) w refl)) stuck
+of_numbers map C t op (Plain (Function name)) (Label g l) a b q go e d stuck went = stuck
+of_numbers map C t op (Plain (Function name)) (Partly mask bits) a b q go e d stuck went = stuck
+of_numbers map C t op (Label g l) y a b q go e d stuck went = stuck
+of_numbers map C t op (Partly mask bits) y a b q go e d stuck went = stuck
+
+-- the same of one word, which is negated
+of_number : (map : Map) (C : Outcome → Type 0) (t : Setting) (x : Word) (a : ℕ) (q : Point) (go : List Word → Point → Move → Outcome) → IsWord map x a → C Failed → C (go (Plain (Number (unary_word Negate a)) ∷ []) q Next) → Given C t q go (of_one Negate x)
+of_number map C t (Plain (Number x)) a q go e stuck went = subst (λ z. C (go (Plain (Number (unary_word Negate z)) ∷ []) q Next)) e went
+of_number map C t (Plain (Pointer o z)) a q go e stuck went = stuck
+of_number map C t (Plain (Function name)) a q go e stuck went = stuck
+of_number map C t (Label g l) a q go e stuck went = stuck
+of_number map C t (Partly mask bits) a q go e stuck went = stuck
 
 -- a call of a name that isn't a function's has no meaning
-of_name : (C : Outcome → Type 0) (t : Setting) (value : Option Word) (q : Point) (go : List Word → Point → Move → Outcome) → C Failed → ((f : ℕ) → value ≡ Some (Function f) → C (goes (then_do (t.call f q) (λ ws p1. handed ws p1)) go)) → C (goes (called t (value_or (value_at value (pos 0))) q) go)
+of_name : (C : Outcome → Type 0) (t : Setting) (value : Option Value) (q : Point) (go : List Word → Point → Move → Outcome) → C Failed → ((f : ℕ) → value ≡ Some (Function f) → C (goes (then_do (t.call f q) (λ ws p1. handed true ws p1)) go)) → C (goes (effect_of t.call (called true (word_or_unknown value)) q) go)
 of_name C t None q go stuck went = stuck
 of_name C t (Some (Number n)) q go stuck went = stuck
 of_name C t (Some (Pointer o z)) q go stuck went = stuck
 of_name C t (Some (Function f)) q go stuck went = went f refl
-of_name C t (Some (Label g l)) q go stuck went = stuck
-of_name C t (Some (Partly mask bits)) q go stuck went = stuck
 
 length_loads : (m : ℕ) → length (loads_of m) ≡ m
 length_loads zero = refl
@@ -252,7 +283,7 @@ module _ (p : MProgram) (order : Order) (room : ℕ → ℕ) (places : ℕ → O
     pub bytes : Reads → AreBytes h.left
     pub bare : IsBare map
 
-  module _ (ends : code_start + 4 * length p.code ≤ data_start) (sound : IsSound f) (same : t.global ≡ g.global) (calling : Calling p order room places Reads (λ name. MayRead Reads (g.callee name)) long far t.call) where
+  module _ (ends : code_start + 4 * length p.code ≤ data_start) (sound : IsSound f) (same : t.environment.global ≡ g.global) (calling : Calling p order room places Reads (λ name. MayRead Reads (g.callee name)) long far t.call) where
     -- the machine follows what is claimed of at most n instructions from here
     abbrev Holds : ℕ → ℕ → Type 0
     Holds n b = (map : Map) (k i : ℕ) (is : List Instr) (s : State) (h : Working) → Ready map k i is s h → Comes p order room map long f b (length is) h (executed mips t code n is s)
@@ -292,7 +323,7 @@ module _ (p : MProgram) (order : Order) (room : ℕ → ℕ) (places : ℕ → O
     here_spent map s h w a c = subst (λ n. Spent p order room n h w) a.leaves.room c
 
     -- what the machine does after a call, by what the call did
-    after_call : (map : Map) (n b k i m name d : ℕ) (is : List Instr) (s : State) (h h2 : Working) (e : Effect) → Holds n (b - 1) → b ≤ suc far → Answers p order room map long far (waiting_in f) s.point.world h2 e → Gets p order h h2 → Alike order room map f s h2 → register h2.cpu 31 ≡ code_start + 4 * suc m → slice_get p.code (suc m) ≡ Some (to.Move d 2) → StandsIn p.code found (suc (suc m)) (body_of names f.layout 0 is) → IsTrue (among d temporaries) → Fits names f.layout 0 is → NamesAmong mips temporaries is → UsesSlotsBelow mips f.layout.slots is → CallsAre (IsAddressed p g names places Reads) is → Ready map k i (instr.Call d name ∷ is) s h → Follows_on map b (length (instr.Call d name ∷ is)) h (goes (then_do e (λ ws q. handed ws q)) (λ ws q mv. moved mips code is mv q (λ js. executed mips t code n js (state_by mips (instr.Call d name) s ws q))))
+    after_call : (map : Map) (n b k i m name d : ℕ) (is : List Instr) (s : State) (h h2 : Working) (e : Effect) → Holds n (b - 1) → b ≤ suc far → Answers p order room map long far (waiting_in f) s.point.world h2 e → Gets p order h h2 → Alike order room map f s h2 → register h2.cpu 31 ≡ code_start + 4 * suc m → slice_get p.code (suc m) ≡ Some (to.Move d 2) → StandsIn p.code found (suc (suc m)) (body_of names f.layout 0 is) → IsTrue (among d temporaries) → Fits names f.layout 0 is → NamesAmong mips temporaries is → UsesSlotsBelow mips f.layout.slots is → CallsAre (IsAddressed p g names places Reads) is → Ready map k i (instr.Call d name ∷ is) s h → Follows_on map b (length (instr.Call d name ∷ is)) h (goes (then_do e (λ ws q. handed true ws q)) (λ ws q mv. moved mips code is mv q (λ js. executed mips t code n js (state_by mips (instr.Call d name) s ws q))))
     after_call map n b k i m name d is s h h2 (Went [] q Next) go le ans gets a back here stands low fits named slots calls r = tt
     after_call map n b k i m name d is s h h2 (Went (w ∷ ws) q Next) go le (inl c) gets a back here stands low fits named slots calls r =
         let s3 : State = record { registers = λ x. if among x lost_at_calls then Partly 0 0 else s.registers x; slots = s.slots; point = q } in
@@ -337,10 +368,10 @@ module _ (p : MProgram) (order : Order) (room : ℕ → ℕ) (places : ℕ → O
     after_call map n b k i m name d is s h h2 Stuck go le ans gets a back here stands low fits named slots calls r = tt
 
     -- a call, of a name that is function fn
-    calls_on : (map : Map) (n b k i name fn d : ℕ) (is : List Instr) (s : State) (h : Working) → Holds n (b - 1) → b ≤ suc far → t.global name ≡ Some (Function fn) → Ready map k i (instr.Call d name ∷ is) s h → Follows_on map b (length (instr.Call d name ∷ is)) h (goes (then_do (t.call fn s.point) (λ ws q. handed ws q)) (λ ws q mv. moved mips code is mv q (λ js. executed mips t code n js (state_by mips (instr.Call d name) s ws q))))
+    calls_on : (map : Map) (n b k i name fn d : ℕ) (is : List Instr) (s : State) (h : Working) → Holds n (b - 1) → b ≤ suc far → t.environment.global name ≡ Some (Function fn) → Ready map k i (instr.Call d name ∷ is) s h → Follows_on map b (length (instr.Call d name ∷ is)) h (goes (then_do (t.call fn s.point) (λ ws q. handed true ws q)) (λ ws q mv. moved mips code is mv q (λ js. executed mips t code n js (state_by mips (instr.Call d name) s ws q))))
     calls_on map n b k i name fn d is s h go le value r =
         let j = min k 4 in
-        let known = r.calls.0 fn (subst (λ (global : ℕ → Option Word). global name ≡ Some (Function fn)) same value) in
+        let known = r.calls.0 fn (subst (λ (global : ℕ → Option Value). global name ≡ Some (Function fn)) same value) in
         let bytes = get_or names name [] in
         let all = front_stands p.code found i (unmarked (call_of names k d name)) (body_of names f.layout 0 is) r.stands in
         let rest = stands_behind p.code found i (call_of names k d name) (body_of names f.layout 0 is) r.stands in
@@ -371,18 +402,18 @@ module _ (p : MProgram) (order : Order) (room : ℕ → ℕ) (places : ℕ → O
         let c = leave p order room map f found i s h None sound r.alike tt r.at r.stands in
         inl (record { later = map; place = c.0; gets = c.1; grown = grown_same map; bare = r.bare; returned = c.2 })
     follows (suc n) b map k i (instr.LoadNumber d v ∷ is) s h less le r =
-        computes map n b k i (to.LoadNumber d v) (instr.LoadNumber d v) is s h d v (Number v) (λ m' k' i' is' s' h' r'. follows n (b - 1) m' k' i' is' s' h' (omega arith) (omega arith) r') r.named.0.0 r.fits.0.1 refl refl r.stands.0 r.stands.1 r.fits.1 r.named.1 r.slots.1 r.calls.1 r
+        computes map n b k i (to.LoadNumber d v) (instr.LoadNumber d v) is s h d v (Plain (Number v)) (λ m' k' i' is' s' h' r'. follows n (b - 1) m' k' i' is' s' h' (omega arith) (omega arith) r') r.named.0.0 r.fits.0.1 refl refl r.stands.0 r.stands.1 r.fits.1 r.named.1 r.slots.1 r.calls.1 r
     follows (suc n) b map k i (instr.Binary op d x (source.Register y) ∷ is) s h less le r =
         let v = combined (binary_of op) (register h.cpu x) (register h.cpu y) in
-        of_numbers map (Follows_on map b (length (instr.Binary op d x (source.Register y) ∷ is)) h) (combined_by op) (s.registers x) (s.registers y) (register h.cpu x) (register h.cpu y) s.point (λ ws q mv. moved mips code is mv q (λ js. executed mips t code n js (state_by mips (instr.Binary op d x (source.Register y)) s ws q))) (r.alike.temps x r.named.0.1.0) (r.alike.temps y r.named.0.1.1.0) tt
-        (computes map n b k i (to.Binary (binary_of op) d x (operand.Register y)) (instr.Binary op d x (source.Register y)) is s h d v (Number (combined_by op (register h.cpu x) (register h.cpu y))) (λ m' k' i' is' s' h' r'. follows n (b - 1) m' k' i' is' s' h' (omega arith) (omega arith) r') r.named.0.0 (combined_small op (register h.cpu x) (register h.cpu y)) (sym (same_combined op (register h.cpu x) (register h.cpu y))) (operated order h.cpu op d x (operand.Register y)) r.stands.0 r.stands.1 r.fits.1 r.named.1 r.slots.1 r.calls.1 r)
+        of_numbers map (Follows_on map b (length (instr.Binary op d x (source.Register y) ∷ is)) h) t op (s.registers x) (s.registers y) (register h.cpu x) (register h.cpu y) s.point (λ ws q mv. moved mips code is mv q (λ js. executed mips t code n js (state_by mips (instr.Binary op d x (source.Register y)) s ws q))) (r.alike.temps x r.named.0.1.0) (r.alike.temps y r.named.0.1.1.0) tt
+        (computes map n b k i (to.Binary (binary_of op) d x (operand.Register y)) (instr.Binary op d x (source.Register y)) is s h d v (Plain (Number (result_of op (register h.cpu x) (register h.cpu y)))) (λ m' k' i' is' s' h' r'. follows n (b - 1) m' k' i' is' s' h' (omega arith) (omega arith) r') r.named.0.0 (combined_small op (register h.cpu x) (register h.cpu y)) (sym (same_combined op (register h.cpu x) (register h.cpu y))) (operated order h.cpu op d x (operand.Register y)) r.stands.0 r.stands.1 r.fits.1 r.named.1 r.slots.1 r.calls.1 r)
     follows (suc n) b map k i (instr.Binary op d x (source.Number y) ∷ is) s h less le r =
         let v = combined (binary_of op) (register h.cpu x) y in
-        of_numbers map (Follows_on map b (length (instr.Binary op d x (source.Number y) ∷ is)) h) (combined_by op) (s.registers x) (Number y) (register h.cpu x) y s.point (λ ws q mv. moved mips code is mv q (λ js. executed mips t code n js (state_by mips (instr.Binary op d x (source.Number y)) s ws q))) (r.alike.temps x r.named.0.1.0) refl tt
-        (computes map n b k i (to.Binary (binary_of op) d x (operand.Number y)) (instr.Binary op d x (source.Number y)) is s h d v (Number (combined_by op (register h.cpu x) y)) (λ m' k' i' is' s' h' r'. follows n (b - 1) m' k' i' is' s' h' (omega arith) (omega arith) r') r.named.0.0 (combined_small op (register h.cpu x) y) (sym (same_combined op (register h.cpu x) y)) (operated order h.cpu op d x (operand.Number y)) r.stands.0 r.stands.1 r.fits.1 r.named.1 r.slots.1 r.calls.1 r)
+        of_numbers map (Follows_on map b (length (instr.Binary op d x (source.Number y) ∷ is)) h) t op (s.registers x) (Plain (Number y)) (register h.cpu x) y s.point (λ ws q mv. moved mips code is mv q (λ js. executed mips t code n js (state_by mips (instr.Binary op d x (source.Number y)) s ws q))) (r.alike.temps x r.named.0.1.0) refl tt
+        (computes map n b k i (to.Binary (binary_of op) d x (operand.Number y)) (instr.Binary op d x (source.Number y)) is s h d v (Plain (Number (result_of op (register h.cpu x) y))) (λ m' k' i' is' s' h' r'. follows n (b - 1) m' k' i' is' s' h' (omega arith) (omega arith) r') r.named.0.0 (combined_small op (register h.cpu x) y) (sym (same_combined op (register h.cpu x) y)) (operated order h.cpu op d x (operand.Number y)) r.stands.0 r.stands.1 r.fits.1 r.named.1 r.slots.1 r.calls.1 r)
     follows (suc n) b map k i (instr.Negate d x ∷ is) s h less le r =
-        of_number map (Follows_on map b (length (instr.Negate d x ∷ is)) h) negated (s.registers x) (register h.cpu x) s.point (λ ws q mv. moved mips code is mv q (λ js. executed mips t code n js (state_by mips (instr.Negate d x) s ws q))) (r.alike.temps x r.named.0.1.0) tt
-        (computes map n b k i (to.Unary unary.Negate d x) (instr.Negate d x) is s h d (negated (register h.cpu x)) (Number (negated (register h.cpu x))) (λ m' k' i' is' s' h' r'. follows n (b - 1) m' k' i' is' s' h' (omega arith) (omega arith) r') r.named.0.0 (negated_small (register h.cpu x)) refl refl r.stands.0 r.stands.1 r.fits.1 r.named.1 r.slots.1 r.calls.1 r)
+        of_number map (Follows_on map b (length (instr.Negate d x ∷ is)) h) t (s.registers x) (register h.cpu x) s.point (λ ws q mv. moved mips code is mv q (λ js. executed mips t code n js (state_by mips (instr.Negate d x) s ws q))) (r.alike.temps x r.named.0.1.0) tt
+        (computes map n b k i (to.Unary unary.Negate d x) (instr.Negate d x) is s h d (unary_word Negate (register h.cpu x)) (Plain (Number (unary_word Negate (register h.cpu x)))) (λ m' k' i' is' s' h' r'. follows n (b - 1) m' k' i' is' s' h' (omega arith) (omega arith) r') r.named.0.0 (negated_small (register h.cpu x)) refl refl r.stands.0 r.stands.1 r.fits.1 r.named.1 r.slots.1 r.calls.1 r)
     follows (suc n) b map k i (instr.Argument x ∷ is) s h less le r =
         let s' : State = record { registers = s.registers; slots = s.slots; point = with_argument s.point (s.registers x) } in
         let h' = with_stack h (with_stack_word order h.cpu.stack (f.low + 4 * k) (register h.cpu x)) (h.cpu.pc + 4) in
@@ -402,7 +433,7 @@ module _ (p : MProgram) (order : Order) (room : ℕ → ℕ) (places : ℕ → O
           bare = r.bare;
         }))
     follows (suc n) b map k i (instr.Call d name ∷ is) s h less le r =
-        of_name (Follows_on map b (length (instr.Call d name ∷ is)) h) t (t.global name) s.point (λ ws q mv. moved mips code is mv q (λ js. executed mips t code n js (state_by mips (instr.Call d name) s ws q))) tt
+        of_name (Follows_on map b (length (instr.Call d name ∷ is)) h) t (t.environment.global name) s.point (λ ws q mv. moved mips code is mv q (λ js. executed mips t code n js (state_by mips (instr.Call d name) s ws q))) tt
         (λ fn value. calls_on map n b k i name fn d is s h (λ m' k' i' is' s' h' r'. follows n (b - 1) m' k' i' is' s' h' (omega arith) (omega arith) r') le value r)
     follows (suc n) b map k i (instr.Return x ∷ is) s h less le r =
         let v = register h.cpu x in

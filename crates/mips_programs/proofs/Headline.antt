@@ -6,11 +6,11 @@ use Rattle.asm_text.specs.Program.{MProgram}
 use Rattle.asm_text.specs.Runs.{Run}
 use Rattle.asm_text.specs.Agrees.{Agrees}
 use Rattle.asm_text.specs.Linked.{linked_data}
-use Rattle.op_forest.specs.Worlds.{Point, Effect}
+use Rattle.forests.specs.Worlds.{Point, Effect}
 use Rattle.op_forest.specs.Lowered.{LoweredUnit}
-use Rattle.op_forest.specs.Units.{program_of, start_world}
-use Rattle.op_forest.specs.Meaning.{call_of}
-use Rattle.op_forest.specs.Nested.{calls_at}
+use Rattle.forests.specs.Units.{program_of, start_world}
+use Rattle.forests.specs.Meaning.{call_of}
+use Rattle.forests.specs.Nested.{calls_at}
 use Rattle.asm_text.specs.Addresses.{code_start}
 use Rattle.mips_machine.specs.State.{Cpu}
 use Rattle.mips_machine.specs.Run.{mrun}

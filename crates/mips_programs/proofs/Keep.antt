@@ -5,8 +5,10 @@ use Rattle.std.proofs.lemmas.Bool.{cases_eq, eq-eqb, ne_eqb, eqb-true, or_cases,
 use Rattle.std.proofs.lemmas.List.{length-set}
 use Rattle.std.proofs.Common.{length-append}
 use Rattle.lcc_base.specs.declared.order.Order.{Order}
-use Rattle.op_forest.specs.Words.{Word, Byte}
-use Rattle.op_forest.specs.Worlds.{Object, Point, at_world}
+use Rattle.forests.specs.Words.{Word}
+use Rattle.objects.specs.declared.byte.Byte.{Byte}
+use Rattle.forests.specs.Objects.{Object}
+use Rattle.forests.specs.Worlds.{with_arguments, Point, at_world}
 use Rattle.slot_allocator.specs.Values.{slot_at, slot_off}
 use Rattle.vcode.specs.Execution.{State, with_value, with_slot}
 use Rattle.vcode.specs.VirtualCode.{among}
@@ -22,8 +24,8 @@ use Rattle.mips_programs.proofs.Words.{with_stack_word, InStack, length_with_sta
 none_some : (o : Option ℕ) (a : ℕ) → o ≡ None → o ≡ Some a → ⊥
 none_some o a n e = cc
 
-nowhere : (map : Map) (objects : List Object) (o i a : ℕ) (b : Byte) → IsBare map → IsAt map objects o i a b → ⊥
-nowhere map objects o i a b bare x = none_some (map.object o) x.start (bare o) x.lies
+nowhere : (map : Map) (objects : List Object) (o i a : ℕ) (b : Byte Word) → IsBare map → IsAt map objects o i a b → ⊥
+nowhere map objects o i a b bare x = none_some (map.object x.content.made) x.start (bare x.content.made) x.lies
 
 -- where no object lies in memory, nothing is asked of it
 pub bare_lies : (map : Map) (objects : List Object) (memory : ℕ → Option ℕ) → IsBare map → Lies map objects memory
@@ -232,7 +234,7 @@ put_slot order room map f s h z v pc w bare sound low small is a =
 
 -- the point with one more argument word
 abbrev pub with_argument : Point → Word → Point
-with_argument q w = at_world q (record q.world { arguments = q.world.arguments ++ w ∷ [] })
+with_argument q w = at_world q (with_arguments q.world (q.world.arguments ++ w ∷ []))
 
 -- an argument word is handed
 pub put_argument : (order : Order) (room : ℕ → ℕ) (map : Map) (f : Frame) (s : State) (h : Working) (k v pc : ℕ) (w : Word) → IsBare map → IsSound f → k ≡ length s.point.world.arguments → k < f.layout.arguments → v < 2 ^ 32 → IsWord map w v → Alike order room map f s h → Alike order room map f (record { registers = s.registers; slots = s.slots; point = with_argument s.point w }) (with_stack h (with_stack_word order h.cpu.stack (f.low + 4 * k) v) pc)

@@ -5,9 +5,10 @@ use Rattle.std.proofs.lemmas.Bool.{cases_lt}
 use Rattle.lcc_base.specs.declared.order.Order.{Order}
 use Rattle.asm_text.specs.Program.{MProgram}
 use Rattle.asm_text.specs.Runs.{Run, Ended, IsGoing, after, onward, run_from}
-use Rattle.op_forest.specs.Words.{Word, Number}
+use Rattle.forests.specs.Words.{Word, Plain}
+use Rattle.objects.specs.declared.value.Value.TheVariants.{Number}
 use Rattle.op_forest.specs.Traces.{output_of}
-use Rattle.op_forest.specs.Worlds.{World, Point, Move, Effect, Went, Exits, Unfinished, Stuck}
+use Rattle.forests.specs.Worlds.{World, Point, Move, Effect, Went, Exits, Unfinished, Stuck}
 use Rattle.vcode.specs.Execution.{first_of}
 use Rattle.vcode.specs.Maps.{Map, IsWord}
 use Rattle.asm_text.specs.Addresses.{end_at}
@@ -32,7 +33,7 @@ onward_ends p order h e = ap (after h.printed h.left) (step_ends p order h.cpu h
 run_ends : (p : MProgram) (order : Order) (h end : Working) (j : ℕ) → runs p order h j ≡ on end → end.cpu.pc ≡ end_at → runs p order h (suc j) ≡ ended_run end
 run_ends p order h end j gets at = ap (λ (x : Run Cpu). onward (step_in p order) x.printed x.place) gets ∙ onward_ends p order end at
 
-number_is : (map : Map) (ws : List Word) (n r : ℕ) → ws ≡ Number n ∷ [] → IsWord map (first_of ws) r → r ≡ n
+number_is : (map : Map) (ws : List Word) (n r : ℕ) → ws ≡ Plain (Number n) ∷ [] → IsWord map (first_of ws) r → r ≡ n
 number_is map ws n r e h = subst (λ vs. IsWord map (first_of vs) r) e h
 
 bounded : (n j long : ℕ) → suc n * long ≤ j * long + long → 0 < long → n ≤ j

@@ -5,7 +5,7 @@ use Rattle.std.proofs.lemmas.List.{length-replicate}
 use Rattle.std.proofs.lemmas.Option.{none-some, same_Some}
 use Rattle.lcc_base.specs.declared.order.Order.{Order}
 use Rattle.op_forest.specs.Lowered.{LoweredUnit}
-use Rattle.op_forest.specs.Units.{start_world}
+use Rattle.forests.specs.Units.{start_world}
 use Rattle.vcode.specs.Maps.{Map}
 use Rattle.asm_text.specs.Addresses.{code_start, end_at, floor_of}
 use Rattle.mips_machine.specs.Run.{first_registers, first_cpu}

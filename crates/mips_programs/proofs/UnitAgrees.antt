@@ -5,9 +5,10 @@ use Rattle.std.proofs.Common.{sym, ap, ◌∙◌, subst, arith}
 use Rattle.asm_text.specs.Program.{MProgram, place_of}
 use Rattle.asm_text.specs.Agrees.{Agrees}
 use Rattle.asm_text.specs.Linked.{HasMain}
-use Rattle.op_forest.specs.Functions.{Body, Defined}
+use Rattle.op_forest.specs.Callees.{Body, Defined}
 use Rattle.op_forest.specs.Lowered.{LoweredUnit}
-use Rattle.op_forest.specs.Units.{callee_of, program_of}
+use Rattle.op_forest.specs.Units.{callee_of}
+use Rattle.forests.specs.Units.{program_of}
 use Rattle.asm_text.specs.Addresses.{code_start, address_by}
 use Rattle.mips_machine.specs.Run.{mrun}
 use Rattle.mips_target.specs.FunctionCode.{function_code}

@@ -6,16 +6,16 @@ use Rattle.std.specs.Int.Bits.{and_zero_r}
 use Rattle.lcc_base.specs.declared.order.Order.{Order}
 use Rattle.asm_text.specs.Program.{MInstruction, MProgram}
 use Rattle.op_forest.specs.Nodes.{Node}
-use Rattle.op_forest.specs.Words.{Word}
+use Rattle.forests.specs.Words.{Word}
 use Rattle.op_forest.specs.Traces.{Opened, Closed, output_of, outer}
-use Rattle.op_forest.specs.Worlds.{World, Point, at_world, Effect, Stuck, Outcome, Finished, Exited, Going, Failed}
-use Rattle.op_forest.specs.Rows.{Setting}
-use Rattle.op_forest.specs.Bodies.{body_run}
-use Rattle.op_forest.specs.Functions.{Body, BuiltIn, Putchar, Getchar, Exit, Callee, Defined, Provided, Missing, Program as Meaning, entered, left_behind, value_or, answered, setting_of, call_by}
-use Rattle.op_forest.specs.Begun.{BeginsIn, body_begins, starts_trans}
+use Rattle.forests.specs.Worlds.{World, Point, at_world, Effect, Stuck, Outcome, Finished, Exited, Going, Failed}
+use Rattle.forests.specs.Bodies.{Setting, body_run}
+use Rattle.op_forest.specs.Callees.{Body, BuiltIn, Putchar, Getchar, Exit, Callee, Defined, Provided, Missing}
+use Rattle.forests.specs.Functions.{Program as Meaning, entered, left_behind, value_or, answered, setting_of, call_by}
+use Rattle.forests.specs.Begun.{BeginsIn, body_begins, starts_trans}
 use Rattle.op_forest.specs.Prefixes.{output_append}
-use Rattle.op_forest.specs.Nested.{calls_at}
-use Rattle.op_forest.specs.Reached.{nested_begins}
+use Rattle.forests.specs.Nested.{calls_at}
+use Rattle.forests.specs.Reached.{nested_begins}
 use Rattle.vcode.specs.Maps.{Map, IsWord}
 use Rattle.asm_text.specs.Addresses.{code_start, floor_of}
 use Rattle.mips_machine.specs.StepTable.{register}

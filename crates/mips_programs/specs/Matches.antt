@@ -6,10 +6,10 @@ use Rattle.lcc_base.specs.declared.order.Order.{Order}
 use Rattle.asm_text.specs.Program.{MProgram}
 use Rattle.asm_text.specs.Runs.{Ended, StackOut}
 use Rattle.asm_text.specs.IsPrefix.{IsPrefix}
-use Rattle.op_forest.specs.Words.{Word}
+use Rattle.forests.specs.Words.{Word}
 use Rattle.op_forest.specs.Traces.{output_of, open_behind, room_of, depth_of}
-use Rattle.op_forest.specs.Worlds.{World, Point, Effect, Went, Exits, Unfinished, Stuck, Outcome, Finished, Exited, Going, Failed}
-use Rattle.op_forest.specs.Begun.{CallsGrow}
+use Rattle.forests.specs.Worlds.{World, Point, Effect, Went, Exits, Unfinished, Stuck, Outcome, Finished, Exited, Going, Failed}
+use Rattle.forests.specs.Begun.{CallsGrow}
 use Rattle.vcode.specs.Execution.{State, first_of}
 use Rattle.vcode.specs.VirtualCode.{among}
 use Rattle.vcode.specs.Maps.{Map, IsWord, Grown, Lies}

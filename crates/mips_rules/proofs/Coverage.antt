@@ -1,9 +1,9 @@
--- The shipped rules derive each tree whose operators have what they need: a register derives a value of suffix I, an
--- address an address, and a statement each tree that is no address.
-use Rattle.std.specs.Prelude.{◌≡◌, ◌≢◌, ℕ, ◌+◌, ℤ, false, Option, Some, List, [], ◌∷◌, All, map, slice_get, IsTrue, refl}
+-- The shipped rules derive each tree whose operators have rules and what they need: a register derives a value of
+-- suffix I, an address an address, and a statement each tree that is no address.
+use Rattle.std.specs.Prelude.{◌≡◌, ◌≢◌, ℕ, ◌+◌, ℤ, false, Option, Some, List, [], ◌∷◌, map, get_or, slice_get, IsTrue, refl}
 use Rattle.std.proofs.Common.{ap, sym, ◌∙◌, subst}
 use Rattle.std.proofs.lemmas.Bool.{both_ways}
-use Rattle.std.proofs.lemmas.List.Elements.{All-nil, All-cons}
+use Rattle.std.proofs.lemmas.Option.{slice_get-get_or}
 use Rattle.lburg_model.specs.declared.rule.Rule.{Rule}
 use Rattle.lburg_model.specs.declared.terminal.Terminal.{Terminal}
 use Rattle.lburg_model.specs.Range.{IsMet}
@@ -11,16 +11,16 @@ use Rattle.lburg_model.specs.Tree.{MTree, TLeaf, TOne, TTwo, value_of}
 use Rattle.lburg_model.specs.Pattern.{Goal, goals_at}
 use Rattle.lburg_model.specs.Derivation.{MDerivation, MParts, Apply, NoPart, Part, Derives, DeriveEach}
 use Rattle.lburg_model.specs.Description.{MDescription}
-use Rattle.lburg_model.specs.Best.{HasNone}
-use Rattle.op_forest.specs.declared.forest.Forest.{Forest}
 use Rattle.op_forest.specs.declared.op.Op.{Op}
 use Rattle.op_forest.specs.declared.op.Op.TheVariants.{Cnst, Addrg, Arg, Call, Ret, Neg, Add, Sub, Mul}
 use Rattle.op_forest.specs.declared.suffix.Suffix.{Suffix}
 use Rattle.op_forest.specs.declared.suffix.Suffix.TheVariants.{I, P}
 use Rattle.op_forest.specs.Operators.{number}
 use Rattle.op_forest.specs.Nodes.{Node, Leaf, One, Two, tree_of}
-use Rattle.op_forest.specs.Signature.{takes, gives_value, has_rule}
-use Rattle.op_forest.specs.WellFormed.{HasKind, HasKinds, AreOperands, AreGood, op_of, suffix_of}
+use Rattle.op_forest.specs.EachNode.{AtEachNode}
+use Rattle.op_forest.specs.Signature.{takes, gives_value}
+use Rattle.forests.specs.HasRules.{has_rule, HasRule}
+use Rattle.forests.specs.WellFormed.{HasKinds, AreOperands, op_of, suffix_of}
 use Rattle.vcode.specs.RuleSets.{Row, row_of}
 use Rattle.mips_rules.specs.MipsRows.{nonterminals, rows, costs, ranges, stmt, con, rc, reg, addr}
 use Rattle.mips_rules.specs.MipsTerminals.{terminals}
@@ -81,13 +81,8 @@ derived_as_address Adds e = absurd cc
 derived_as_address Subtracts e = absurd cc
 derived_as_address Multiplies e = absurd cc
 
-kind_here : (t : Node) → HasKinds t → HasKind t
-kind_here (Leaf h) k = k
-kind_here (One h a) k = k.0
-kind_here (Two h a b) k = k.0
-
-ruled_at : (t : Node) → HasKinds t → Ruled (op_of t) (suffix_of t)
-ruled_at t k = ruled (op_of t) (suffix_of t) (kind_here t k).rule
+ruled_at : (t : Node) → HasRule t → Ruled (op_of t) (suffix_of t)
+ruled_at t rule = ruled (op_of t) (suffix_of t) rule.0
 
 module _ (rules : List Rule) (same_rows : map row_of rules ≡ rows) (same_ranges : map (λ r. r.range) rules ≡ ranges) where
   abbrev Derived : ℕ → MTree → Type 0
@@ -181,16 +176,16 @@ module _ (rules : List Rule) (same_rows : map row_of rules ≡ rows) (same_range
   two v a b Subtracts fit x y = subtracted v (tree_of a) (tree_of b) (as_register a x fit.0) (register_either (tree_of b) (as_register b y fit.1.0))
   two v a b Multiplies fit x y = multiplied v (tree_of a) (tree_of b) (as_register a x fit.0) (register_either (tree_of b) (as_register b y fit.1.0))
 
-  own : (t : Node) → HasKinds t → Own t
-  own (Leaf h) k =
-      let is = ruled_at (Leaf h) k in
+  own : (t : Node) → HasKinds t → AtEachNode HasRule t → Own t
+  own (Leaf h) k each =
+      let is = ruled_at (Leaf h) each in
       (is, leaf h.value is k.operands)
-  own (One h a) k =
-      let is = ruled_at (One h a) k in
-      (is, one h.value a is k.0.operands (own a k.1))
-  own (Two h a b) k =
-      let is = ruled_at (Two h a b) k in
-      (is, two h.value a b is k.0.operands (own a k.1) (own b k.2))
+  own (One h a) k each =
+      let is = ruled_at (One h a) each.0 in
+      (is, one h.value a is k.0.operands (own a k.1 each.1))
+  own (Two h a b) k each =
+      let is = ruled_at (Two h a b) each.0 in
+      (is, two h.value a b is k.0.operands (own a k.1 each.1) (own b k.2 each.2))
 
   statement : {o : Op} {s : Suffix} (t : MTree) → Ruled o s → o ≢ Addrg → Derived (nonterminal_of o) t → Derived stmt t
   statement t Constant other x = register_statement t x
@@ -203,26 +198,23 @@ module _ (rules : List Rule) (same_rows : map row_of rules ≡ rows) (same_range
   statement t Subtracts other x = register_statement t x
   statement t Multiplies other x = register_statement t x
 
-  derived : (t : Node) → HasKinds t → op_of t ≢ Addrg → Derived stmt (tree_of t)
-  derived t k other =
-      let x = own t k in
+  derived : (t : Node) → HasKinds t → AtEachNode HasRule t → op_of t ≢ Addrg → Derived stmt (tree_of t)
+  derived t k each other =
+      let x = own t k each in
       statement (tree_of t) x.0 other x.1
 
--- the start symbol derives each tree that is no address alone and whose operators have what they need
+-- the start symbol derives each tree that is no address alone and whose operators have rules and what they need
 pub derives_statements : (d : MDescription) → IsShipped d → DerivesStatements d
-derives_statements d is t k other =
-    subst (λ n. (x : MDerivation) × Derives d.rules n (tree_of t) x) (sym is.start) (derived d.rules is.rows is.ranges t k other)
+derives_statements d is t kinds rules =
+    subst (λ n. (x : MDerivation) × Derives d.rules n (tree_of t) x) (sym is.start) (derived d.rules is.rows is.ranges t kinds rules.each rules.statement)
 
--- and so each root of a well-formed forest
-covers_good : (d : MDescription) → IsShipped d → (f : Forest) (ts : List Node) → AreGood f ts → All (λ t. HasNone d (tree_of t) → ⊥) ts
-covers_good d is f [] good = All-nil (λ t. HasNone d (tree_of t) → ⊥)
-covers_good d is f (t ∷ ts) good =
-    All-cons (λ u. HasNone d (tree_of u) → ⊥) t ts
-    (λ none. let x = derives_statements d is t good.0.fit.kinds good.0.fit.statement in none x.0 x.1)
-    (covers_good d is f ts good.1)
-
+-- and so each root of a well-formed forest whose operators have rules
 pub covers_roots : (d : MDescription) → IsShipped d → CoversRoots d
-covers_roots d is f good = covers_good d is f f.roots good
+covers_roots d is f well rules place first within none =
+    let t = get_or f.roots place first in
+    let good = well.good place t (slice_get-get_or f.roots place first within) in
+    let x = derives_statements d is t good.fit.kinds (rules place first within) in
+    none x.0 x.1
 
 -- the description of lists that are those of the tables
 pub is_shipped : (d : MDescription) (ts : List Terminal) (ns : List (List ℕ)) (rules : List Rule) → d ≡ record { terminals = ts; nonterminals = ns; start = stmt; rules = rules } → ts ≡ terminals → ns ≡ nonterminals → map row_of rules ≡ rows → map (λ r. r.cost) rules ≡ costs → map (λ r. r.range) rules ≡ ranges → IsShipped d

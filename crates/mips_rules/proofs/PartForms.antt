@@ -1,15 +1,15 @@
 -- What the parts of an applied rule are, by its action.
 use Rattle.std.proofs.Common.{◌≡◌, ℕ, ◌<◌, ◌||◌, true, List, Some, length, refl, arith}
-use Rattle.std.specs.Prelude.{ℤ, slice_get}
+use Rattle.std.specs.Prelude.{slice_get}
 use Rattle.mips_rules.specs.declared.arithmetic.Arithmetic.{Arithmetic}
 use Rattle.lburg_model.specs.Pattern.{MPattern}
 use Rattle.op_forest.specs.Nodes.{Node}
 use Rattle.vcode.specs.Patterns.{Meeting}
 use Rattle.mips_rules.specs.declared.action.Action.TheVariants as action
 use Rattle.mips_rules.specs.declared.part.Part.{Part}
-use Rattle.mips_rules.specs.declared.part.Part.TheVariants.{Register, Constant, Name}
-use Rattle.mips_rules.specs.MipsRules.{is_register, is_constant}
-use Rattle.mips_rules.specs.AppliedRules.{Applied, PassesConstant, PassesRegister, LoadsConstant, CombinesRegisters, CombinesConstant, Negates, HandsOver, Calls, Returns}
+use Rattle.mips_rules.specs.declared.part.Part.TheVariants.{Register, Constant, Name, Label}
+use Rattle.mips_rules.specs.MipsRules.{is_register, is_constant, is_place}
+use Rattle.mips_rules.specs.AppliedRules.{Applied, PassesConstant, PassesRegister, LoadsConstant, CombinesRegisters, CombinesConstant, Negates, HandsOver, Calls, CallsLabel, Returns}
 
 pub passed : {left : ℕ} {pattern : MPattern} {t : Node} {ps : List Part} {ms : List Meeting} → Applied action.Pass left pattern t ps ms → 0 < length ps
 passed (PassesConstant t n) = omega arith
@@ -29,8 +29,9 @@ combined_second (CombinesConstant op h a b q n low e) = (Constant n, refl, refl)
 pub negated_part : {left : ℕ} {pattern : MPattern} {t : Node} {ps : List Part} {ms : List Meeting} → Applied action.Negate left pattern t ps ms → (r : ℕ) × (slice_get ps 0 ≡ Some (Register r))
 negated_part (Negates h a r low e) = (r, refl)
 
-pub called_part : {left : ℕ} {pattern : MPattern} {t : Node} {ps : List Part} {ms : List Meeting} → Applied action.Call left pattern t ps ms → (name : ℕ) × (offset : ℤ) × (slice_get ps 0 ≡ Some (Name name offset))
-called_part (Calls h a name offset e) = (name, offset, refl)
+pub called_part : {left : ℕ} {pattern : MPattern} {t : Node} {ps : List Part} {ms : List Meeting} → Applied action.Call left pattern t ps ms → (p : Part) × (slice_get ps 0 ≡ Some p) × (is_place p ≡ true)
+called_part (Calls h a name offset e) = (Name name offset, refl, refl)
+called_part (CallsLabel h a l e) = (Label l, refl, refl)
 
 pub handed_part : {left : ℕ} {pattern : MPattern} {t : Node} {ps : List Part} {ms : List Meeting} → Applied action.HandOver left pattern t ps ms → (r : ℕ) × (slice_get ps 0 ≡ Some (Register r))
 handed_part (HandsOver h a r low e) = (r, refl)

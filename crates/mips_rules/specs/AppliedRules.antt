@@ -12,9 +12,9 @@ use Rattle.vcode.specs.RuleSets.{Row, InRange, all_registers, AllHand, Applies}
 use Rattle.mips_rules.specs.declared.action.Action.{Action}
 use Rattle.mips_rules.specs.declared.action.Action.TheVariants as action
 use Rattle.mips_rules.specs.declared.part.Part.{Part}
-use Rattle.mips_rules.specs.declared.part.Part.TheVariants.{Register, Constant, Name}
+use Rattle.mips_rules.specs.declared.part.Part.TheVariants.{Register, Constant, Name, Label}
 use Rattle.mips_rules.specs.MipsRows.{stmt, con, rc, reg, addr, cnsti, addrgp, argi, calli, reti, negi, addi, subi, muli, Line, lines}
-use Rattle.mips_rules.specs.MipsRules.{registers, is_register, is_constant, is_name, hands, action_in, action_at, mips_rules}
+use Rattle.mips_rules.specs.MipsRules.{registers, is_register, is_constant, is_place, hands, action_in, action_at, mips_rules}
 
 -- the number of the operator that an operation is for
 abbrev pub operator_for : Arithmetic → ℕ
@@ -35,6 +35,7 @@ pub data Applied : Action → ℕ → MPattern → Node → List Part → List M
   Negates : (h : Head) (a : Node) (r : ℕ) → 64 ≤ r → negi ≡ number_of h → Applied action.Negate reg (POne negi (PHole reg)) (One h a) (Register r ∷ []) ((reg, a) ∷ [])
   HandsOver : (h : Head) (a : Node) (r : ℕ) → 64 ≤ r → argi ≡ number_of h → Applied action.HandOver stmt (POne argi (PHole reg)) (One h a) (Register r ∷ []) ((reg, a) ∷ [])
   Calls : (h : Head) (a : Node) (name : ℕ) (offset : ℤ) → calli ≡ number_of h → Applied action.Call reg (POne calli (PHole addr)) (One h a) (Name name offset ∷ []) ((addr, a) ∷ [])
+  CallsLabel : (h : Head) (a : Node) (l : ℕ) → calli ≡ number_of h → Applied action.Call reg (POne calli (PHole addr)) (One h a) (Label l ∷ []) ((addr, a) ∷ [])
   Returns : (h : Head) (a : Node) (r : ℕ) → 64 ≤ r → reti ≡ number_of h → Applied action.Return stmt (POne reti (PHole reg)) (One h a) (Register r ∷ []) ((reg, a) ∷ [])
 
 same_some : {A : Type 0} {x y : A} → Some x ≡ Some y → x ≡ y
@@ -130,8 +131,9 @@ hands_over : (limit : ℕ) (h : Head) (a : Node) (p : Part) → argi ≡ number_
 hands_over limit h a (Register r) e k g = HandsOver h a r g.0 e
 hands_over limit h a p e k g = no k
 
-calls : (h : Head) (a : Node) (p : Part) → calli ≡ number_of h → is_name p ≡ true → Applied action.Call reg (POne calli (PHole addr)) (One h a) (p ∷ []) ((addr, a) ∷ [])
+calls : (h : Head) (a : Node) (p : Part) → calli ≡ number_of h → is_place p ≡ true → Applied action.Call reg (POne calli (PHole addr)) (One h a) (p ∷ []) ((addr, a) ∷ [])
 calls h a (Name name offset) e k = Calls h a name offset e
+calls h a (Label l) e k = CallsLabel h a l e
 calls h a p e k = no k
 
 returns_by : (limit : ℕ) (h : Head) (a : Node) (p : Part) → reti ≡ number_of h → is_register p ≡ true → InRange limit (registers p ++ []) → Applied action.Return stmt (POne reti (PHole reg)) (One h a) (p ∷ []) ((reg, a) ∷ [])

@@ -1,16 +1,22 @@
 -- The instructions of MIPS keep the laws of a machine.
-use Rattle.std.specs.Prelude.{◌≡◌, ℕ, zero, suc, ◌<◌, ◌≤◌, ◌==◌, ◌||◌, List, [], ◌∷◌, Bool, true, false, length, refl}
+use Rattle.std.specs.Prelude.{◌≡◌, ℕ, zero, suc, ◌<◌, ◌≤◌, ◌==◌, ◌||◌, List, [], ◌∷◌, Bool, true, false, Option, Some, None, length, refl}
 use Rattle.std.proofs.Common.{arith}
 use Rattle.std.proofs.lemmas.Bool.{ne_eqb}
-use Rattle.op_forest.specs.Words.{Word, Number, Function}
-use Rattle.op_forest.specs.Worlds.{Point, Move, Next, To, End, Effect, Went, Exits, Unfinished, Stuck, then_do}
-use Rattle.op_forest.specs.Rows.{Setting, negated, of_one, of_two, called, handed}
+use Rattle.objects.specs.declared.operators.Unary.TheVariants.{Negate}
+use Rattle.objects.specs.declared.value.Value.TheVariants.{Number, Pointer, Function}
+use Rattle.forests.specs.Words.{Word}
+use Rattle.forests.specs.Words as word
+use Rattle.forests.specs.Worlds.{Point, Move, Next, To, End, Effect, Went, Exits, Unfinished, Stuck, then_do}
+use Rattle.forests.specs.Actions.{Calls, Action, Gave, Stored, Passed, Called, Moved, Meaningless, gave, handed, effect_of}
+use Rattle.forests.specs.Bodies.{Setting}
+use Rattle.forests.specs.Numbers.{of_one, of_two}
+use Rattle.forests.specs.Rows.{called}
 use Rattle.vcode.specs.Machines.{Mark, Plain, with_register, WritesNothing}
 use Rattle.vcode.specs.VirtualCode.{among}
 use Rattle.mips_rules.specs.declared.instr.Instr.{Instr}
 use Rattle.mips_rules.specs.declared.instr.Instr.TheVariants as instr
 use Rattle.mips_rules.specs.declared.instr.Source.TheVariants as source
-use Rattle.mips_rules.specs.Instructions.{operands, kind, moves, lost_at_calls, loses, combined, with_none, with_one, with_two, word_of_name, acts, rename}
+use Rattle.mips_rules.specs.Instructions.{operands, kind, moves, lost_at_calls, loses, combined, with_none, with_one, with_two, word_of_name, does_with, acts, rename}
 
 past_one : (n : ℕ) → suc n < 1 → ⊥
 past_one n h = omega arith
@@ -151,62 +157,82 @@ moves-writes (instr.StoreSlot from slot) e = (refl, tt)
 abbrev pub Stays : Effect → Type 0
 Stays e = (ws : List Word) (p : Point) (mv : Move) → e ≡ Went ws p mv → mv ≡ Next
 
-on : {xs ys : List Word} {x y : Point} {p q : Move} → Went xs x p ≡ Went ys y q → p ≡ Next → q ≡ Next
-on e n = cc
-
 stuck_stays : Stays Stuck
 stuck_stays ws p mv e = absurd cc
 
+same_move : {xs ys : List Word} {x y : Point} {p q : Move} → Went xs x p ≡ Went ys y q → p ≡ Next → q ≡ Next
+same_move e h = cc
+
 next_stays : (ws : List Word) (p : Point) → Stays (Went ws p Next)
-next_stays ws p vs q mv e = on e refl
+next_stays ws p vs q mv e = same_move e refl
 
-one_stays : (f : ℕ → ℕ) (x : Word) (p : Point) → Stays (of_one f x p)
-one_stays f (Number x) p = next_stays _ p
-one_stays f x p = stuck_stays
+-- the action goes on behind it, wherever it has a meaning
+abbrev StaysBehind : Action → Type 0
+StaysBehind (Gave v) = Unit {0}
+StaysBehind (Stored objects) = Unit {0}
+StaysBehind (Passed w) = Unit {0}
+StaysBehind (Called valued f) = Unit {0}
+StaysBehind (Moved mv) = mv ≡ Next
+StaysBehind Meaningless = Unit {0}
 
-two_stays : (f : ℕ → ℕ → ℕ) (x y : Word) (p : Point) → Stays (of_two f x y p)
-two_stays f (Number x) (Number y) p = next_stays _ p
-two_stays f x y p = stuck_stays
+handed_stays : (valued : Bool) (ws : List Word) (p : Point) → Stays (handed valued ws p)
+handed_stays valued [] p = stuck_stays
+handed_stays true (w ∷ ws) p = next_stays _ p
+handed_stays false (w ∷ ws) p = next_stays _ p
 
-handed_stays : (ws : List Word) (p : Point) → Stays (handed ws p)
-handed_stays [] p = stuck_stays
-handed_stays (w ∷ ws) p = next_stays _ p
+answer_stays : (valued : Bool) (e : Effect) → Stays (then_do e (λ ws p. handed valued ws p))
+answer_stays valued (Went ws p Next) = handed_stays valued ws p
+answer_stays valued (Went ws p (To l)) = stuck_stays
+answer_stays valued (Went ws p (End v)) = stuck_stays
+answer_stays valued (Exits status w) = λ ws p mv e. absurd cc
+answer_stays valued (Unfinished w) = λ ws p mv e. absurd cc
+answer_stays valued Stuck = stuck_stays
 
-answer_stays : (e : Effect) → Stays (then_do e (λ ws p. handed ws p))
-answer_stays (Went ws p Next) = handed_stays ws p
-answer_stays (Went ws p (To l)) = stuck_stays
-answer_stays (Went ws p (End v)) = stuck_stays
-answer_stays (Exits status w) = λ ws p mv e. absurd cc
-answer_stays (Unfinished w) = λ ws p mv e. absurd cc
-answer_stays Stuck = stuck_stays
+effect_stays : (call : Calls) (a : Action) (p : Point) → StaysBehind a → Stays (effect_of call a p)
+effect_stays call (Gave v) p h = next_stays _ p
+effect_stays call (Stored objects) p h = next_stays _ _
+effect_stays call (Passed w) p h = next_stays _ _
+effect_stays call (Called valued f) p h = answer_stays valued (call f p)
+effect_stays call (Moved mv) p h = λ ws q mv2 e. same_move e h
+effect_stays call Meaningless p h = stuck_stays
 
-call_stays : (s : Setting) (x : Word) (p : Point) → Stays (called s x p)
-call_stays s (Function f) p = answer_stays (s.call f p)
-call_stays s x p = stuck_stays
+gave_stays : (v : Option Word) → StaysBehind (gave v)
+gave_stays None = tt
+gave_stays (Some w) = tt
 
-none_stays : (e : Effect) (xs : List Word) → Stays e → Stays (with_none e xs)
-none_stays e [] h = h
-none_stays e (x ∷ xs) h = stuck_stays
+called_stays : (w : Word) → StaysBehind (called true w)
+called_stays (word.Plain (Number n)) = tt
+called_stays (word.Plain (Pointer object offset)) = tt
+called_stays (word.Plain (Function f)) = tt
+called_stays (word.Label f l) = tt
+called_stays (word.Partly mask bits) = tt
 
-one_read_stays : (f : Word → Effect) (xs : List Word) → ((x : Word) → Stays (f x)) → Stays (with_one f xs)
-one_read_stays f [] h = stuck_stays
+none_stays : (a : Action) (xs : List Word) → StaysBehind a → StaysBehind (with_none a xs)
+none_stays a [] h = h
+none_stays a (x ∷ xs) h = tt
+
+one_read_stays : (f : Word → Action) (xs : List Word) → ((x : Word) → StaysBehind (f x)) → StaysBehind (with_one f xs)
+one_read_stays f [] h = tt
 one_read_stays f (x ∷ []) h = h x
-one_read_stays f (x ∷ y ∷ xs) h = stuck_stays
+one_read_stays f (x ∷ y ∷ xs) h = tt
 
-two_read_stays : (f : Word → Word → Effect) (xs : List Word) → ((x y : Word) → Stays (f x y)) → Stays (with_two f xs)
-two_read_stays f [] h = stuck_stays
-two_read_stays f (x ∷ []) h = stuck_stays
+two_read_stays : (f : Word → Word → Action) (xs : List Word) → ((x y : Word) → StaysBehind (f x y)) → StaysBehind (with_two f xs)
+two_read_stays f [] h = tt
+two_read_stays f (x ∷ []) h = tt
 two_read_stays f (x ∷ y ∷ []) h = h x y
-two_read_stays f (x ∷ y ∷ z ∷ xs) h = stuck_stays
+two_read_stays f (x ∷ y ∷ z ∷ xs) h = tt
+
+does_stays : (s : Setting) (i : Instr) (rs : List Word) → moves i ≡ false → StaysBehind (does_with s i rs)
+does_stays s (instr.LoadNumber to n) rs h = none_stays _ rs tt
+does_stays s (instr.Binary op to from (source.Register r)) rs h = two_read_stays _ rs (λ x y. gave_stays (of_two true (combined op) x y))
+does_stays s (instr.Binary op to from (source.Number n)) rs h = one_read_stays _ rs (λ x. gave_stays (of_two true (combined op) x (word.Plain (Number n))))
+does_stays s (instr.Negate to from) rs h = one_read_stays _ rs (λ x. gave_stays (of_one Negate x))
+does_stays s (instr.Argument from) rs h = one_read_stays _ rs (λ x. tt)
+does_stays s (instr.Call to name) rs h = none_stays _ rs (called_stays (word_of_name s name))
+does_stays s (instr.Return from) rs h = absurd cc
+does_stays s (instr.Copy to from) rs h = tt
+does_stays s (instr.LoadSlot to slot) rs h = tt
+does_stays s (instr.StoreSlot from slot) rs h = tt
 
 pub stays : (s : Setting) (i : Instr) (rs ws : List Word) (p p' : Point) (mv : Move) → moves i ≡ false → acts s i rs p ≡ Went ws p' mv → mv ≡ Next
-stays s (instr.LoadNumber to n) rs ws p p' mv h e = none_stays _ rs (next_stays _ p) ws p' mv e
-stays s (instr.Binary op to from (source.Register r)) rs ws p p' mv h e = two_read_stays _ rs (λ x y. two_stays (combined op) x y p) ws p' mv e
-stays s (instr.Binary op to from (source.Number n)) rs ws p p' mv h e = one_read_stays _ rs (λ x. two_stays (combined op) x (Number n) p) ws p' mv e
-stays s (instr.Negate to from) rs ws p p' mv h e = one_read_stays _ rs (λ x. one_stays negated x p) ws p' mv e
-stays s (instr.Argument from) rs ws p p' mv h e = one_read_stays _ rs (λ x. next_stays _ _) ws p' mv e
-stays s (instr.Call to name) rs ws p p' mv h e = none_stays _ rs (call_stays s (word_of_name s name) p) ws p' mv e
-stays s (instr.Return from) rs ws p p' mv h e = absurd cc
-stays s (instr.Copy to from) rs ws p p' mv h e = stuck_stays ws p' mv e
-stays s (instr.LoadSlot to slot) rs ws p p' mv h e = stuck_stays ws p' mv e
-stays s (instr.StoreSlot from slot) rs ws p p' mv h e = stuck_stays ws p' mv e
+stays s i rs ws p p' mv h e = effect_stays s.call (does_with s i rs) p (does_stays s i rs h) ws p' mv e

@@ -2,16 +2,24 @@
 -- that it reads, and what it leaves unknown. With another number of values it has no meaning.
 -- Source: G. Kane and J. Heinrich, MIPS RISC Architecture, 1992; the calling convention is that of Fraser and Hanson,
 -- A Retargetable C Compiler, chapter 16.
-use Rattle.std.specs.Prelude.{ℕ, zero, suc, pos, List, [], ◌∷◌, Bool, true, false, Some}
-use Rattle.mips_rules.specs.declared.arithmetic.Arithmetic.{Arithmetic}
-use Rattle.mips_rules.specs.declared.arithmetic.Arithmetic.TheVariants as binary
-use Rattle.op_forest.specs.Words.{Word, Number}
-use Rattle.op_forest.specs.Worlds.{Point, End, Effect, Went, Stuck}
-use Rattle.op_forest.specs.Rows.{Setting, gives, value_at, negated, sum, difference, product, of_one, of_two, argument, called}
-use Rattle.op_forest.specs.Functions.{value_or}
+use Rattle.std.specs.Prelude.{ℕ, zero, suc, List, [], ◌∷◌, Bool, true, false, Some}
+use Rattle.objects.specs.declared.operators.Unary.TheVariants.{Negate}
+use Rattle.objects.specs.declared.operators.Binary.{Binary}
+use Rattle.objects.specs.declared.operators.Binary.TheVariants as binary
+use Rattle.objects.specs.declared.value.Value.TheVariants.{Number}
+use Rattle.forests.specs.Words.{Word}
+use Rattle.forests.specs.Words as word
+use Rattle.forests.specs.Worlds.{Point, End, Effect}
+use Rattle.forests.specs.Actions.{Action, Gave, Passed, Moved, Meaningless, gave, effect_of}
+use Rattle.forests.specs.Bodies.{Setting}
+use Rattle.forests.specs.Numbers.{of_one, of_two}
+use Rattle.forests.specs.Rows.{called}
+use Rattle.forests.specs.Units.{word_or_unknown}
 use Rattle.vcode.specs.declared.operand.Operand.{Operand}
 use Rattle.vcode.specs.Machines.{Kind, Plain, Load, Store, Copy, reads_one, writes_one, nothing_lost}
 use Rattle.vcode.specs.VirtualCode.{among}
+use Rattle.mips_rules.specs.declared.arithmetic.Arithmetic.{Arithmetic}
+use Rattle.mips_rules.specs.declared.arithmetic.Arithmetic.TheVariants.{Add, Subtract, Multiply}
 use Rattle.mips_rules.specs.declared.instr.Instr.{Instr}
 use Rattle.mips_rules.specs.declared.instr.Instr.TheVariants as instr
 use Rattle.mips_rules.specs.declared.instr.Source.{Source}
@@ -71,47 +79,51 @@ loses (instr.Copy to from) = nothing_lost
 loses (instr.LoadSlot to slot) = nothing_lost
 loses (instr.StoreSlot from slot) = nothing_lost
 
-abbrev pub combined : Arithmetic → ℕ → ℕ → ℕ
-combined binary.Add = sum
-combined binary.Subtract = difference
-combined binary.Multiply = product
+-- the operation of C that an operation is
+abbrev pub combined : Arithmetic → Binary
+combined Add = binary.Add
+combined Subtract = binary.Subtract
+combined Multiply = binary.Multiply
 
 -- what is done where no value is read, one, or two
-abbrev pub with_none : Effect → List Word → Effect
-with_none e [] = e
-with_none e (x ∷ xs) = Stuck
+abbrev pub with_none : Action → List Word → Action
+with_none a [] = a
+with_none a (x ∷ xs) = Meaningless
 
-abbrev pub with_one : (Word → Effect) → List Word → Effect
-with_one f [] = Stuck
+abbrev pub with_one : (Word → Action) → List Word → Action
+with_one f [] = Meaningless
 with_one f (x ∷ []) = f x
-with_one f (x ∷ y ∷ xs) = Stuck
+with_one f (x ∷ y ∷ xs) = Meaningless
 
-abbrev pub with_two : (Word → Word → Effect) → List Word → Effect
-with_two f [] = Stuck
-with_two f (x ∷ []) = Stuck
+abbrev pub with_two : (Word → Word → Action) → List Word → Action
+with_two f [] = Meaningless
+with_two f (x ∷ []) = Meaningless
 with_two f (x ∷ y ∷ []) = f x y
-with_two f (x ∷ y ∷ z ∷ xs) = Stuck
+with_two f (x ∷ y ∷ z ∷ xs) = Meaningless
 
 -- an operation on a register and its last operand
-abbrev pub operates : (ℕ → ℕ → ℕ) → Source → List Word → Point → Effect
-operates f (source.Register r) ws p = with_two (λ x y. of_two f x y p) ws
-operates f (source.Number n) ws p = with_one (λ x. of_two f x (Number n) p) ws
+abbrev pub operates : Binary → Source → List Word → Action
+operates op (source.Register r) ws = with_two (λ x y. gave (of_two true op x y)) ws
+operates op (source.Number n) ws = with_one (λ x. gave (of_two true op x (word.Plain (Number n)))) ws
 
 -- the value of a name, `unknown` where it has none
 abbrev pub word_of_name : Setting → ℕ → Word
-word_of_name s name = value_or (value_at (s.global name) (pos 0))
+word_of_name s name = word_or_unknown (s.environment.global name)
 
 -- what a plain instruction does with the values that it reads
+abbrev pub does_with : Setting → Instr → List Word → Action
+does_with s (instr.LoadNumber to n) ws = with_none (Gave (word.Plain (Number n))) ws
+does_with s (instr.Binary op to from operand) ws = operates (combined op) operand ws
+does_with s (instr.Negate to from) ws = with_one (λ x. gave (of_one Negate x)) ws
+does_with s (instr.Argument from) ws = with_one (λ x. Passed x) ws
+does_with s (instr.Call to name) ws = with_none (called true (word_of_name s name)) ws
+does_with s (instr.Return from) ws = with_one (λ x. Moved (End (Some x))) ws
+does_with s (instr.Copy to from) ws = Meaningless
+does_with s (instr.LoadSlot to slot) ws = Meaningless
+does_with s (instr.StoreSlot from slot) ws = Meaningless
+
 abbrev pub acts : Setting → Instr → List Word → Point → Effect
-acts s (instr.LoadNumber to n) ws p = with_none (gives (Number n) p) ws
-acts s (instr.Binary op to from operand) ws p = operates (combined op) operand ws p
-acts s (instr.Negate to from) ws p = with_one (λ x. of_one negated x p) ws
-acts s (instr.Argument from) ws p = with_one (λ x. argument x p) ws
-acts s (instr.Call to name) ws p = with_none (called s (word_of_name s name) p) ws
-acts s (instr.Return from) ws p = with_one (λ x. Went [] p (End (Some x))) ws
-acts s (instr.Copy to from) ws p = Stuck
-acts s (instr.LoadSlot to slot) ws p = Stuck
-acts s (instr.StoreSlot from slot) ws p = Stuck
+acts s i ws p = effect_of s.call (does_with s i ws) p
 
 abbrev pub with_source : Source → ℕ → Source
 with_source (source.Register q) r = source.Register r

@@ -4,9 +4,12 @@ use Rattle.std.specs.Prelude.{ℕ, zero, suc, ◌==◌, ◌&&◌, ◌||◌, ℤ,
 use Rattle.op_forest.specs.declared.sym.Sym.{Sym}
 use Rattle.op_forest.specs.declared.sym.Sym.TheVariants as sym
 use Rattle.op_forest.specs.Nodes.{Node, head_of, number_of}
-use Rattle.op_forest.specs.Words.{Word, Number}
-use Rattle.op_forest.specs.Rows.{Setting, bits_of, value_at}
-use Rattle.op_forest.specs.Functions.{value_or}
+use Rattle.forests.specs.Words.{Word, Plain, unknown, number_of as word_number}
+use Rattle.forests.specs.Words as word
+use Rattle.objects.specs.declared.value.Value.TheVariants.{Number}
+use Rattle.objects.specs.declared.value.Value.{Value}
+use Rattle.objects.specs.Pointers.{place_after}
+use Rattle.forests.specs.Bodies.{Setting}
 use Rattle.vcode.specs.RuleSets.{Rules}
 use Rattle.mips_rules.specs.declared.action.Action.{Action}
 use Rattle.mips_rules.specs.declared.action.Action.TheVariants as action
@@ -15,20 +18,27 @@ use Rattle.mips_rules.specs.declared.instr.Instr.TheVariants as instr
 use Rattle.mips_rules.specs.declared.instr.Source.{Source}
 use Rattle.mips_rules.specs.declared.instr.Source.TheVariants as source
 use Rattle.mips_rules.specs.declared.part.Part.{Part}
-use Rattle.mips_rules.specs.declared.part.Part.TheVariants.{Register, Constant, Name, Nothing}
+use Rattle.mips_rules.specs.declared.part.Part.TheVariants.{Register, Constant, Name, Label, Nothing}
 use Rattle.mips_rules.specs.MipsRows.{Line, lines, rows, stmt, cnsti}
+
+-- so many bytes behind the value of a name, `unknown` where it has none
+abbrev pub word_behind : Option Value → ℤ → Word
+word_behind None by = unknown
+word_behind (Some v) by = Plain (place_after v by)
 
 -- the value that a part stands for where registers have these values
 abbrev pub means : Setting → Part → (ℕ → Word) → Option Word
 means s (Register r) f = Some (f r)
-means s (Constant n) f = Some (Number n)
-means s (Name name offset) f = Some (value_or (value_at (s.global name) offset))
+means s (Constant n) f = Some (Plain (Number n))
+means s (Name name offset) f = Some (word_behind (s.environment.global name) offset)
+means s (Label l) f = Some (word.Label s.environment.home.function l)
 means s Nothing f = None
 
 abbrev pub registers : Part → List ℕ
 registers (Register r) = r ∷ []
 registers (Constant n) = []
 registers (Name name offset) = []
+registers (Label l) = []
 registers Nothing = []
 
 abbrev pub is_register : Part → Bool
@@ -39,22 +49,23 @@ abbrev pub is_constant : Part → Bool
 is_constant (Constant n) = true
 is_constant p = false
 
-abbrev pub is_name : Part → Bool
-is_name (Name name offset) = true
-is_name p = false
+abbrev pub is_place : Part → Bool
+is_place (Name name offset) = true
+is_place (Label l) = true
+is_place p = false
 
 abbrev pub is_nothing : Part → Bool
 is_nothing Nothing = true
 is_nothing p = false
 
 -- a statement hands up nothing; a constant, which is a CNSTI, a constant; the next a register or a constant; a
--- register a register; and an address a name
+-- register a register; and an address a name or a label
 abbrev pub hands : ℕ → Node → Part → Bool
 hands zero t p = is_nothing p
 hands (suc zero) t p = is_constant p && (cnsti == number_of (head_of t))
 hands (suc (suc zero)) t p = is_register p || is_constant p
 hands (suc (suc (suc zero))) t p = is_register p
-hands (suc (suc (suc (suc zero)))) t p = is_name p
+hands (suc (suc (suc (suc zero)))) t p = is_place p
 hands n t p = false
 
 -- a statement adds code, and so does a register
@@ -87,6 +98,7 @@ abbrev pub source_of : Part → Source
 source_of (Register r) = source.Register r
 source_of p = source.Number (number_in p)
 
+-- a name's place among the names; a label has none
 abbrev pub name_in : Part → ℕ
 name_in (Name name offset) = name
 name_in p = 0
@@ -94,10 +106,12 @@ name_in p = 0
 -- a constant is taken modulo 2^32
 abbrev pub constant_of : Option ℤ → ℕ
 constant_of None = 0
-constant_of (Some z) = bits_of z
+constant_of (Some z) = word_number z
 
+-- the name or the label that a symbol is
 abbrev pub name_of : Sym → Part
 name_of (sym.Global name offset) = Name name offset
+name_of (sym.Label l) = Label l
 name_of x = Name 0 (pos 0)
 
 -- the code that an action adds given the parts and the node's register

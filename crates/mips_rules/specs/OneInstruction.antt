@@ -2,9 +2,9 @@
 use Rattle.std.specs.Prelude.{◌≡◌, ℕ, suc, ◌==◌, List, [], ◌∷◌, Bool, true, false, if◌then◌else◌, refl}
 use Rattle.std.proofs.Common.{arith, ap, ◌∙◌}
 use Rattle.std.proofs.lemmas.Bool.{eq-eqb, or_parts, cond-true, cond-false}
-use Rattle.op_forest.specs.Words.{Word}
-use Rattle.op_forest.specs.Worlds.{Next, Effect, Went, Exits, Unfinished, Stuck, goes}
-use Rattle.op_forest.specs.Rows.{Setting}
+use Rattle.forests.specs.Words.{Word}
+use Rattle.forests.specs.Worlds.{Next, Effect, Went, Exits, Unfinished, Stuck, goes}
+use Rattle.forests.specs.Bodies.{Setting}
 use Rattle.vcode.specs.declared.operand.Operand.{Operand}
 use Rattle.vcode.specs.Machines.{Machine, Kind, Plain, Mark, Load, Store, Copy, writes_one}
 use Rattle.vcode.specs.Execution.{State, executed, effect, by_kind, moved, reads, written, without, with_value, state_by, first_of, rest_of}

@@ -1,182 +1,20 @@
--- The number of an operator gives the operator back.
-use Rattle.std.specs.Prelude.{◌≡◌, ℕ, ◌⊎◌, List, [], ◌∷◌, Some, slice_get, refl}
-use Rattle.std.proofs.Common.{ap, sym, ◌∙◌, arith, inl, inr, ⊎_elim}
+-- The heads with the numbers of the rules' operators have these operators, and do what their rows say.
+use Rattle.std.specs.Prelude.{◌≡◌, List, [], ◌∷◌, refl}
+use Rattle.std.proofs.Common.{ap, ◌∙◌, arith}
 use Rattle.op_forest.specs.declared.op.Op.{Op}
-use Rattle.op_forest.specs.declared.op.Op.TheVariants.{Cnst, Addrg, Addrf, Addrl, Indir, Asgn, Arg, Call, Ret, Cvc, Cvs, Cvi, Cvu, Cvp, Neg, Bcom, Add, Sub, Mul, Div, Mod, Lsh, Rsh, Band, Bor, Bxor, Eq, Ne, Lt, Le, Gt, Ge, Jump, Label}
+use Rattle.op_forest.specs.declared.op.Op.TheVariants.{Cnst, Addrg, Arg, Call, Ret, Neg, Add, Sub, Mul}
 use Rattle.op_forest.specs.declared.suffix.Suffix.{Suffix}
-use Rattle.op_forest.specs.declared.suffix.Suffix.TheVariants.{C, S, I, U, P, B, V}
-use Rattle.op_forest.specs.Operators.{number}
-use Rattle.op_forest.specs.Nodes.{Head, number_of}
-use Rattle.op_forest.specs.Words.{Word}
-use Rattle.op_forest.specs.Worlds.{Point}
-use Rattle.op_forest.specs.Rows.{Setting, row, does}
+use Rattle.op_forest.specs.declared.suffix.Suffix.TheVariants.{I, P}
+use Rattle.op_forest.specs.Nodes.{Head}
+use Rattle.op_forest.specs.NumberedOperators.{HasNumber, is_numbered}
+use Rattle.forests.specs.Words.{Word}
+use Rattle.forests.specs.Objects.{Object}
+use Rattle.forests.specs.Worlds.{Point}
+use Rattle.forests.specs.Actions.{Action, Meaningless, effect_of}
+use Rattle.forests.specs.Addresses.{Environment}
+use Rattle.forests.specs.Rows.{leaf_row, unary_row, binary_row, acts}
+use Rattle.forests.specs.Bodies.{Setting, does}
 use Rattle.mips_rules.specs.MipsRows.{cnsti, addrgp, argi, calli, reti, negi, addi, subi, muli}
-
-abbrev Numbered : Type 0
-Numbered = Op × Suffix
-
--- by their numbers; none has the number 0
-abbrev operators : List Numbered
-operators =
-    (Cnst, C)
-    ∷ (Cnst, C)
-    ∷ (Cnst, S)
-    ∷ (Cnst, I)
-    ∷ (Cnst, U)
-    ∷ (Cnst, P)
-    ∷ (Addrg, P)
-    ∷ (Addrf, P)
-    ∷ (Addrl, P)
-    ∷ (Indir, C)
-    ∷ (Indir, S)
-    ∷ (Indir, I)
-    ∷ (Indir, P)
-    ∷ (Indir, B)
-    ∷ (Asgn, C)
-    ∷ (Asgn, S)
-    ∷ (Asgn, I)
-    ∷ (Asgn, P)
-    ∷ (Asgn, B)
-    ∷ (Arg, I)
-    ∷ (Arg, P)
-    ∷ (Call, I)
-    ∷ (Call, V)
-    ∷ (Ret, I)
-    ∷ (Ret, V)
-    ∷ (Cvc, I)
-    ∷ (Cvc, U)
-    ∷ (Cvs, I)
-    ∷ (Cvs, U)
-    ∷ (Cvi, C)
-    ∷ (Cvi, S)
-    ∷ (Cvi, U)
-    ∷ (Cvu, C)
-    ∷ (Cvu, S)
-    ∷ (Cvu, I)
-    ∷ (Cvu, P)
-    ∷ (Cvp, U)
-    ∷ (Neg, I)
-    ∷ (Bcom, U)
-    ∷ (Add, I)
-    ∷ (Add, U)
-    ∷ (Add, P)
-    ∷ (Sub, I)
-    ∷ (Sub, U)
-    ∷ (Sub, P)
-    ∷ (Mul, I)
-    ∷ (Mul, U)
-    ∷ (Div, I)
-    ∷ (Div, U)
-    ∷ (Mod, I)
-    ∷ (Mod, U)
-    ∷ (Lsh, I)
-    ∷ (Lsh, U)
-    ∷ (Rsh, I)
-    ∷ (Rsh, U)
-    ∷ (Band, U)
-    ∷ (Bor, U)
-    ∷ (Bxor, U)
-    ∷ (Eq, I)
-    ∷ (Ne, I)
-    ∷ (Lt, I)
-    ∷ (Lt, U)
-    ∷ (Le, I)
-    ∷ (Le, U)
-    ∷ (Gt, I)
-    ∷ (Gt, U)
-    ∷ (Ge, I)
-    ∷ (Ge, U)
-    ∷ (Jump, V)
-    ∷ (Label, V)
-    ∷ []
-
-number_back : (o : Op) (x : Suffix) → (number o x ≡ 0) ⊎ (slice_get operators (number o x) ≡ Some (o, x))
-number_back Cnst C = inr refl
-number_back Cnst S = inr refl
-number_back Cnst I = inr refl
-number_back Cnst U = inr refl
-number_back Cnst P = inr refl
-number_back Addrg P = inr refl
-number_back Addrf P = inr refl
-number_back Addrl P = inr refl
-number_back Indir C = inr refl
-number_back Indir S = inr refl
-number_back Indir I = inr refl
-number_back Indir P = inr refl
-number_back Indir B = inr refl
-number_back Asgn C = inr refl
-number_back Asgn S = inr refl
-number_back Asgn I = inr refl
-number_back Asgn P = inr refl
-number_back Asgn B = inr refl
-number_back Arg I = inr refl
-number_back Arg P = inr refl
-number_back Call I = inr refl
-number_back Call V = inr refl
-number_back Ret I = inr refl
-number_back Ret V = inr refl
-number_back Cvc I = inr refl
-number_back Cvc U = inr refl
-number_back Cvs I = inr refl
-number_back Cvs U = inr refl
-number_back Cvi C = inr refl
-number_back Cvi S = inr refl
-number_back Cvi U = inr refl
-number_back Cvu C = inr refl
-number_back Cvu S = inr refl
-number_back Cvu I = inr refl
-number_back Cvu P = inr refl
-number_back Cvp U = inr refl
-number_back Neg I = inr refl
-number_back Bcom U = inr refl
-number_back Add I = inr refl
-number_back Add U = inr refl
-number_back Add P = inr refl
-number_back Sub I = inr refl
-number_back Sub U = inr refl
-number_back Sub P = inr refl
-number_back Mul I = inr refl
-number_back Mul U = inr refl
-number_back Div I = inr refl
-number_back Div U = inr refl
-number_back Mod I = inr refl
-number_back Mod U = inr refl
-number_back Lsh I = inr refl
-number_back Lsh U = inr refl
-number_back Rsh I = inr refl
-number_back Rsh U = inr refl
-number_back Band U = inr refl
-number_back Bor U = inr refl
-number_back Bxor U = inr refl
-number_back Eq I = inr refl
-number_back Ne I = inr refl
-number_back Lt I = inr refl
-number_back Lt U = inr refl
-number_back Le I = inr refl
-number_back Le U = inr refl
-number_back Gt I = inr refl
-number_back Gt U = inr refl
-number_back Ge I = inr refl
-number_back Ge U = inr refl
-number_back Jump V = inr refl
-number_back Label V = inr refl
-number_back o x = inl refl
-
-same_op : (a b : Numbered) → Some a ≡ Some b → (a.0 ≡ b.0) × (a.1 ≡ b.1)
-same_op a b e =
-    let f : a ≡ b = cc in
-    (ap (λ n. n.0) f, ap (λ n. n.1) f)
-
-found_op : (a b : Numbered) (m : ℕ) → (m ≡ 0) ⊎ (slice_get operators m ≡ Some a) → (m ≡ 0 → ⊥) → slice_get operators m ≡ Some b → (a.0 ≡ b.0) × (a.1 ≡ b.1)
-found_op a b m known some e = ⊎_elim (λ none. absurd (some none)) (λ f. same_op a b (sym f ∙ e)) known
-
--- a head with this number has this operator
-abbrev pub HasNumber : Head → ℕ → Op → Suffix → Type 0
-HasNumber h n o x = (n ≡ number_of h) → (h.operator.op ≡ o) × (h.operator.suffix ≡ x)
-
-is_numbered : (h : Head) (n : ℕ) (o : Op) (x : Suffix) → (n ≡ 0 → ⊥) → slice_get operators n ≡ Some (o, x) → HasNumber h n o x
-is_numbered h n o x some e same =
-    found_op (h.operator.op, h.operator.suffix) (o, x) (number_of h) (number_back h.operator.op h.operator.suffix) (λ zero. some (same ∙ zero)) (ap (slice_get operators) (sym same) ∙ e)
 
 pub is_cnsti : (h : Head) → HasNumber h cnsti Cnst I
 is_cnsti h = is_numbered h cnsti Cnst I (λ e. omega (arith, e)) refl
@@ -205,6 +43,23 @@ is_subi h = is_numbered h subi Sub I (λ e. omega (arith, e)) refl
 pub is_muli : (h : Head) → HasNumber h muli Mul I
 is_muli h = is_numbered h muli Mul I (λ e. omega (arith, e)) refl
 
--- and does what the operator's row says
-pub does_as : (s : Setting) (h : Head) (o : Op) (x : Suffix) (ws : List Word) (p : Point) → (h.operator.op ≡ o) × (h.operator.suffix ≡ x) → does s h ws p ≡ row s h o x ws p
-does_as s h o x ws p e = ap (λ q. row s h q h.operator.suffix ws p) e.0 ∙ ap (λ y. row s h o y ws p) e.1
+-- what the row of an operator says, whichever a head has
+abbrev pub row : Environment → Head → Op → Suffix → List Word → List Object → Action
+row e h o x [] objects = leaf_row e h objects o x
+row e h o x (a ∷ []) objects = unary_row e h objects o x a
+row e h o x (a ∷ b ∷ []) objects = binary_row e h objects o x a b
+row e h o x (a ∷ b ∷ c ∷ ws) objects = Meaningless
+
+own_row : (e : Environment) (h : Head) (ws : List Word) (objects : List Object) → acts e h ws objects ≡ row e h h.operator.op h.operator.suffix ws objects
+own_row e h [] objects = refl
+own_row e h (a ∷ []) objects = refl
+own_row e h (a ∷ b ∷ []) objects = refl
+own_row e h (a ∷ b ∷ c ∷ ws) objects = refl
+
+-- a head does what its operator's row says
+pub does_as : (s : Setting) (h : Head) (o : Op) (x : Suffix) (ws : List Word) (p : Point) → (h.operator.op ≡ o) × (h.operator.suffix ≡ x) → does s h ws p ≡ effect_of s.call (row s.environment h o x ws p.world.objects) p
+does_as s h o x ws p e =
+    ap (λ a. effect_of s.call a p)
+    (own_row s.environment h ws p.world.objects
+    ∙ ap (λ q. row s.environment h q h.operator.suffix ws p.world.objects) e.0
+    ∙ ap (λ y. row s.environment h o y ws p.world.objects) e.1)

@@ -14,8 +14,8 @@ use Rattle.op_forest.specs.declared.suffix.Suffix.{Suffix}
 use Rattle.op_forest.specs.declared.suffix.Suffix.TheVariants.{I, P}
 use Rattle.op_forest.specs.Signature.{gives_value}
 use Rattle.op_forest.specs.Nodes.{Head, Node, head_of, gives, number_of}
-use Rattle.op_forest.specs.Words.{Word}
-use Rattle.op_forest.specs.Rows.{Setting}
+use Rattle.forests.specs.Words.{Word}
+use Rattle.forests.specs.Bodies.{Setting}
 use Rattle.vcode.specs.VirtualCode.{is_virtual, among, Flows, UsesNoSlot, HasNoMark, MarkedFirst, MovesNot, MovesLast}
 use Rattle.vcode.specs.Patterns.{Meeting, is_chain, is_ordered}
 use Rattle.vcode.specs.RuleSets.{Row, SameAt, CodeNames, Settles, one_register, own_register, code_results, is_move, is_label, op_at, all_registers, SomeBusy}
@@ -24,12 +24,12 @@ use Rattle.mips_rules.specs.declared.instr.Instr.{Instr}
 use Rattle.mips_rules.specs.declared.instr.Instr.TheVariants as instr
 use Rattle.mips_rules.specs.declared.instr.Source.TheVariants as source
 use Rattle.mips_rules.specs.declared.part.Part.{Part}
-use Rattle.mips_rules.specs.declared.part.Part.TheVariants.{Register, Constant, Name, Nothing}
+use Rattle.mips_rules.specs.declared.part.Part.TheVariants.{Register, Constant, Name, Label, Nothing}
 use Rattle.mips_rules.specs.Mips.{mips}
 use Rattle.mips_rules.specs.MipsRows.{lines, rows, cnsti, argi, calli, reti, negi}
-use Rattle.mips_rules.specs.MipsRules.{means, registers, is_name, hands, busy, name_of, code_by, part_by, mips_rules}
+use Rattle.mips_rules.specs.MipsRules.{means, registers, is_place, hands, busy, name_of, code_by, part_by, mips_rules}
 use Rattle.mips_rules.specs.OperatorNumbers.{is_cnsti, is_addrgp, is_argi, is_calli, is_reti, is_negi, is_addi, is_subi, is_muli}
-use Rattle.mips_rules.specs.AppliedRules.{operator_for, Applied, Discards, TakesConstant, PassesConstant, PassesRegister, LoadsConstant, TakesName, CombinesRegisters, CombinesConstant, Negates, HandsOver, Calls, Returns, at_row}
+use Rattle.mips_rules.specs.AppliedRules.{operator_for, Applied, Discards, TakesConstant, PassesConstant, PassesRegister, LoadsConstant, TakesName, CombinesRegisters, CombinesConstant, Negates, HandsOver, Calls, CallsLabel, Returns, at_row}
 
 -- no pattern has an operator below its root
 all_ordered : AllByRecursion (λ l. is_ordered l.row.pattern ≡ true) lines
@@ -44,14 +44,15 @@ pub local : (s : Setting) (p : Part) (f g : ℕ → Word) → SameAt (registers 
 local s (Register r) f g h = ap Some h.0
 local s (Constant n) f g h = refl
 local s (Name name offset) f g h = refl
+local s (Label l) f g h = refl
 local s Nothing f g h = refl
 
--- the part of a symbol is a name, and names no register
-name_handed : (x : Sym) → is_name (name_of x) ≡ true
-name_handed symbol.Nothing = refl
-name_handed (symbol.Global name offset) = refl
-name_handed (symbol.Label l) = refl
-name_handed (symbol.Block size align) = refl
+-- the part of a symbol is a name or a label, and names no register
+place_handed : (x : Sym) → is_place (name_of x) ≡ true
+place_handed symbol.Nothing = refl
+place_handed (symbol.Global name offset) = refl
+place_handed (symbol.Label l) = refl
+place_handed (symbol.Block size align) = refl
 
 nameless : (x : Sym) → registers (name_of x) ≡ []
 nameless symbol.Nothing = refl
@@ -82,12 +83,13 @@ hands_by to (TakesConstant h e) = eq-eqb cnsti (number_of h) e
 hands_by to (PassesConstant t n) = refl
 hands_by to (PassesRegister t r low) = refl
 hands_by to (LoadsConstant t n e) = refl
-hands_by to (TakesName h e) = name_handed h.sym
+hands_by to (TakesName h e) = place_handed h.sym
 hands_by to (CombinesRegisters op h a b q r low_q low_r e) = refl
 hands_by to (CombinesConstant op h a b q n low e) = refl
 hands_by to (Negates h a r low e) = refl
 hands_by to (HandsOver h a r low e) = refl
 hands_by to (Calls h a name offset e) = refl
+hands_by to (CallsLabel h a l e) = refl
 hands_by to (Returns h a r low e) = refl
 
 -- which operators give a value
@@ -131,6 +133,7 @@ part_registers_by to q (CombinesConstant op h a b x n low e) k = own q to (x ∷
 part_registers_by to q (Negates h a r low e) k = own q to (r ∷ []) (gives h) (negation_gives h e) k
 part_registers_by to q (HandsOver h a r low e) k = no k
 part_registers_by to q (Calls h a name offset e) k = own q to [] (gives h) (call_gives h e) k
+part_registers_by to q (CallsLabel h a l e) k = own q to [] (gives h) (call_gives h e) k
 part_registers_by to q (Returns h a r low e) k = no k
 
 -- the test of a register that an instruction names, where it is among these
@@ -166,6 +169,7 @@ names_by to (CombinesConstant op h a b q n low e) =
 names_by to (Negates h a r low e) = with_own (gives h) to (r ∷ []) (instr.Negate to r ∷ []) (negation_gives h e) ((named_here _ to (r ∷ []), (named_later _ r to [], tt)), tt)
 names_by to (HandsOver h a r low e) = without_own (gives h) to (r ∷ []) (instr.Argument r ∷ []) (argument_gives h e) ((named_here _ r [], tt), tt)
 names_by to (Calls h a name offset e) = with_own (gives h) to [] (instr.Call to name ∷ []) (call_gives h e) ((named_here _ to [], tt), tt)
+names_by to (CallsLabel h a l e) = with_own (gives h) to [] (instr.Call to 0 ∷ []) (call_gives h e) ((named_here _ to [], tt), tt)
 names_by to (Returns h a r low e) = without_own (gives h) to (r ∷ []) (instr.Return r ∷ []) (return_gives h e) ((named_here _ r [], tt), tt)
 
 -- the registers that the code reads
@@ -181,6 +185,7 @@ flows_by to (CombinesConstant op h a b q n low e) = ((refl, (named_here _ q [], 
 flows_by to (Negates h a r low e) = ((refl, (named_here _ r [], tt)), tt)
 flows_by to (HandsOver h a r low e) = ((named_here _ r [], tt), tt)
 flows_by to (Calls h a name offset e) = ((refl, tt), tt)
+flows_by to (CallsLabel h a l e) = ((refl, tt), tt)
 flows_by to (Returns h a r low e) = ((named_here _ r [], tt), tt)
 
 -- a virtual register may be read at once
@@ -200,6 +205,7 @@ settles_by to (CombinesConstant op h a b q n low e) = ((refl, (settled q _ low, 
 settles_by to (Negates h a r low e) = ((refl, (settled r _ low, tt)), tt)
 settles_by to (HandsOver h a r low e) = ((settled r _ low, tt), tt)
 settles_by to (Calls h a name offset e) = ((refl, tt), tt)
+settles_by to (CallsLabel h a l e) = ((refl, tt), tt)
 settles_by to (Returns h a r low e) = ((settled r _ low, tt), tt)
 
 -- the code uses no spill slot, and has no label
@@ -215,6 +221,7 @@ slots_by to (CombinesConstant op h a b q n low e) = ((λ x. x), tt)
 slots_by to (Negates h a r low e) = ((λ x. x), tt)
 slots_by to (HandsOver h a r low e) = ((λ x. x), tt)
 slots_by to (Calls h a name offset e) = ((λ x. x), tt)
+slots_by to (CallsLabel h a l e) = ((λ x. x), tt)
 slots_by to (Returns h a r low e) = ((λ x. x), tt)
 
 pub marks_by : {d : Action} {left : ℕ} {pattern : MPattern} {t : Node} {ps : List Part} {ms : List Meeting} (to : ℕ) → Applied d left pattern t ps ms → MarkedFirst mips (code_by d ps to)
@@ -229,6 +236,7 @@ marks_by to (CombinesConstant op h a b q n low e) = tt
 marks_by to (Negates h a r low e) = tt
 marks_by to (HandsOver h a r low e) = tt
 marks_by to (Calls h a name offset e) = tt
+marks_by to (CallsLabel h a l e) = tt
 marks_by to (Returns h a r low e) = tt
 
 pub no_mark_by : {d : Action} {left : ℕ} {pattern : MPattern} {t : Node} {ps : List Part} {ms : List Meeting} (to : ℕ) → Applied d left pattern t ps ms → HasNoMark mips (code_by d ps to)
@@ -243,6 +251,7 @@ no_mark_by to (CombinesConstant op h a b q n low e) = ((λ x. x), tt)
 no_mark_by to (Negates h a r low e) = ((λ x. x), tt)
 no_mark_by to (HandsOver h a r low e) = ((λ x. x), tt)
 no_mark_by to (Calls h a name offset e) = ((λ x. x), tt)
+no_mark_by to (CallsLabel h a l e) = ((λ x. x), tt)
 no_mark_by to (Returns h a r low e) = ((λ x. x), tt)
 
 -- no rule but a chain rule meets a label yet
@@ -266,6 +275,7 @@ no_label_by (CombinesConstant o h a b q n low e) k at = combined_no_label o h e 
 no_label_by (Negates h a r low e) k at = not_label h op.Neg I (is_negi h e) refl at
 no_label_by (HandsOver h a r low e) k at = not_label h op.Arg I (is_argi h e) refl at
 no_label_by (Calls h a name offset e) k at = not_label h op.Call I (is_calli h e) refl at
+no_label_by (CallsLabel h a l e) k at = not_label h op.Call I (is_calli h e) refl at
 no_label_by (Returns h a r low e) k at = not_label h op.Ret I (is_reti h e) refl at
 
 -- what moves control stands last, and only a return does
@@ -281,6 +291,7 @@ moves_by to (CombinesConstant op h a b q n low e) = tt
 moves_by to (Negates h a r low e) = tt
 moves_by to (HandsOver h a r low e) = tt
 moves_by to (Calls h a name offset e) = tt
+moves_by to (CallsLabel h a l e) = tt
 moves_by to (Returns h a r low e) = tt
 
 -- a RETI moves control; a CNSTI doesn't, and is no label
@@ -302,6 +313,7 @@ moves_only_by to (CombinesConstant op h a b q n low e) k = (refl, tt)
 moves_only_by to (Negates h a r low e) k = (refl, tt)
 moves_only_by to (HandsOver h a r low e) k = (refl, tt)
 moves_only_by to (Calls h a name offset e) k = (refl, tt)
+moves_only_by to (CallsLabel h a l e) k = (refl, tt)
 moves_only_by to (Returns h a r low e) k = absurd (return_moves h e k)
 
 -- where control moves, or at a label, no chain rule adds code
@@ -317,6 +329,7 @@ silent_by to (CombinesConstant op h a b q n low e) k moving = no k
 silent_by to (Negates h a r low e) k moving = no k
 silent_by to (HandsOver h a r low e) k moving = no k
 silent_by to (Calls h a name offset e) k moving = no k
+silent_by to (CallsLabel h a l e) k moving = no k
 silent_by to (Returns h a r low e) k moving = no k
 
 -- a statement and a register add code, or a part of theirs does
@@ -332,4 +345,5 @@ busy_by to (CombinesConstant op h a b q n low e) k = inl (omega arith)
 busy_by to (Negates h a r low e) k = inl (omega arith)
 busy_by to (HandsOver h a r low e) k = inl (omega arith)
 busy_by to (Calls h a name offset e) k = inl (omega arith)
+busy_by to (CallsLabel h a l e) k = inl (omega arith)
 busy_by to (Returns h a r low e) k = inl (omega arith)

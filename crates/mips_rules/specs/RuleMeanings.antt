@@ -1,19 +1,31 @@
 -- The code that a rule of MIPS adds does what the rule's pattern does.
-use Rattle.std.specs.Prelude.{◌≡◌, ℕ, zero, suc, ℤ, pos, negsuc, ◌==◌, false, Option, Some, None, List, [], ◌∷◌, ◌++◌, refl}
+use Rattle.std.specs.Prelude.{◌≡◌, ℕ, ℤ, ◌==◌, true, false, Option, Some, None, List, [], ◌∷◌, ◌++◌, refl}
 use Rattle.std.proofs.Common.{ap, sym, ◌∙◌, subst}
 use Rattle.std.proofs.lemmas.Bool.{ne_eqb, or_from}
+use Rattle.lcc_base.specs.declared.cause.Cause.{Cause}
 use Rattle.mips_rules.specs.declared.arithmetic.Arithmetic.{Arithmetic}
 use Rattle.mips_rules.specs.declared.arithmetic.Arithmetic.TheVariants.{Add, Subtract, Multiply}
 use Rattle.lburg_model.specs.Pattern.{MPattern, PHole, PLeaf, POne, PTwo}
+use Rattle.objects.specs.declared.operators.Unary.TheVariants.{Negate}
+use Rattle.objects.specs.declared.value.Value.{Value}
+use Rattle.objects.specs.declared.value.Value.TheVariants.{Number, Pointer, Function}
+use Rattle.objects.specs.Causes.{unless}
+use Rattle.objects.specs.Pointers.{place_after}
 use Rattle.op_forest.specs.declared.op.Op.TheVariants as op
 use Rattle.op_forest.specs.declared.suffix.Suffix.TheVariants.{I, P}
 use Rattle.op_forest.specs.declared.sym.Sym.{Sym}
 use Rattle.op_forest.specs.declared.sym.Sym.TheVariants as symbol
 use Rattle.op_forest.specs.Nodes.{Head, Node, Leaf, One, Two, number_of}
-use Rattle.op_forest.specs.Words.{Word, Number, Pointer, Function, Label, Partly}
-use Rattle.op_forest.specs.Worlds.{Point, Move, Next, To, End, Effect, Went, Exits, Unfinished, Stuck, then_do}
-use Rattle.op_forest.specs.Rows.{Setting, does, constant, value_at, given, address_of, negated, of_one, of_two, argument, called, handed}
-use Rattle.op_forest.specs.Functions.{value_or}
+use Rattle.forests.specs.Words.{Word}
+use Rattle.forests.specs.Words as word
+use Rattle.forests.specs.Accesses.{defined}
+use Rattle.forests.specs.Worlds.{Point, Move, Next, To, End, Effect, Went, Exits, Unfinished, Stuck, then_do}
+use Rattle.forests.specs.Actions.{Calls as Callees, Passed, gave, handed, effect_of}
+use Rattle.forests.specs.Addresses.{plain, named, moved_from}
+use Rattle.forests.specs.Bodies.{Setting, does}
+use Rattle.forests.specs.Numbers.{constant, of_one, of_two}
+use Rattle.forests.specs.Rows.{called}
+use Rattle.forests.specs.Units.{word_or_unknown}
 use Rattle.vcode.specs.declared.operand.Operand.{Operand}
 use Rattle.vcode.specs.Machines.{Plain, writes_one}
 use Rattle.vcode.specs.Execution.{State, reads, written, without}
@@ -27,32 +39,28 @@ use Rattle.mips_rules.specs.declared.instr.Instr.TheVariants as instr
 use Rattle.mips_rules.specs.declared.instr.Source.{Source}
 use Rattle.mips_rules.specs.declared.instr.Source.TheVariants as source
 use Rattle.mips_rules.specs.declared.part.Part.{Part}
-use Rattle.mips_rules.specs.declared.part.Part.TheVariants.{Register, Constant, Name}
+use Rattle.mips_rules.specs.declared.part.Part.TheVariants.{Register, Constant, Name, Label}
 use Rattle.mips_rules.specs.Instructions.{source_operands, combined, operates}
 use Rattle.mips_rules.specs.Mips.{mips}
 use Rattle.mips_rules.specs.MipsRows.{con, rc, reg, addr, cnsti, addrgp, argi, calli, reti, negi}
-use Rattle.mips_rules.specs.MipsRules.{means, constant_of, name_of, code_by, part_by, mips_rules}
+use Rattle.mips_rules.specs.MipsRules.{word_behind, means, constant_of, name_of, code_by, part_by, mips_rules}
 use Rattle.mips_rules.specs.OperatorNumbers.{is_cnsti, is_addrgp, is_argi, is_calli, is_reti, is_negi, is_addi, is_subi, is_muli, does_as}
 use Rattle.mips_rules.specs.OneInstruction.{written_first, nothing_gets, one_gets}
-use Rattle.mips_rules.specs.AppliedRules.{operator_for, Applied, Discards, TakesConstant, PassesConstant, PassesRegister, LoadsConstant, TakesName, CombinesRegisters, CombinesConstant, Negates, HandsOver, Calls, Returns}
+use Rattle.mips_rules.specs.AppliedRules.{operator_for, Applied, Discards, TakesConstant, PassesConstant, PassesRegister, LoadsConstant, TakesName, CombinesRegisters, CombinesConstant, Negates, HandsOver, Calls, CallsLabel, Returns}
 
 -- where it goes on behind it, there is one value
 abbrev IsOneValue : Effect → Type 0
 IsOneValue e = WhenWent e (λ ws p mv. WhenNext mv ((w : Word) × (ws ≡ w ∷ [])))
 
-one_of_one : (f : ℕ → ℕ) (x : Word) (p : Point) → IsOneValue (of_one f x p)
-one_of_one f (Number x) p = (Number (f x), refl)
-one_of_one f x p = tt
+one_gave : (call : Callees) (v : Option Word) (p : Point) → IsOneValue (effect_of call (gave v) p)
+one_gave call None p = tt
+one_gave call (Some w) p = (w, refl)
 
-one_of_two : (f : ℕ → ℕ → ℕ) (x y : Word) (p : Point) → IsOneValue (of_two f x y p)
-one_of_two f (Number x) (Number y) p = (Number (f x y), refl)
-one_of_two f x y p = tt
-
-one_handed : (ws : List Word) (p : Point) → IsOneValue (handed ws p)
+one_handed : (ws : List Word) (p : Point) → IsOneValue (handed true ws p)
 one_handed [] p = tt
 one_handed (w ∷ ws) p = (w, refl)
 
-one_answer : (e : Effect) → IsOneValue (then_do e (λ ws p. handed ws p))
+one_answer : (e : Effect) → IsOneValue (then_do e (λ ws p. handed true ws p))
 one_answer (Went ws p Next) = one_handed ws p
 one_answer (Went ws p (To l)) = tt
 one_answer (Went ws p (End v)) = tt
@@ -60,27 +68,25 @@ one_answer (Exits status w) = tt
 one_answer (Unfinished w) = tt
 one_answer Stuck = tt
 
-one_called : (s : Setting) (x : Word) (p : Point) → IsOneValue (called s x p)
-one_called s (Function f) p = one_answer (s.call f p)
-one_called s x p = tt
+one_called : (call : Callees) (x : Word) (p : Point) → IsOneValue (effect_of call (called true x) p)
+one_called call (word.Plain (Number n)) p = tt
+one_called call (word.Plain (Pointer object offset)) p = tt
+one_called call (word.Plain (Function f)) p = one_answer (call f p)
+one_called call (word.Label f l) p = tt
+one_called call (word.Partly mask bits) p = tt
 
 -- what an addition, a subtraction and a multiplication do
-combines_row : (s : Setting) (o : Arithmetic) (h : Head) (x y : Word) (p : Point) → operator_for o ≡ number_of h → does s h (x ∷ y ∷ []) p ≡ of_two (combined o) x y p
+combines_row : (s : Setting) (o : Arithmetic) (h : Head) (x y : Word) (p : Point) → operator_for o ≡ number_of h → does s h (x ∷ y ∷ []) p ≡ effect_of s.call (gave (of_two true (combined o) x y)) p
 combines_row s Add h x y p e = does_as s h op.Add I (x ∷ y ∷ []) p (is_addi h e)
 combines_row s Subtract h x y p e = does_as s h op.Sub I (x ∷ y ∷ []) p (is_subi h e)
 combines_row s Multiply h x y p e = does_as s h op.Mul I (x ∷ y ∷ []) p (is_muli h e)
 
--- a name moved by an offset is called only where it isn't moved
-same_callee : (s : Setting) (g : Option Word) (offset : ℤ) (p : Point) → (called s (value_or (value_at g offset)) p ≡ Stuck → ⊥) → called s (value_or (value_at g (pos zero))) p ≡ called s (value_or (value_at g offset)) p
-same_callee s None offset p ns = absurd (ns refl)
-same_callee s (Some (Number n)) offset p ns = absurd (ns refl)
-same_callee s (Some (Pointer o z)) (pos n) p ns = absurd (ns refl)
-same_callee s (Some (Pointer o z)) (negsuc n) p ns = absurd (ns refl)
-same_callee s (Some (Function f)) (pos zero) p ns = refl
-same_callee s (Some (Function f)) (pos (suc n)) p ns = absurd (ns refl)
-same_callee s (Some (Function f)) (negsuc n) p ns = absurd (ns refl)
-same_callee s (Some (Label f l)) offset p ns = absurd (ns refl)
-same_callee s (Some (Partly mask bits)) offset p ns = absurd (ns refl)
+-- a function isn't moved by an offset, and nothing else is called
+same_callee : (g : Option Value) (offset : ℤ) → called true (word_or_unknown g) ≡ called true (word_behind g offset)
+same_callee None offset = refl
+same_callee (Some (Number n)) offset = refl
+same_callee (Some (Pointer object z)) offset = refl
+same_callee (Some (Function f)) offset = refl
 
 module _ (s : Setting) (whole rest : List Instr) (st : State) where
   -- an instruction that writes one register gives it the value of the effect
@@ -106,50 +112,60 @@ module _ (s : Setting) (whole rest : List Instr) (st : State) where
       stands (Unfinished w) h = tt
       stands Stuck h = tt
 
-  constant_gets : (v : Option ℤ) (kept : ℕ → Type 0) → (constant v st.point ≡ Stuck → ⊥) → Gets mips s whole [] rest st (constant v st.point) (λ f ws. ws ≡ Number (constant_of v) ∷ []) kept
+  constant_gets : (v : Option ℤ) (kept : ℕ → Type 0) → (effect_of s.call (gave (constant v)) st.point ≡ Stuck → ⊥) → Gets mips s whole [] rest st (effect_of s.call (gave (constant v)) st.point) (λ f ws. ws ≡ word.Plain (Number (constant_of v)) ∷ []) kept
   constant_gets None kept ns = absurd (ns refl)
-  constant_gets (Some z) kept ns = nothing_gets mips s whole rest st (Number (constant_of (Some z)) ∷ []) (λ f ws. ws ≡ Number (constant_of (Some z)) ∷ []) kept refl
+  constant_gets (Some z) kept ns = nothing_gets mips s whole rest st (word.Plain (Number (constant_of (Some z))) ∷ []) (λ f ws. ws ≡ word.Plain (Number (constant_of (Some z))) ∷ []) kept refl
 
-  given_gets : (w : Option Word) (kept : ℕ → Type 0) → (given w st.point ≡ Stuck → ⊥) → Gets mips s whole [] rest st (given w st.point) (λ f ws. ws ≡ value_or w ∷ []) kept
-  given_gets None kept ns = absurd (ns refl)
-  given_gets (Some w) kept ns = nothing_gets mips s whole rest st (w ∷ []) (λ f ws. ws ≡ w ∷ []) kept refl
+  unless_gets : (cause : Option Cause) (v : Value) (kept : ℕ → Type 0) → (effect_of s.call (gave (plain (defined (unless cause v)))) st.point ≡ Stuck → ⊥) → Gets mips s whole [] rest st (effect_of s.call (gave (plain (defined (unless cause v)))) st.point) (λ f ws. ws ≡ word.Plain v ∷ []) kept
+  unless_gets None v kept ns = nothing_gets mips s whole rest st (word.Plain v ∷ []) (λ f ws. ws ≡ word.Plain v ∷ []) kept refl
+  unless_gets (Some cause) v kept ns = absurd (ns refl)
 
-  name_gets : (x : Sym) (kept : ℕ → Type 0) → (address_of s x st.point ≡ Stuck → ⊥) → Gets mips s whole [] rest st (address_of s x st.point) (λ f ws. Stands (means s (name_of x) f) ws) kept
+  moved_gets : (g : Option Value) (offset : ℤ) (kept : ℕ → Type 0) → (effect_of s.call (gave (moved_from st.point.world.objects g offset)) st.point ≡ Stuck → ⊥) → Gets mips s whole [] rest st (effect_of s.call (gave (moved_from st.point.world.objects g offset)) st.point) (λ f ws. ws ≡ word_behind g offset ∷ []) kept
+  moved_gets None offset kept ns = absurd (ns refl)
+  moved_gets (Some v) offset kept ns = unless_gets _ (place_after v offset) kept ns
+
+  name_gets : (x : Sym) (kept : ℕ → Type 0) → (effect_of s.call (gave (named s.environment st.point.world.objects x)) st.point ≡ Stuck → ⊥) → Gets mips s whole [] rest st (effect_of s.call (gave (named s.environment st.point.world.objects x)) st.point) (λ f ws. Stands (means s (name_of x) f) ws) kept
   name_gets symbol.Nothing kept ns = absurd (ns refl)
-  name_gets (symbol.Global name offset) kept ns = given_gets (value_at (s.global name) offset) kept ns
-  name_gets (symbol.Label l) kept ns = absurd (ns refl)
+  name_gets (symbol.Global name offset) kept ns = moved_gets (s.environment.global name) offset kept ns
+  name_gets (symbol.Label l) kept ns = nothing_gets mips s whole rest st (word.Label s.environment.home.function l ∷ []) (λ f ws. ws ≡ word.Label s.environment.home.function l ∷ []) kept refl
   name_gets (symbol.Block size align) kept ns = absurd (ns refl)
 
   -- what an effect is equal to may stand for it
   abbrev GetsAs : List Instr → ((ℕ → Word) → List Word → Type 0) → ℕ → Effect → Type 0
   GetsAs code holds to e = Gets mips s whole code rest st e holds (λ q. q ≡ to → ⊥)
 
-  combine_gets : (o : Arithmetic) (h : Head) (q to : ℕ) (xs ys : List Word) (y : Word) (operand : Source) → operator_for o ≡ number_of h → xs ≡ st.registers q ∷ [] → ys ≡ y ∷ [] → operates (combined o) operand (reads (mips.operands (instr.Binary o to q operand)) st.registers) st.point ≡ of_two (combined o) (st.registers q) y st.point → results (source_operands operand) ≡ [] → GetsAs (instr.Binary o to q operand ∷ []) (λ f ws. ws ≡ f to ∷ []) to (does s h (xs ++ ys) st.point)
+  combine_gets : (o : Arithmetic) (h : Head) (q to : ℕ) (xs ys : List Word) (y : Word) (operand : Source) → operator_for o ≡ number_of h → xs ≡ st.registers q ∷ [] → ys ≡ y ∷ [] → operates (combined o) operand (reads (mips.operands (instr.Binary o to q operand)) st.registers) ≡ gave (of_two true (combined o) (st.registers q) y) → results (source_operands operand) ≡ [] → GetsAs (instr.Binary o to q operand ∷ []) (λ f ws. ws ≡ f to ∷ []) to (does s h (xs ++ ys) st.point)
   combine_gets o h q to xs ys y operand e ex ey act none =
-      subst (GetsAs (instr.Binary o to q operand ∷ []) (λ f ws. ws ≡ f to ∷ []) to) (sym same) (value_gets (instr.Binary o to q operand) to _ (of_two (combined o) (st.registers q) y st.point) refl refl none act (one_of_two (combined o) (st.registers q) y st.point))
+      subst (GetsAs (instr.Binary o to q operand ∷ []) (λ f ws. ws ≡ f to ∷ []) to) (sym same) (value_gets (instr.Binary o to q operand) to _ (effect_of s.call (gave combination) st.point) refl refl none (ap (λ a. effect_of s.call a st.point) act) (one_gave s.call combination st.point))
     where
-      same : does s h (xs ++ ys) st.point ≡ of_two (combined o) (st.registers q) y st.point
+      combination : Option Word
+      combination = of_two true (combined o) (st.registers q) y
+
+      same : does s h (xs ++ ys) st.point ≡ effect_of s.call (gave combination) st.point
       same =
           ap (λ l. does s h (l ++ ys) st.point) ex
           ∙ ap (λ l. does s h (st.registers q ∷ l) st.point) ey
           ∙ combines_row s o h (st.registers q) y st.point e
 
-  load_gets : (n to : ℕ) (ws : List Word) → ws ≡ Number n ∷ [] → GetsAs (instr.LoadNumber to n ∷ []) (λ f us. us ≡ f to ∷ []) to (Went ws st.point Next)
+  load_gets : (n to : ℕ) (ws : List Word) → ws ≡ word.Plain (Number n) ∷ [] → GetsAs (instr.LoadNumber to n ∷ []) (λ f us. us ≡ f to ∷ []) to (Went ws st.point Next)
   load_gets n to ws h =
-      value_gets (instr.LoadNumber to n) to [] (Went ws st.point Next) refl refl refl (ap (λ l. Went l st.point Next) (sym h)) (Number n, h)
+      value_gets (instr.LoadNumber to n) to [] (Went ws st.point Next) refl refl refl (ap (λ l. Went l st.point Next) (sym h)) (word.Plain (Number n), h)
 
   negate_gets : (h : Head) (r to : ℕ) (xs : List Word) → negi ≡ number_of h → xs ≡ st.registers r ∷ [] → GetsAs (instr.Negate to r ∷ []) (λ f ws. ws ≡ f to ∷ []) to (does s h xs st.point)
   negate_gets h r to xs e ex =
-      subst (GetsAs (instr.Negate to r ∷ []) (λ f ws. ws ≡ f to ∷ []) to) (sym same) (value_gets (instr.Negate to r) to _ (of_one negated (st.registers r) st.point) refl refl refl refl (one_of_one negated (st.registers r) st.point))
+      subst (GetsAs (instr.Negate to r ∷ []) (λ f ws. ws ≡ f to ∷ []) to) (sym same) (value_gets (instr.Negate to r) to _ (effect_of s.call (gave negative) st.point) refl refl refl refl (one_gave s.call negative st.point))
     where
-      same : does s h xs st.point ≡ of_one negated (st.registers r) st.point
+      negative : Option Word
+      negative = of_one Negate (st.registers r)
+
+      same : does s h xs st.point ≡ effect_of s.call (gave negative) st.point
       same = ap (λ l. does s h l st.point) ex ∙ does_as s h op.Neg I (st.registers r ∷ []) st.point (is_negi h e)
 
   hand_gets : (h : Head) (r to : ℕ) (xs : List Word) → argi ≡ number_of h → xs ≡ st.registers r ∷ [] → GetsAs (instr.Argument r ∷ []) (λ f ws. Unit {0}) to (does s h xs st.point)
   hand_gets h r to xs e ex =
-      subst (GetsAs (instr.Argument r ∷ []) (λ f ws. Unit {0}) to) (sym same) (one_gets mips s whole rest st (instr.Argument r) (argument (st.registers r) st.point) (λ f ws. Unit {0}) (λ q. q ≡ to → ⊥) refl refl (λ q other. refl) tt)
+      subst (GetsAs (instr.Argument r ∷ []) (λ f ws. Unit {0}) to) (sym same) (one_gets mips s whole rest st (instr.Argument r) (effect_of s.call (Passed (st.registers r)) st.point) (λ f ws. Unit {0}) (λ q. q ≡ to → ⊥) refl refl (λ q other. refl) tt)
     where
-      same : does s h xs st.point ≡ argument (st.registers r) st.point
+      same : does s h xs st.point ≡ effect_of s.call (Passed (st.registers r)) st.point
       same = ap (λ l. does s h l st.point) ex ∙ does_as s h op.Arg I (st.registers r ∷ []) st.point (is_argi h e)
 
   return_gets : (h : Head) (r to : ℕ) (xs : List Word) → reti ≡ number_of h → xs ≡ st.registers r ∷ [] → GetsAs (instr.Return r ∷ []) (λ f ws. Unit {0}) to (does s h xs st.point)
@@ -159,20 +175,25 @@ module _ (s : Setting) (whole rest : List Instr) (st : State) where
       same : does s h xs st.point ≡ Went [] st.point (End (Some (st.registers r)))
       same = ap (λ l. does s h l st.point) ex ∙ does_as s h op.Ret I (st.registers r ∷ []) st.point (is_reti h e)
 
-  call_gets : (h : Head) (name to : ℕ) (offset : ℤ) (xs : List Word) → calli ≡ number_of h → xs ≡ value_or (value_at (s.global name) offset) ∷ [] → (does s h xs st.point ≡ Stuck → ⊥) → GetsAs (instr.Call to name ∷ []) (λ f ws. ws ≡ f to ∷ []) to (does s h xs st.point)
-  call_gets h name to offset xs e ex ns =
-      subst (GetsAs (instr.Call to name ∷ []) (λ f ws. ws ≡ f to ∷ []) to) (sym same) (value_gets (instr.Call to name) to [] (called s callee st.point) refl refl refl (same_callee s (s.global name) offset st.point (λ stuck. ns (same ∙ stuck))) (one_called s callee st.point))
+  call_gets : (h : Head) (name to : ℕ) (offset : ℤ) (xs : List Word) → calli ≡ number_of h → xs ≡ word_behind (s.environment.global name) offset ∷ [] → GetsAs (instr.Call to name ∷ []) (λ f ws. ws ≡ f to ∷ []) to (does s h xs st.point)
+  call_gets h name to offset xs e ex =
+      subst (GetsAs (instr.Call to name ∷ []) (λ f ws. ws ≡ f to ∷ []) to) (sym same) (value_gets (instr.Call to name) to [] (effect_of s.call (called true callee) st.point) refl refl refl (ap (λ a. effect_of s.call a st.point) (same_callee (s.environment.global name) offset)) (one_called s.call callee st.point))
     where
       callee : Word
-      callee = value_or (value_at (s.global name) offset)
+      callee = word_behind (s.environment.global name) offset
 
-      same : does s h xs st.point ≡ called s callee st.point
+      same : does s h xs st.point ≡ effect_of s.call (called true callee) st.point
       same = ap (λ l. does s h l st.point) ex ∙ does_as s h op.Call I (callee ∷ []) st.point (is_calli h e)
 
-  take_constant_gets : (h : Head) (to : ℕ) → cnsti ≡ number_of h → (does s h [] st.point ≡ Stuck → ⊥) → GetsAs [] (λ f ws. ws ≡ Number (constant_of h.value) ∷ []) to (does s h [] st.point)
+  -- a label isn't called
+  call_label_stuck : (h : Head) (l : ℕ) (xs : List Word) → calli ≡ number_of h → xs ≡ word.Label s.environment.home.function l ∷ [] → does s h xs st.point ≡ Stuck
+  call_label_stuck h l xs e ex =
+      ap (λ v. does s h v st.point) ex ∙ does_as s h op.Call I (word.Label s.environment.home.function l ∷ []) st.point (is_calli h e)
+
+  take_constant_gets : (h : Head) (to : ℕ) → cnsti ≡ number_of h → (does s h [] st.point ≡ Stuck → ⊥) → GetsAs [] (λ f ws. ws ≡ word.Plain (Number (constant_of h.value)) ∷ []) to (does s h [] st.point)
   take_constant_gets h to e ns =
       let same = does_as s h op.Cnst I [] st.point (is_cnsti h e) in
-      subst (GetsAs [] (λ f ws. ws ≡ Number (constant_of h.value) ∷ []) to) (sym same) (constant_gets h.value _ (λ stuck. ns (same ∙ stuck)))
+      subst (GetsAs [] (λ f ws. ws ≡ word.Plain (Number (constant_of h.value)) ∷ []) to) (sym same) (constant_gets h.value _ (λ stuck. ns (same ∙ stuck)))
 
   take_name_gets : (h : Head) (to : ℕ) → addrgp ≡ number_of h → (does s h [] st.point ≡ Stuck → ⊥) → GetsAs [] (λ f ws. Stands (means s (name_of h.sym) f) ws) to (does s h [] st.point)
   take_name_gets h to e ns =
@@ -206,8 +227,9 @@ module _ (s : Setting) (whole rest : List Instr) (st : State) where
   acts_by to vs (LoadsConstant t n e) a = one_value (λ us. Acts action.LoadConstant (PHole con) t (Constant n ∷ []) to us) (Constant n) vs a (λ ws h ns. load_gets n to ws h)
   acts_by to vs (TakesName h e) a = no_values (λ us. Acts action.TakeName (PLeaf addrgp) (Leaf h) [] to us) vs a (λ ns. take_name_gets h to e ns)
   acts_by to vs (CombinesRegisters o h x y q r low_q low_r e) a = two_values (λ us. Acts (action.Combine o) (PTwo (operator_for o) (PHole reg) (PHole rc)) (Two h x y) (Register q ∷ Register r ∷ []) to us) (Register q) (Register r) vs a (λ ws us hw hu ns. combine_gets o h q to ws us (st.registers r) (source.Register r) e hw hu refl refl)
-  acts_by to vs (CombinesConstant o h x y q n low e) a = two_values (λ us. Acts (action.Combine o) (PTwo (operator_for o) (PHole reg) (PHole rc)) (Two h x y) (Register q ∷ Constant n ∷ []) to us) (Register q) (Constant n) vs a (λ ws us hw hu ns. combine_gets o h q to ws us (Number n) (source.Number n) e hw hu refl refl)
+  acts_by to vs (CombinesConstant o h x y q n low e) a = two_values (λ us. Acts (action.Combine o) (PTwo (operator_for o) (PHole reg) (PHole rc)) (Two h x y) (Register q ∷ Constant n ∷ []) to us) (Register q) (Constant n) vs a (λ ws us hw hu ns. combine_gets o h q to ws us (word.Plain (Number n)) (source.Number n) e hw hu refl refl)
   acts_by to vs (Negates h x r low e) a = one_value (λ us. Acts action.Negate (POne negi (PHole reg)) (One h x) (Register r ∷ []) to us) (Register r) vs a (λ ws k ns. negate_gets h r to ws e k)
   acts_by to vs (HandsOver h x r low e) a = one_value (λ us. Acts action.HandOver (POne argi (PHole reg)) (One h x) (Register r ∷ []) to us) (Register r) vs a (λ ws k ns. hand_gets h r to ws e k)
-  acts_by to vs (Calls h x name offset e) a = one_value (λ us. Acts action.Call (POne calli (PHole addr)) (One h x) (Name name offset ∷ []) to us) (Name name offset) vs a (λ ws k ns. call_gets h name to offset ws e k ns)
+  acts_by to vs (Calls h x name offset e) a = one_value (λ us. Acts action.Call (POne calli (PHole addr)) (One h x) (Name name offset ∷ []) to us) (Name name offset) vs a (λ ws k ns. call_gets h name to offset ws e k)
+  acts_by to vs (CallsLabel h x l e) a = one_value (λ us. Acts action.Call (POne calli (PHole addr)) (One h x) (Label l ∷ []) to us) (Label l) vs a (λ ws k ns. absurd (ns (call_label_stuck h l ws e k)))
   acts_by to vs (Returns h x r low e) a = one_value (λ us. Acts action.Return (POne reti (PHole reg)) (One h x) (Register r ∷ []) to us) (Register r) vs a (λ ws k ns. return_gets h r to ws e k)

@@ -1,13 +1,14 @@
--- The shipped description of MIPS as one fact, and that it derives each root of a well-formed forest.
+-- The shipped description of MIPS as one fact, and that it derives each root of a well-formed forest
+-- whose operators have rules.
 -- Source: Fraser and Hanson, A Retargetable C Compiler, chapters 14 and 16.
-use Rattle.std.specs.Prelude.{◌≡◌, ◌≢◌, All, map}
+use Rattle.std.specs.Prelude.{◌≡◌, All, map}
 use Rattle.lburg_model.specs.Derivation.{MDerivation, Derives}
 use Rattle.lburg_model.specs.Description.{MDescription}
 use Rattle.lburg_model.specs.Best.{HasNone}
 use Rattle.op_forest.specs.declared.forest.Forest.{Forest}
-use Rattle.op_forest.specs.declared.op.Op.TheVariants as op
 use Rattle.op_forest.specs.Nodes.{Node, tree_of}
-use Rattle.op_forest.specs.WellFormed.{IsWellFormed, HasKinds, op_of}
+use Rattle.forests.specs.WellFormed.{IsWellFormed, HasKinds}
+use Rattle.forests.specs.HasRules.{IsRuled, HasRules}
 use Rattle.vcode.specs.RuleSets.{row_of}
 use Rattle.mips_rules.specs.MipsRows.{nonterminals, stmt, rows, costs, ranges}
 use Rattle.mips_rules.specs.MipsTerminals.{terminals}
@@ -22,10 +23,10 @@ pub record IsShipped (d : MDescription) : Type 0 where
   pub costs : map (λ r. r.cost) d.rules ≡ costs
   pub ranges : map (λ r. r.range) d.rules ≡ ranges
 
--- the start symbol derives each tree that is no address alone and whose operators have what they need
+-- the start symbol derives each tree that is no address alone, whose operators have rules and what they need
 abbrev pub DerivesStatements : MDescription → Type 0
-DerivesStatements d = (t : Node) → HasKinds t → op_of t ≢ op.Addrg → (x : MDerivation) × Derives d.rules d.start (tree_of t) x
+DerivesStatements d = (t : Node) → HasKinds t → IsRuled t → (x : MDerivation) × Derives d.rules d.start (tree_of t) x
 
--- each root of a well-formed forest has a derivation
+-- each root of a well-formed forest whose operators have rules has a derivation
 abbrev pub CoversRoots : MDescription → Type 0
-CoversRoots d = (f : Forest) → IsWellFormed f → All (λ t. HasNone d (tree_of t) → ⊥) f.roots
+CoversRoots d = (f : Forest) → IsWellFormed f → HasRules f.roots → All (λ t. HasNone d (tree_of t) → ⊥) f.roots

@@ -9,7 +9,7 @@ pub enum Action {
     Pass,
     /// Nothing, and hands up the node's constant.
     TakeConstant,
-    /// Nothing, and hands up the node's name.
+    /// Nothing, and hands up the node's name or label.
     TakeName,
     /// `li` of its one part, a constant; it hands up the node's register, and so do the next three.
     LoadConstant,

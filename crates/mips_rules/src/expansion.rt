@@ -1,10 +1,10 @@
-ghost use Rattle.std.specs.Prelude.{◌≡◌, ◌<◌, ◌≤◌, ◌||◌, true, ℕ, ℤ, List, length, map, Some, slice_get, option_to_list};
+ghost use Rattle.std.specs.Prelude.{◌≡◌, ◌<◌, ◌≤◌, ◌||◌, true, ℕ, List, length, map, Some, slice_get, option_to_list};
 ghost use Rattle.lburg_model.specs.Pattern.{MPattern};
 ghost use Rattle.op_forest.specs.Nodes.{Node, head_of};
 ghost use Rattle.vcode.specs.Patterns.{Meeting};
 ghost use Rattle.mips_rules.specs.declared.part.Part.{Part as Parts};
 ghost use Rattle.mips_rules.specs.AppliedRules.{Applied};
-ghost use Rattle.mips_rules.specs.MipsRules.{action_at, part_at, register_of, number_in, source_of, name_in, constant_of, name_of, is_register, is_constant, code_by, part_by};
+ghost use Rattle.mips_rules.specs.MipsRules.{action_at, part_at, register_of, number_in, source_of, name_in, constant_of, name_of, is_register, is_constant, is_place, code_by, part_by};
 
 use crate::action::Action;
 use crate::arithmetic::Arithmetic;
@@ -42,12 +42,13 @@ fn constant_of(node: &Tree) -> u32
     }
 }
 
-/// The node's name.
+/// The node's name or label.
 fn name_of(node: &Tree) -> Part
     ensures { result ≡ name_of (head_of node.now).sym }
 {
     match node.sym {
         Sym::Global { name, offset } => Part::Name { name, offset },
+        Sym::Label(label) => Part::Label(label),
         _ => Part::Name { name: 0, offset: 0 },
     }
 }
@@ -86,13 +87,14 @@ fn source_at(parts: &Items<Part>, n: usize) -> Source
     }
 }
 
-/// The name that part n is.
+/// The name that part n is; 0 where it is a label, which has none.
 fn name_at(parts: &Items<Part>, n: usize) -> u32
-    requires { (name : ℕ) × (offset : ℤ) × (slice_get parts.now n ≡ Some (Part.Name name offset)) }
+    requires { (p : Parts) × (slice_get parts.now n ≡ Some p) × (is_place p ≡ true) }
     ensures { result ≡ name_in (part_at parts.now n) }
 {
     match parts.at(n) {
         Part::Name { name, offset: _ } => *name,
+        Part::Label(_) => 0,
         _ => unreachable!(),
     }
 }

@@ -75,8 +75,8 @@ fn rules_of(alloc: Global, lines: &[RuleLine]) -> Result<Vec<Rule>, Memory>
 
 /// The shipped description: it declares all 69 operators by their names and numbers, and has 13
 /// rules, which derive each statement of integers made of constants, sums, differences, products,
-/// negatives, argument words, calls and returns. So each root of a well-formed forest has a
-/// derivation.
+/// negatives, argument words, calls and returns. So each root of a well-formed forest whose
+/// operators have rules has a derivation.
 /// Source: Fraser and Hanson, A Retargetable C Compiler, chapter 16.
 pub fn description(alloc: Global) -> Result<Description, Memory>
     ensures terminals { IfOk result (λ d. d.terminals ≡ terminals) }

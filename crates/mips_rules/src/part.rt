@@ -10,6 +10,8 @@ pub enum Part {
     /// The address that lies so many bytes behind that of a global, which is given by its place
     /// among the names of the unit.
     Name { name: u32, offset: i32 },
+    /// The address of a label of the function itself.
+    Label(u32),
     /// No value.
     Nothing,
 }

@@ -396,6 +396,10 @@ fn leaves(rt: HostRuntime) -> Result<(), Fail> {
     let (code, part) = expand(alloc, 6, &name, &[])?;
     assert!(rt; code.is_empty());
     assert_eq!(rt; part, Part::Name { name: 2, offset: 8 });
+    let label = leaf(alloc, operator, Sym::Label(3), None);
+    let (code, part) = expand(alloc, 6, &label, &[])?;
+    assert!(rt; code.is_empty());
+    assert_eq!(rt; part, Part::Label(3));
     Ok(())
 }
 

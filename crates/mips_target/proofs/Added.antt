@@ -12,7 +12,7 @@ use Rattle.op_forest.specs.declared.sym.Sym.TheVariants as symbol
 use Rattle.op_forest.specs.Signature.{gives_value}
 use Rattle.op_forest.specs.Nodes.{Head, Node, Leaf, One, Two, head_of, nodes, gives, one_where, value_nodes, number_of}
 use Rattle.op_forest.specs.EachNode.{AtEachNode}
-use Rattle.op_forest.specs.Rows.{bits_of}
+use Rattle.forests.specs.Words.{number_of as word_number}
 use Rattle.vcode.specs.Patterns.{Meeting, leaves_at, is_chain}
 use Rattle.vcode.specs.RuleSets.{Row, Applies}
 use Rattle.vcode.specs.Emission.{Emitted, EmittedAll, with_chain, with_rule, and_one, Emits, EmitsAll, ByChain, ByRule, Nothing, OneMore}
@@ -27,7 +27,7 @@ use Rattle.mips_rules.specs.declared.part.Part.TheVariants as part
 use Rattle.mips_rules.specs.MipsRows.{addrgp, argi}
 use Rattle.mips_rules.specs.OperatorNumbers.{is_argi}
 use Rattle.mips_rules.specs.MipsRules.{action_at, code_by, part_by, constant_of, name_of, name_in, mips_rules}
-use Rattle.mips_rules.specs.AppliedRules.{Applied, applied, Discards, TakesConstant, PassesConstant, PassesRegister, LoadsConstant, TakesName, CombinesRegisters, CombinesConstant, Negates, HandsOver, Calls, Returns}
+use Rattle.mips_rules.specs.AppliedRules.{Applied, applied, Discards, TakesConstant, PassesConstant, PassesRegister, LoadsConstant, TakesName, CombinesRegisters, CombinesConstant, Negates, HandsOver, Calls, CallsLabel, Returns}
 
 -- an instruction as a rule adds it: its registers are virtual, a number is a word, and what it calls is named
 pub data IsAdded (named : ℕ → Type 0) : Instr → Type 0 where
@@ -97,6 +97,7 @@ abbrev pub room : Part → ℕ
 room (part.Register r) = 0
 room (part.Constant n) = 1
 room (part.Name name offset) = 1
+room (part.Label l) = 1
 room part.Nothing = 0
 
 abbrev pub rooms : List Part → ℕ
@@ -147,6 +148,7 @@ at_met P (CombinesConstant op h a b q n low e) k = (k.1, (k.2, tt))
 at_met P (Negates h a r low e) k = (k.1, tt)
 at_met P (HandsOver h a r low e) k = (k.1, tt)
 at_met P (Calls h a name offset e) k = (k.1, tt)
+at_met P (CallsLabel h a l e) k = (k.1, tt)
 at_met P (Returns h a r low e) k = (k.1, tt)
 
 -- it adds no more than its node and the parts leave
@@ -162,6 +164,7 @@ counted_by to (CombinesConstant op h a b q n low e) = omega arith
 counted_by to (Negates h a r low e) = omega arith
 counted_by to (HandsOver h a r low e) = omega arith
 counted_by to (Calls h a name offset e) = omega arith
+counted_by to (CallsLabel h a l e) = omega arith
 counted_by to (Returns h a r low e) = omega arith
 
 argument_other : (h : Head) → argi ≡ number_of h → other_own h ≡ 1
@@ -182,6 +185,7 @@ handed_by to (CombinesConstant op h a b q n low e) = omega arith
 handed_by to (Negates h a r low e) = omega arith
 handed_by to (HandsOver h a r low e) = let o = argument_other h e in omega (arith, o)
 handed_by to (Calls h a name offset e) = omega arith
+handed_by to (CallsLabel h a l e) = omega arith
 handed_by to (Returns h a r low e) = omega arith
 
 -- how a rule is applied where its pattern meets these
@@ -253,7 +257,7 @@ abbrev pub NamesOne : (ℕ → Type 0) → Node → Type 0
 NamesOne named t = addrgp ≡ number_of (head_of t) → named (name_in (name_of (head_of t).sym))
 
 -- a constant is a word
-bits_small : (z : ℤ) → bits_of z < 2 ^ 32
+bits_small : (z : ℤ) → word_number z < 2 ^ 32
 bits_small (pos n) = omega arith
 bits_small (negsuc n) = omega arith
 
@@ -267,6 +271,7 @@ module _ (named : ℕ → Type 0) where
   IsWithin (part.Register r) = 64 ≤ r
   IsWithin (part.Constant n) = n < 2 ^ 32
   IsWithin (part.Name name offset) = named name
+  IsWithin (part.Label l) = named (name_in (part.Label l))
   IsWithin part.Nothing = Unit {0}
 
   abbrev pub AreWithin : List Part → Type 0
@@ -295,6 +300,7 @@ module _ (named : ℕ → Type 0) where
   added_by to (Negates h x r low e) b w n = ((AddsNegate to r b w.0, tt), b)
   added_by to (HandsOver h x r low e) b w n = ((AddsArgument r w.0, tt), tt)
   added_by to (Calls h x name offset e) b w n = ((AddsCall to name b w.0, tt), b)
+  added_by to (CallsLabel h x l e) b w n = ((AddsCall to (name_in (part.Label l)) b w.0, tt), b)
   added_by to (Returns h x r low e) b w n = ((AddsReturn r w.0, tt), tt)
 
   mutual

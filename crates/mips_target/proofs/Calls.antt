@@ -6,17 +6,12 @@ use Rattle.std.proofs.lemmas.List.Elements.{recursion_from_All}
 use Rattle.std.proofs.lemmas.Option.{same_Some}
 use Rattle.lburg_model.specs.Derivation.{MDerivation}
 use Rattle.lburg_model.specs.Pattern.{MPattern}
-use Rattle.op_forest.specs.declared.forest.Forest.{Forest}
-use Rattle.op_forest.specs.declared.op.Op.{Op}
-use Rattle.op_forest.specs.declared.op.Op.TheVariants.{Addrg}
-use Rattle.op_forest.specs.declared.suffix.Suffix.{Suffix}
-use Rattle.op_forest.specs.declared.suffix.Suffix.TheVariants.{P}
 use Rattle.op_forest.specs.declared.sym.Sym.{Sym}
 use Rattle.op_forest.specs.declared.sym.Sym.TheVariants as symbol
 use Rattle.op_forest.specs.Nodes.{Head, Node, Leaf, One, Two, head_of, number_of}
 use Rattle.op_forest.specs.EachNode.{AtEachNode}
 use Rattle.op_forest.specs.Lowered.{LoweredUnit}
-use Rattle.op_forest.specs.WellFormed.{HasKind, HasPart, IsGlobal, AreGood}
+use Rattle.forests.specs.HasRules.{IsGlobal}
 use Rattle.vcode.specs.declared.operand.Operand.{Operand}
 use Rattle.vcode.specs.Patterns.{Meeting, leaves_at}
 use Rattle.vcode.specs.RuleSets.{Row, Applies}
@@ -33,11 +28,12 @@ use Rattle.mips_rules.specs.Mips.{mips}
 use Rattle.mips_rules.specs.MipsRows.{addrgp}
 use Rattle.mips_rules.specs.MipsRules.{code_by, part_by, name_of, mips_rules}
 use Rattle.mips_rules.specs.OperatorNumbers.{is_addrgp}
-use Rattle.mips_rules.specs.AppliedRules.{Applied, applied, Discards, TakesConstant, PassesConstant, PassesRegister, LoadsConstant, TakesName, CombinesRegisters, CombinesConstant, Negates, HandsOver, Calls, Returns}
+use Rattle.mips_rules.specs.AppliedRules.{Applied, applied, Discards, TakesConstant, PassesConstant, PassesRegister, LoadsConstant, TakesName, CombinesRegisters, CombinesConstant, Negates, HandsOver, Calls, CallsLabel, Returns}
 use Rattle.mips_target.specs.Callable.{IsCallable, HasCallable}
 use Rattle.mips_target.specs.Generated.{IsSelected, temporaries}
 use Rattle.mips_target.specs.CalledNames.{CallIs, CallsAre}
 use Rattle.mips_target.proofs.Allotted.{allotted_code}
+use Rattle.mips_target.proofs.CoveredRoots.{each_both, each_root, IsCovered, AreCovered}
 use Rattle.mips_target.proofs.AddedRoots.{roots_front, roots_last}
 
 calls_append : (Q : ℕ → Type 0) (xs ys : List Instr) → CallsAre Q xs → CallsAre Q ys → CallsAre Q (xs ++ ys)
@@ -51,9 +47,10 @@ abbrev pub SymbolHas : (ℕ → Type 0) → Sym → Type 0
 SymbolHas Q (symbol.Global name offset) = Q name
 SymbolHas Q x = Unit {0}
 
--- Q holds of the name that the part hands up
+-- Q holds of the name that the part hands up, which is no label
 abbrev PartHas : (ℕ → Type 0) → Part → Type 0
 PartHas Q (part.Name name offset) = Q name
+PartHas Q (part.Label l) = ⊥
 PartHas Q p = Unit {0}
 
 abbrev PartsHave : (ℕ → Type 0) → List Part → Type 0
@@ -64,9 +61,9 @@ parts_more : (Q : ℕ → Type 0) (ps : List Part) (p : Part) → PartsHave Q ps
 parts_more Q [] p a b = (b, tt)
 parts_more Q (q ∷ ps) p a b = (a.0, parts_more Q ps p a.1 b)
 
--- a node with what its operator needs, and Q holds of its global's name
+-- a node with what its operator needs and with a rule, and Q holds of its global's name
 abbrev pub Names : (ℕ → Type 0) → Node → Type 0
-Names Q t = HasKind t × SymbolHas Q (head_of t).sym
+Names Q t = IsCovered t × SymbolHas Q (head_of t).sym
 
 -- the same at each node of the trees that nonterminals meet
 abbrev MeetingsName : (ℕ → Type 0) → List Meeting → Type 0
@@ -88,12 +85,7 @@ global_name Q (symbol.Label l) g h = absurd g
 global_name Q (symbol.Block size align) g h = absurd g
 
 taken_name : (Q : ℕ → Type 0) (h : Head) → addrgp ≡ number_of h → Names Q (Leaf h) → PartHas Q (name_of h.sym)
-taken_name Q h e k =
-    let same = is_addrgp h e in
-    let p = k.0.part in
-    let at : HasPart Addrg h.operator.suffix h.sym h.value = subst (λ (o : Op). HasPart o h.operator.suffix h.sym h.value) same.0 p in
-    let global : HasPart Addrg P h.sym h.value = subst (λ (s : Suffix). HasPart Addrg s h.sym h.value) same.1 at in
-    global_name Q h.sym global k.1
+taken_name Q h e k = global_name Q h.sym (k.0.rule.1 (is_addrgp h e).0) k.1
 
 -- the trees that the nonterminals of an applied rule meet stand at its node or below
 met_names : (Q : ℕ → Type 0) {a : Action} {left : ℕ} {pattern : MPattern} {t : Node} {ps : List Part} {ms : List Meeting} → Applied a left pattern t ps ms → AtEachNode (Names Q) t → MeetingsName Q ms
@@ -108,6 +100,7 @@ met_names Q (CombinesConstant op h a b q n low e) k = (k.1, (k.2, tt))
 met_names Q (Negates h a r low e) k = (k.1, tt)
 met_names Q (HandsOver h a r low e) k = (k.1, tt)
 met_names Q (Calls h a name offset e) k = (k.1, tt)
+met_names Q (CallsLabel h a l e) k = (k.1, tt)
 met_names Q (Returns h a r low e) k = (k.1, tt)
 
 -- a rule calls, and hands up, only names that its parts or its node have
@@ -123,6 +116,7 @@ rule_names Q to (CombinesConstant op x a b q n low e) k h = ((tt, tt), tt)
 rule_names Q to (Negates x a r low e) k h = ((tt, tt), tt)
 rule_names Q to (HandsOver x a r low e) k h = ((tt, tt), tt)
 rule_names Q to (Calls x a name offset e) k h = ((h.0, tt), tt)
+rule_names Q to (CallsLabel x a l e) k h = absurd h.0
 rule_names Q to (Returns x a r low e) k h = ((tt, tt), tt)
 
 applied_names : (Q : ℕ → Type 0) (number : ℕ) (row : Row) (t : Node) (ps : List Part) (to : ℕ) → Applies mips_rules number row t ps to → AtEachNode (Names Q) t → PartsHave Q ps → CallsAre Q (mips_rules.code number t ps to) × PartHas Q (mips_rules.part number t ps to)
@@ -226,20 +220,16 @@ allotted_calls Q ts (i ∷ is) h =
 
 -- ---- functions
 
-both_at : (F G : Node → Type 0) (t : Node) → AtEachNode F t → AtEachNode G t → AtEachNode (λ x. F x × G x) t
-both_at F G (Leaf h) a b = (a, b)
-both_at F G (One h x) a b = ((a.0, b.0), both_at F G x a.1 b.1)
-both_at F G (Two h x y) a b = ((a.0, b.0), both_at F G x a.1 b.1, both_at F G y a.2 b.2)
-
-well_formed_name : (Q : ℕ → Type 0) (f : Forest) (ts : List Node) → AreGood f ts → AllByRecursion (AtEachNode (λ t. SymbolHas Q (head_of t).sym)) ts → AllByRecursion (AtEachNode (Names Q)) ts
-well_formed_name Q f [] w h = tt
-well_formed_name Q f (t ∷ ts) w h = (both_at HasKind (λ x. SymbolHas Q (head_of x).sym) t w.0.fit.kinds h.0, well_formed_name Q f ts w.1 h.1)
+covered_name : (Q : ℕ → Type 0) (ts : List Node) → AreCovered ts → AllByRecursion (AtEachNode (λ t. SymbolHas Q (head_of t).sym)) ts → AllByRecursion (AtEachNode (Names Q)) ts
+covered_name Q ts w h =
+    let Has : Node → Type 0 = λ t. SymbolHas Q (head_of t).sym in
+    each_root (AtEachNode IsCovered) (AtEachNode Has) (AtEachNode (Names Q)) (each_both IsCovered Has (Names Q) (λ t c s. (c, s))) ts w h
 
 -- each name that the code of these roots calls is that of a global at a node of them
-pub calls_have : (Q : ℕ → Type 0) (f : Forest) (roots : List Node) (virtual : MCode Instr) → IsSelected roots virtual → AreGood f roots → All (AtEachNode (λ t. SymbolHas Q (head_of t).sym)) roots → CallsAre Q (allotted_code virtual)
-calls_have Q f roots virtual selected w h =
+pub calls_have : (Q : ℕ → Type 0) (roots : List Node) (virtual : MCode Instr) → IsSelected roots virtual → AreCovered roots → All (AtEachNode (λ t. SymbolHas Q (head_of t).sym)) roots → CallsAre Q (allotted_code virtual)
+calls_have Q roots virtual selected w h =
     let l = selected.linearised in
-    let each = well_formed_name Q f roots w (recursion_from_All (AtEachNode (λ t. SymbolHas Q (head_of t).sym)) roots h) in
+    let each = covered_name Q roots w (recursion_from_All (AtEachNode (λ t. SymbolHas Q (head_of t).sym)) roots h) in
     allotted_calls Q temporaries virtual.code (subst (CallsAre Q) (sym l.code) (roots_name Q l.emits each))
 
 callable_symbol : (u : LoweredUnit) (x : Sym) → HasCallable u x → SymbolHas (IsCallable u) x
@@ -254,5 +244,5 @@ callable_at u (One h a) k = (callable_symbol u h.sym k.0, callable_at u a k.1)
 callable_at u (Two h a b) k = (callable_symbol u h.sym k.0, callable_at u a k.1, callable_at u b k.2)
 
 -- where each global at a node can be called, so can each name that the code calls
-pub calls_callable : (u : LoweredUnit) (f : Forest) (roots : List Node) (virtual : MCode Instr) → IsSelected roots virtual → AreGood f roots → All (AtEachNode (λ t. HasCallable u (head_of t).sym)) roots → CallsAre (IsCallable u) (allotted_code virtual)
-calls_callable u f roots virtual selected w h = calls_have (IsCallable u) f roots virtual selected w (λ k d below. callable_at u _ (h k d below))
+pub calls_callable : (u : LoweredUnit) (roots : List Node) (virtual : MCode Instr) → IsSelected roots virtual → AreCovered roots → All (AtEachNode (λ t. HasCallable u (head_of t).sym)) roots → CallsAre (IsCallable u) (allotted_code virtual)
+calls_callable u roots virtual selected w h = calls_have (IsCallable u) roots virtual selected w (λ k d below. callable_at u _ (h k d below))

@@ -1,10 +1,8 @@
 -- The instructions of a function's roots, from their allocated code.
 use Rattle.std.proofs.Common.{◌≡◌, ℕ, ◌+◌, ◌*◌, ◌≤◌, List, length, sum_by, All, sym, ap, ◌∙◌, subst, arith}
 use Rattle.asm_text.specs.Program.{MInstruction}
-use Rattle.op_forest.specs.declared.forest.Forest.{Forest}
 use Rattle.op_forest.specs.Nodes.{Node, nodes, head_of}
 use Rattle.op_forest.specs.EachNode.{AtEachNode}
-use Rattle.op_forest.specs.WellFormed.{AreGood}
 use Rattle.op_forest.specs.Lowered.{LoweredUnit, IsKnown, IsUnitName}
 use Rattle.vcode.specs.VirtualCode.{MAllocated}
 use Rattle.mips_rules.specs.declared.instr.Instr.{Instr}
@@ -21,6 +19,7 @@ use Rattle.mips_target.specs.Emits.{Emits}
 use Rattle.mips_target.specs.Allocated.{IsAllocated}
 use Rattle.mips_target.specs.Generated.{temporaries, frame_bound, IsCodeOf}
 use Rattle.mips_target.proofs.Allotted.{allotted_code, layout_of}
+use Rattle.mips_target.proofs.CoveredRoots.{AreCovered}
 use Rattle.mips_target.proofs.Calls.{calls_callable}
 use Rattle.mips_target.proofs.Emission.{allotted_length, words_few as frame_words, code_fits, code_names_among}
 use Rattle.mips_target.proofs.EmittedLines.{code_emits}
@@ -31,7 +30,7 @@ use Rattle.mips_target.proofs.Unmarked.{function_lines}
 abbrev pub layout_for : MAllocated Instr → Layout
 layout_for c = record { arguments = argument_words c.code; slots = c.slots }
 
-module _ (f : Forest) (roots : List Node) (c : MAllocated Instr) (a : IsAllocated roots c) where
+module _ (roots : List Node) (c : MAllocated Instr) (a : IsAllocated roots c) where
   same_layout : layout_of a.virtual ≡ layout_for c
   same_layout = (λ i. record { arguments = argument_words (sym a.code i); slots = sym a.slots i })
 
@@ -45,12 +44,12 @@ module _ (f : Forest) (roots : List Node) (c : MAllocated Instr) (a : IsAllocate
       let h = a.slots in
       omega (arith, e, g, h)
 
-  pub fits : (u : LoweredUnit) → AreGood f roots → All (AtEachNode (λ t. IsKnown u roots (head_of t).sym)) roots → Fits u.names (layout_for c) 0 c.code
+  pub fits : (u : LoweredUnit) → AreCovered roots → All (AtEachNode (λ t. IsKnown u roots (head_of t).sym)) roots → Fits u.names (layout_for c) 0 c.code
   fits u w k =
-      subst (Fits u.names (layout_for c) 0) (sym a.code) (subst (λ l. Fits u.names l 0 (allotted_code a.virtual)) same_layout (code_fits roots a.selected.derivations a.virtual a.selected.linearised u f w k))
+      subst (Fits u.names (layout_for c) 0) (sym a.code) (subst (λ l. Fits u.names l 0 (allotted_code a.virtual)) same_layout (code_fits roots a.selected.derivations a.virtual a.selected.linearised u w k))
 
   -- the items are those of a function of the roots
-  pub is_code : (u : LoweredUnit) (labels : ℕ → List ℕ) → AreGood f roots → All IsUnitName u.names → All (AtEachNode (λ t. IsKnown u roots (head_of t).sym)) roots → (items : List (CodeItem MInstruction)) → items ≡ function_code u.names (layout_for c) c.code → IsCodeOf u labels roots items
+  pub is_code : (u : LoweredUnit) (labels : ℕ → List ℕ) → AreCovered roots → All IsUnitName u.names → All (AtEachNode (λ t. IsKnown u roots (head_of t).sym)) roots → (items : List (CodeItem MInstruction)) → items ≡ function_code u.names (layout_for c) c.code → IsCodeOf u labels roots items
   is_code u labels w n k items made =
       let v = a.virtual in
       let s = a.selected in
@@ -68,8 +67,8 @@ module _ (f : Forest) (roots : List Node) (c : MAllocated Instr) (a : IsAllocate
         registers = subst (NamesAmong mips temporaries) (sym a.code) (code_names_among roots s.derivations v s.linearised);
         fits = fits u w k;
         made = made;
-        calls = λ callable. subst (CallsAre (IsCallable u)) (sym a.code) (calls_callable u f roots v s w callable);
-        emits = subst (λ l. Emits u.names labels (frame_size l) s.derivations roots items) same_layout (subst (Emits u.names labels (frame_size (layout_of v)) s.derivations roots) (sym is) (code_emits u f roots s.derivations v s.linearised labels s.description s.shipped s.best w k n));
+        calls = λ callable. subst (CallsAre (IsCallable u)) (sym a.code) (calls_callable u roots v s w callable);
+        emits = subst (λ l. Emits u.names labels (frame_size l) s.derivations roots items) same_layout (subst (Emits u.names labels (frame_size (layout_of v)) s.derivations roots) (sym is) (code_emits u roots s.derivations v s.linearised labels s.description s.shipped s.best w k n));
         frame = subst (λ l. frame_size l ≤ frame_bound (sum_by nodes roots)) same_layout (frame_small (layout_of v) (sum_by nodes roots) (frame_words roots s.derivations v s.linearised));
         short = omega (arith, short, e);
       }

@@ -3,14 +3,14 @@ use Rattle.std.proofs.Common.{◌≡◌, ℕ, ◌+◌, ◌*◌, ◌≤◌, ◌<�
 use Rattle.std.specs.List.{AllByRecursion, sum_by}
 use Rattle.std.proofs.lemmas.List.Elements.{recursion_from_All}
 use Rattle.lburg_model.specs.Derivation.{MDerivation}
-use Rattle.op_forest.specs.declared.forest.Forest.{Forest}
 use Rattle.op_forest.specs.declared.op.Op.TheVariants as op
 use Rattle.op_forest.specs.declared.suffix.Suffix.TheVariants as suffix
 use Rattle.op_forest.specs.declared.sym.Sym.{Sym}
 use Rattle.op_forest.specs.declared.sym.Sym.TheVariants as symbol
 use Rattle.op_forest.specs.Nodes.{Node, Leaf, One, Two, head_of, nodes, value_nodes}
 use Rattle.op_forest.specs.EachNode.{AtEachNode}
-use Rattle.op_forest.specs.WellFormed.{op_of, suffix_of, IsGlobal, HasPart, HasKind, HasKinds, AreGood}
+use Rattle.forests.specs.WellFormed.{op_of, suffix_of}
+use Rattle.forests.specs.HasRules.{IsGlobal}
 use Rattle.op_forest.specs.Lowered.{LoweredUnit, IsKnown}
 use Rattle.vcode.specs.VirtualCode.{MCode, joined}
 use Rattle.vcode.specs.Emission.{IsLinearised}
@@ -24,24 +24,12 @@ use Rattle.mips_target.specs.FunctionCode.{most_handed, argument_words}
 use Rattle.mips_target.specs.Registers.{NamesAmong}
 use Rattle.mips_target.specs.Sizes.{Fits}
 use Rattle.mips_target.specs.Generated.{temporaries}
+use Rattle.mips_target.proofs.CoveredRoots.{each_both, each_root, IsCovered, AreCovered}
 use Rattle.mips_target.proofs.Added.{AreAdded, handed_over, other_nodes, either_in, NamesOne}
 use Rattle.mips_target.proofs.AddedRoots.{roots_take, roots_added}
 use Rattle.mips_target.proofs.Allotted.{put_all, allotted_code, layout_of, allotted_is, names_kept, names_among, slots_few, put_long, hands_few, fits}
 
--- ---- what holds at each node
-
-pub each_both : (P Q R : Node → Type 0) → ((t : Node) → P t → Q t → R t) → (t : Node) → AtEachNode P t → AtEachNode Q t → AtEachNode R t
-each_both P Q R go (Leaf h) p q = go (Leaf h) p q
-each_both P Q R go (One h a) p q = (go (One h a) p.0 q.0, each_both P Q R go a p.1 q.1)
-each_both P Q R go (Two h a b) p q = (go (Two h a b) p.0 q.0, each_both P Q R go a p.1 q.1, each_both P Q R go b p.2 q.2)
-
-pub each_root : (P Q R : Node → Type 0) → ((t : Node) → P t → Q t → R t) → (ts : List Node) → AllByRecursion P ts → AllByRecursion Q ts → AllByRecursion R ts
-each_root P Q R go [] p q = tt
-each_root P Q R go (t ∷ ts) p q = (go t p.0 q.0, each_root P Q R go ts p.1 q.1)
-
-pub kinds_of : (f : Forest) (ts : List Node) → AreGood f ts → AllByRecursion HasKinds ts
-kinds_of f [] h = tt
-kinds_of f (t ∷ ts) h = (h.0.fit.kinds, kinds_of f ts h.1)
+-- ---- names
 
 -- each number is a name's
 abbrev pub AnyName : ℕ → Type 0
@@ -63,20 +51,19 @@ known_name u roots (symbol.Label l) g k = absurd g
 known_name u roots (symbol.Block size align) g k = absurd g
 
 -- an address is that of a name
-pub is_global : (t : Node) → HasKind t → (op_of t ≡ op.Addrg) × (suffix_of t ≡ suffix.P) → IsGlobal (head_of t).sym
-is_global t h e =
-    subst (λ s. HasPart op.Addrg s (head_of t).sym (head_of t).value) e.1 (subst (λ o. HasPart o (suffix_of t) (head_of t).sym (head_of t).value) e.0 h.part)
+pub is_global : (t : Node) → IsCovered t → (op_of t ≡ op.Addrg) × (suffix_of t ≡ suffix.P) → IsGlobal (head_of t).sym
+is_global t h e = h.rule.1 e.0
 
 abbrev pub IsIn : LoweredUnit → ℕ → Type 0
 IsIn u name = name < length u.names
 
-names_known : (u : LoweredUnit) (roots : List Node) (t : Node) → HasKind t → IsKnown u roots (head_of t).sym → NamesOne (IsIn u) t
+names_known : (u : LoweredUnit) (roots : List Node) (t : Node) → IsCovered t → IsKnown u roots (head_of t).sym → NamesOne (IsIn u) t
 names_known u roots t h k e = known_name u roots (head_of t).sym (is_global t h (is_addrgp (head_of t) e)) k
 
-pub roots_known : (u : LoweredUnit) (f : Forest) (roots ts : List Node) → AreGood f ts → All (AtEachNode (λ t. IsKnown u roots (head_of t).sym)) ts → AllByRecursion (AtEachNode (NamesOne (IsIn u))) ts
-roots_known u f roots ts w k =
+pub roots_known : (u : LoweredUnit) (roots ts : List Node) → AreCovered ts → All (AtEachNode (λ t. IsKnown u roots (head_of t).sym)) ts → AllByRecursion (AtEachNode (NamesOne (IsIn u))) ts
+roots_known u roots ts w k =
     let Known : Node → Type 0 = λ t. IsKnown u roots (head_of t).sym in
-    each_root HasKinds (AtEachNode Known) (AtEachNode (NamesOne (IsIn u))) (each_both HasKind Known (NamesOne (IsIn u)) (names_known u roots)) ts (kinds_of f ts w) (recursion_from_All (AtEachNode Known) ts k)
+    each_root (AtEachNode IsCovered) (AtEachNode Known) (AtEachNode (NamesOne (IsIn u))) (each_both IsCovered Known (NamesOne (IsIn u)) (names_known u roots)) ts w (recursion_from_All (AtEachNode Known) ts k)
 
 -- ---- of linearised code
 
@@ -129,11 +116,11 @@ module _ (roots : List Node) (derivations : List MDerivation) (c : MCode Instr) 
       omega (arith, a, b, e)
 
   -- where its names are those of a unit, its code fits the frame that is laid out for it
-  pub code_named : (u : LoweredUnit) (f : Forest) → AreGood f roots → All (AtEachNode (λ t. IsKnown u roots (head_of t).sym)) roots → AreAdded (IsIn u) c.code
-  code_named u f w k = subst (AreAdded (IsIn u)) (sym h.code) (roots_added (IsIn u) h.emits (roots_known u f roots roots w k))
+  pub code_named : (u : LoweredUnit) → AreCovered roots → All (AtEachNode (λ t. IsKnown u roots (head_of t).sym)) roots → AreAdded (IsIn u) c.code
+  code_named u w k = subst (AreAdded (IsIn u)) (sym h.code) (roots_added (IsIn u) h.emits (roots_known u roots roots w k))
 
-  pub code_fits : (u : LoweredUnit) (f : Forest) → AreGood f roots → All (AtEachNode (λ t. IsKnown u roots (head_of t).sym)) roots → Fits u.names (layout_of c) 0 (allotted_code c)
-  code_fits u f w k =
+  pub code_fits : (u : LoweredUnit) → AreCovered roots → All (AtEachNode (λ t. IsKnown u roots (head_of t).sym)) roots → Fits u.names (layout_of c) 0 (allotted_code c)
+  code_fits u w k =
       let d : most_handed 0 (allotted_code c) ≡ most_handed 0 (put_all c.code) = ap (most_handed 0) allotted_put in
       let m : most_handed 0 (put_all c.code) ≤ (layout_of c).arguments = omega (arith, d) in
-      subst (Fits u.names (layout_of c) 0) (sym allotted_put) (fits u.names (layout_of c) c.code (code_named u f w k) (omega arith) 0 m)
+      subst (Fits u.names (layout_of c) 0) (sym allotted_put) (fits u.names (layout_of c) c.code (code_named u w k) (omega arith) 0 m)

@@ -7,6 +7,7 @@ pub mod Collecting
 pub mod Added
 pub mod AddedRoots
 pub mod Allotted
+pub mod CoveredRoots
 pub mod Emission
 pub mod Selection
 pub mod Speaking

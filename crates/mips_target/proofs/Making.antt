@@ -19,7 +19,7 @@ use Rattle.asm_text.specs.Makes.{Makes}
 use Rattle.asm_text.specs.Names.{names_of}
 use Rattle.asm_text.specs.Program.{MInstruction, MLabel, MProgram, place_of, AreDistinct as HaveDistinctNames}
 use Rattle.op_forest.specs.declared.lowered.LoweredFunction.{LoweredFunction}
-use Rattle.op_forest.specs.Functions.{BuiltIn, Putchar, Getchar, Exit}
+use Rattle.op_forest.specs.Callees.{BuiltIn, Putchar, Getchar, Exit}
 use Rattle.op_forest.specs.Nodes.{head_of}
 use Rattle.op_forest.specs.Units.{named_by}
 use Rattle.op_forest.specs.EachNode.{AtEachNode}

@@ -24,7 +24,7 @@ use Rattle.asm_lines.specs.Written.{AreSymbols, Fits, spaced, written, starts_sy
 use Rattle.asm_text.specs.Lines.{IsLine}
 use Rattle.asm_text.specs.Program.{MInstruction}
 use Rattle.op_forest.specs.Lowered.{IsUnitName, is_symbol}
-use Rattle.op_forest.specs.Rows.{bits_of}
+use Rattle.forests.specs.Words.{number_of as word_number}
 use Rattle.vcode.specs.Templates.{signed_decimal}
 use Rattle.mips_rules.specs.declared.arithmetic.Arithmetic.{Arithmetic}
 use Rattle.mips_rules.specs.declared.arithmetic.Arithmetic.TheVariants as arithmetic
@@ -103,7 +103,7 @@ small_bits n h = omega (arith, h)
 negative_bits : (n : ℕ) → n < 2 ^ 31 → 2 ^ 32 - 1 - n % 2 ^ 32 ≡ (2 ^ 32 - (n + 1)) % 2 ^ 32
 negative_bits n h = omega (arith, h)
 
-is_number : (z : ℤ) → FitsSigned w32 z → IsNumber (spaced false (number_tokens z)) (bits_of z) []
+is_number : (z : ℤ) → FitsSigned w32 z → IsNumber (spaced false (number_tokens z)) (word_number z) []
 is_number (pos n) h =
     let lt : n < 2 ^ 31 = omega (arith, h) in
     let e : value_of (decimal n) ≡ n = value_decimal n (omega (arith, lt)) in
@@ -152,9 +152,9 @@ binary_name arithmetic.Add = (refl, (refl, (refl, (refl, (refl, tt)))))
 binary_name arithmetic.Subtract = (refl, (refl, (refl, (refl, (refl, tt)))))
 binary_name arithmetic.Multiply = (refl, (refl, (refl, (refl, tt))))
 
-pub number_said : (z : ℤ) → FitsSigned w32 z → SaysAlone (codes "li $" ++ (decimal 8 ++ (44 ∷ (signed_decimal z ++ 10 ∷ [])))) (machine.LoadNumber 8 (bits_of z))
+pub number_said : (z : ℤ) → FitsSigned w32 z → SaysAlone (codes "li $" ++ (decimal 8 ++ (44 ∷ (signed_decimal z ++ 10 ∷ [])))) (machine.LoadNumber 8 (word_number z))
 number_said z h =
-    said (codes "li") (register_token 8) (Comma ∷ number_tokens z) (machine.LoadNumber 8 (bits_of z)) (codes "li $" ++ (decimal 8 ++ (44 ∷ (signed_decimal z ++ 10 ∷ []))))
+    said (codes "li") (register_token 8) (Comma ∷ number_tokens z) (machine.LoadNumber 8 (word_number z)) (codes "li $" ++ (decimal 8 ++ (44 ∷ (signed_decimal z ++ 10 ∷ []))))
     (refl, (refl, (refl, tt)))
     (comma_fits 8 (number_tokens z) (omega arith) (number_fits z h))
     refl
@@ -170,9 +170,9 @@ registers_said op =
     (spaced false (register_token 9 ∷ Comma ∷ register_token 10 ∷ []), spaced false (register_token 10 ∷ []), (_, (is_register 8 (omega arith), refl), (refl, refl)), (_, (is_register 9 (omega arith), refl), (refl, refl)), (is_register 10 (omega arith), refl))
     refl
 
-pub with_number_said : (op : Arithmetic) (z : ℤ) → FitsSigned w32 z → SaysAlone (binary_text op ++ (codes " $" ++ (decimal 8 ++ (codes ",$" ++ (decimal 9 ++ (44 ∷ (signed_decimal z ++ 10 ∷ []))))))) (machine.Binary (binary_of op) 8 9 (operand.Number (bits_of z)))
+pub with_number_said : (op : Arithmetic) (z : ℤ) → FitsSigned w32 z → SaysAlone (binary_text op ++ (codes " $" ++ (decimal 8 ++ (codes ",$" ++ (decimal 9 ++ (44 ∷ (signed_decimal z ++ 10 ∷ []))))))) (machine.Binary (binary_of op) 8 9 (operand.Number (word_number z)))
 with_number_said op z h =
-    said (binary_text op) (register_token 8) (Comma ∷ register_token 9 ∷ Comma ∷ number_tokens z) (machine.Binary (binary_of op) 8 9 (operand.Number (bits_of z))) (binary_text op ++ (codes " $" ++ (decimal 8 ++ (codes ",$" ++ (decimal 9 ++ (44 ∷ (signed_decimal z ++ 10 ∷ [])))))))
+    said (binary_text op) (register_token 8) (Comma ∷ register_token 9 ∷ Comma ∷ number_tokens z) (machine.Binary (binary_of op) 8 9 (operand.Number (word_number z))) (binary_text op ++ (codes " $" ++ (decimal 8 ++ (codes ",$" ++ (decimal 9 ++ (44 ∷ (signed_decimal z ++ 10 ∷ [])))))))
     (binary_name op)
     (comma_fits 8 (register_token 9 ∷ Comma ∷ number_tokens z) (omega arith) (comma_fits 9 (number_tokens z) (omega arith) (number_fits z h)))
     refl

@@ -8,7 +8,8 @@ use Rattle.lburg_model.specs.Best.{HasNone}
 use Rattle.reducer.specs.AreBest.{AreBest}
 use Rattle.op_forest.specs.declared.forest.Forest.{Forest}
 use Rattle.op_forest.specs.Nodes.{Node, Leaf, One, Two, nodes, tree_of}
-use Rattle.op_forest.specs.WellFormed.{IsWellFormed}
+use Rattle.forests.specs.WellFormed.{IsWellFormed}
+use Rattle.forests.specs.HasRules.{HasRules}
 use Rattle.vcode.specs.Roots.{AreDerived}
 use Rattle.vcode.specs.VirtualCode.{MCode, MAllocated}
 use Rattle.vcode.specs.Emission.{IsLinearised}
@@ -33,9 +34,9 @@ each_small n [] few k d lt = absurd (omega (arith, lt))
 each_small n (t ∷ ts) few zero d lt = let e = sum_by-cons nodes t ts in let f = same_nodes t in omega (arith, few, e, f)
 each_small n (t ∷ ts) few (suc k) d lt = let e = sum_by-cons nodes t ts in each_small n ts (omega (arith, few, e)) k d (omega (arith, lt))
 
-pub covered : (d d' : MDescription) (f : Forest) (rs : List Node) → CoversRoots d → IsWellFormed f → rs ≡ f.roots → d' ≡ d → All (λ t. HasNone d' (tree_of t) → ⊥) rs
-covered d d' f rs covers w e g =
-    subst (λ xs. All (λ t. HasNone d' (tree_of t) → ⊥) xs) (sym e) (subst (λ x. All (λ t. HasNone x (tree_of t) → ⊥) f.roots) (sym g) (covers f w))
+pub covered : (d d' : MDescription) (f : Forest) (rs : List Node) → CoversRoots d → IsWellFormed f → HasRules f.roots → rs ≡ f.roots → d' ≡ d → All (λ t. HasNone d' (tree_of t) → ⊥) rs
+covered d d' f rs covers w r e g =
+    subst (λ xs. All (λ t. HasNone d' (tree_of t) → ⊥) xs) (sym e) (subst (λ x. All (λ t. HasNone x (tree_of t) → ⊥) f.roots) (sym g) (covers f w r))
 
 -- the best derivations derive the start symbol
 derived : (d : MDescription) (roots : List Node) (xs : List MDerivation) → AreBest d (map tree_of roots) xs → AreDerived d roots xs

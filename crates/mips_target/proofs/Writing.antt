@@ -20,7 +20,7 @@ use Rattle.op_forest.specs.declared.sym.Sym.TheVariants as symbol
 use Rattle.op_forest.specs.Nodes.{Node, head_of, number_of, tree_of}
 use Rattle.op_forest.specs.EachNode.{AtEachNode}
 use Rattle.op_forest.specs.Lowered.{IsUnitName}
-use Rattle.op_forest.specs.Rows.{bits_of}
+use Rattle.forests.specs.Words.{number_of as word_number}
 use Rattle.vcode.specs.Patterns.{Meeting, leaves_at, is_chain}
 use Rattle.vcode.specs.RuleSets.{Row, row_of}
 use Rattle.vcode.specs.Templates.{fillings, expanded, is_instruction, signed_decimal, symbol_text, RowIs, Writes, APart, ALine, WritesAll, NoText, OneText, WritesRoots, NoLine, OneLine}
@@ -34,8 +34,8 @@ use Rattle.mips_rules.specs.declared.instr.Source.TheVariants as source
 use Rattle.mips_rules.specs.declared.part.Part.{Part}
 use Rattle.mips_rules.specs.declared.part.Part.TheVariants as part
 use Rattle.mips_rules.specs.MipsRows.{rows, stmt, con, rc, reg, addr, cnsti, addrgp}
-use Rattle.mips_rules.specs.MipsRules.{action_at, code_by, part_by, name_of, constant_of, mips_rules}
-use Rattle.mips_rules.specs.AppliedRules.{Applied, applied, Discards, TakesConstant, PassesConstant, PassesRegister, LoadsConstant, TakesName, CombinesRegisters, CombinesConstant, Negates, HandsOver, Calls, Returns}
+use Rattle.mips_rules.specs.MipsRules.{action_at, code_by, part_by, name_of, name_in, constant_of, mips_rules}
+use Rattle.mips_rules.specs.AppliedRules.{Applied, applied, Discards, TakesConstant, PassesConstant, PassesRegister, LoadsConstant, TakesName, CombinesRegisters, CombinesConstant, Negates, HandsOver, Calls, CallsLabel, Returns}
 use Rattle.vcode.specs.Leaves.{turned}
 use Rattle.mips_target.specs.FunctionCode.{binary_of}
 use Rattle.mips_target.proofs.Added.{EachMet, each_front, each_last, at_root, at_met, applied_at}
@@ -69,8 +69,9 @@ module _ (names : List (List ℕ)) where
   -- the text that a nonterminal hands up for a part, where its register is this operand
   abbrev pub IsText : ℕ → Part → ℕ → List ℕ → Type 0
   IsText k (part.Register r) o text = text ≡ (if k == rc then 36 ∷ decimal o else decimal o)
-  IsText k (part.Constant n) o text = (z : ℤ) × FitsSigned w32 z × (n ≡ bits_of z) × (text ≡ signed_decimal z)
+  IsText k (part.Constant n) o text = (z : ℤ) × FitsSigned w32 z × (n ≡ word_number z) × (text ≡ signed_decimal z)
   IsText k (part.Name name offset) o text = (name < length names) × (text ≡ get_or names name [])
+  IsText k (part.Label l) o text = ⊥
   IsText k part.Nothing o text = Unit {0}
 
   -- the texts of a rule's parts: the register of the first is this operand, and that of the next is $10
@@ -189,7 +190,7 @@ module _ (names : List (List ℕ)) where
     Chosen true first o = first ≡ o
     Chosen false first o = first ≡ 9
 
-    load_said : (n : ℕ) (x : List ℕ) → (z : ℤ) × FitsSigned w32 z × (n ≡ bits_of z) × (x ≡ signed_decimal z) → SaysAlone (codes "li $" ++ (decimal 8 ++ (44 ∷ (x ++ 10 ∷ [])))) (machine.LoadNumber 8 n)
+    load_said : (n : ℕ) (x : List ℕ) → (z : ℤ) × FitsSigned w32 z × (n ≡ word_number z) × (x ≡ signed_decimal z) → SaysAlone (codes "li $" ++ (decimal 8 ++ (44 ∷ (x ++ 10 ∷ [])))) (machine.LoadNumber 8 n)
     load_said n x h =
         subst (λ y. SaysAlone (codes "li $" ++ (decimal 8 ++ (44 ∷ (y ++ 10 ∷ [])))) (machine.LoadNumber 8 n)) (sym h.3)
         (subst (λ m. SaysAlone (codes "li $" ++ (decimal 8 ++ (44 ∷ (signed_decimal h.0 ++ 10 ∷ [])))) (machine.LoadNumber 8 m)) (sym h.2) (number_said h.0 h.1))
@@ -201,7 +202,7 @@ module _ (names : List (List ℕ)) where
     combine_said op x y e f =
         subst (λ a. SaysAlone (operation_line op a y) (machine.Binary (binary_of op) 8 9 (operand.Register 10))) (sym e) (subst (λ b. SaysAlone (operation_line op (decimal 9) b) (machine.Binary (binary_of op) 8 9 (operand.Register 10))) (sym f) (registers_said op))
 
-    combine_number_said : (op : Arithmetic) (n : ℕ) (x y : List ℕ) → x ≡ decimal 9 → (z : ℤ) × FitsSigned w32 z × (n ≡ bits_of z) × (y ≡ signed_decimal z) → SaysAlone (operation_line op x y) (machine.Binary (binary_of op) 8 9 (operand.Number n))
+    combine_number_said : (op : Arithmetic) (n : ℕ) (x y : List ℕ) → x ≡ decimal 9 → (z : ℤ) × FitsSigned w32 z × (n ≡ word_number z) × (y ≡ signed_decimal z) → SaysAlone (operation_line op x y) (machine.Binary (binary_of op) 8 9 (operand.Number n))
     combine_number_said op n x y e h =
         subst (λ a. SaysAlone (operation_line op a y) (machine.Binary (binary_of op) 8 9 (operand.Number n))) (sym e)
         (subst (λ b. SaysAlone (operation_line op (decimal 9) b) (machine.Binary (binary_of op) 8 9 (operand.Number n))) (sym h.3)
@@ -254,6 +255,8 @@ module _ (names : List (List ℕ)) where
           one_text (λ ys. WritesAll rows names labels frame xs ((addr, a) ∷ []) ys w.lines → Written reg _ (Apply number (parts_of xs)) (part.Register to) (code ++ instr.Call to name ∷ []) o) first (addr, a) (part.Name name offset) w.texts w.are
           (λ x k wr. as_line number row _ xs _ w.lines code row_is fits w.say (codes "jal %0\\n") reg (part.Register to) o (x ∷ []) (instr.Call to name) (machine.Call (target.Label (get_or names name []))) e wr refl lt refl refl (called_said name x units k.0 k.1))
           w.writes
+      step to number row xs code first o (CallsLabel h' a l e') row_is fits e h c lt w =
+          one_text (λ ys. Written reg _ (Apply number (parts_of xs)) (part.Register to) (code ++ instr.Call to (name_in (part.Label l)) ∷ []) o) first (addr, a) (part.Label l) w.texts w.are (λ x k. absurd k)
       step to number row xs code first o (Returns h' a r low e') row_is fits e h c lt w =
           as_part number row _ xs _ w.lines code row_is fits w.say (codes "") stmt part.Nothing o w.texts (instr.Return r ∷ []) e w.writes refl tt refl
 

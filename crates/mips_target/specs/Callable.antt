@@ -3,7 +3,7 @@
 use Rattle.std.specs.Prelude.{◌≡◌, ◌⊎◌, ℕ, Some, All, Any}
 use Rattle.op_forest.specs.declared.sym.Sym.{Sym}
 use Rattle.op_forest.specs.declared.sym.Sym.TheVariants as sym
-use Rattle.op_forest.specs.Functions.{BuiltIn}
+use Rattle.op_forest.specs.Callees.{BuiltIn}
 use Rattle.op_forest.specs.Nodes.{head_of}
 use Rattle.op_forest.specs.EachNode.{AtEachNode}
 use Rattle.op_forest.specs.Lowered.{LoweredUnit}

@@ -1,7 +1,8 @@
 //! A lowered unit as lines of assembly.
 ghost use Rattle.std.specs.Prelude.{◌≡◌, ℕ, ◌≤◌, ◌<◌, ◌^◌, ◌+◌, ◌++◌, length, sum_by, All, get_or, IfOk, OnOk};
 ghost use Rattle.op_forest.specs.Nodes.{nodes};
-ghost use Rattle.op_forest.specs.WellFormed.{IsWellFormed};
+ghost use Rattle.forests.specs.WellFormed.{IsWellFormed};
+ghost use Rattle.forests.specs.HasRules.{HasRules};
 ghost use Rattle.mips_rules.specs.Shipped.{IsShipped, CoversRoots};
 ghost use Rattle.op_forest.specs.Lowered.{IsUnitName, IsFunctionOf};
 ghost use Rattle.asm_text.specs.Makes.{Makes};
@@ -17,9 +18,10 @@ use crate::function_code::{argument_words, push_function_code};
 use crate::layout::Layout;
 use crate::unit_lines::{push_name, push_plain};
 use asm_text::{Lines, Statement};
+use forests::{WellFormed, check_forest};
 use lcc_base::Memory;
 use mips_rules::{Mips, MipsRules, rules};
-use op_forest::{Forest, Lowered, LoweredFunction, WellFormed, check_forest};
+use op_forest::{Forest, Lowered, LoweredFunction};
 use reducer::best_derivations;
 use slot_allocator::give_slots;
 use std::alloc::Global;
@@ -44,6 +46,7 @@ fn well_formed(alloc: Global, forest: &Forest) -> Result<WellFormed, Memory>
 fn linearised(alloc: Global, rules: &MipsRules, forest: WellFormed) -> Result<VCode<Mips>, Memory>
     requires shipped { IsShipped rules.now }
     requires covers { CoversRoots rules.now }
+    requires ruled { HasRules forest.roots }
     requires size { sum_by nodes forest.roots ≤ 2 ^ 24 }
     ensures { IfOk result (λ c. IsSelected forest.roots c) }
 {
@@ -56,6 +59,7 @@ fn linearised(alloc: Global, rules: &MipsRules, forest: WellFormed) -> Result<VC
 fn allocated(alloc: Global, rules: &MipsRules, forest: WellFormed) -> Result<Code<Mips>, Memory>
     requires shipped { IsShipped rules.now }
     requires covers { CoversRoots rules.now }
+    requires ruled { HasRules forest.roots }
     requires size { sum_by nodes forest.roots ≤ 2 ^ 24 }
     ensures { IfOk result (λ c. IsAllocated forest.roots c) }
 {
@@ -76,6 +80,7 @@ fn push_function(
     requires names { All IsUnitName lowered.now.names }
     requires function { IsFunctionOf lowered.now function.now }
     requires well_formed { IsWellFormed function.now.forest }
+    requires ruled { HasRules function.now.forest.roots }
     requires size { sum_by nodes function.now.forest.roots ≤ 2 ^ 24 }
     ensures { OnOk result (AddsFunction lowered.now function.now lines.old lines.new) }
 {
@@ -95,6 +100,7 @@ fn push_function(
 /// Source: Fraser and Hanson, A Retargetable C Compiler, chapters 13 to 16.
 pub fn generate(alloc: Global, lowered: &Lowered) -> Result<Lines, Memory>
     requires well_formed { All (λ f. IsWellFormed f.forest) lowered.now.functions }
+    requires ruled { All (λ f. HasRules f.forest.roots) lowered.now.functions }
     requires size { All (λ f. sum_by nodes f.forest.roots ≤ 2 ^ 24) lowered.now.functions }
     ensures value { IfOk result (λ lines. IsGenerated lowered.now lines) }
     ensures printable { IfOk result (λ lines. ArePrintable lines) }

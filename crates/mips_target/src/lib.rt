@@ -4,10 +4,12 @@
 mod function_code;
 mod generating;
 mod layout;
+mod ruled;
 mod unit_lines;
 
 pub use generating::generate;
 pub use layout::Layout;
+pub use ruled::has_rules;
 
 #[cfg(test)]
 mod tests;

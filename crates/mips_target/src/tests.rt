@@ -1,17 +1,16 @@
 ghost use Rattle.std.specs.Prelude.{◌≡◌, ◌≤◌, ◌+◌, ◌^◌, ◌++◌, ◌∷◌, [], All, sum_by, length, IfOk};
 ghost use Rattle.op_forest.specs.Nodes.{nodes};
-ghost use Rattle.op_forest.specs.WellFormed.{IsWellFormed};
+ghost use Rattle.forests.specs.WellFormed.{IsWellFormed};
+ghost use Rattle.forests.specs.HasRules.{HasRules};
 ghost use Rattle.mips_target.specs.NamedBelow.{IsNamedBelow};
 
 use super::*;
 use Part::{Number, Putchar};
 use asm_text::print;
+use forests::{ForestFault, WellFormed, check_forest};
 use lcc_base::{Bytes, Items, Order};
 use mips_rules::{Arithmetic, Instr, Mips, Source, rules};
-use op_forest::{
-    Forest, ForestFault, Frame, Lowered, LoweredFunction, Op, Operator, Suffix, Sym, Tree,
-    WellFormed, check_forest,
-};
+use op_forest::{Forest, Frame, Lowered, LoweredFunction, Op, Operator, Suffix, Sym, Tree};
 use reducer::best_derivations;
 use slot_allocator::give_slots;
 use std::alloc::Global;
@@ -101,15 +100,19 @@ fn trees(alloc: Global, parts: &[Part]) -> Result<Vec<Tree>, Fail>
     Ok(trees)
 }
 
-/// The trees of these parts as a forest, which is found to be well formed.
+/// The trees of these parts as a forest, which is found to be well formed and to have rules.
 fn forest(alloc: Global, parts: &[Part]) -> Result<WellFormed, Fail>
     ensures known { IfOk result (λ f. All (IsNamedBelow 2) f.roots) }
+    ensures ruled { IfOk result (λ f. HasRules f.roots) }
     ensures small { IfOk result (λ f. sum_by nodes f.roots ≤ 100) }
 {
     if parts.len() > 100 {
         return Err(Fail::from("too many parts"));
     }
     let roots = Items::from_vec(trees(alloc, parts)?);
+    if !has_rules(roots.as_slice()) {
+        return Err(Fail::from("an operator without a rule"));
+    }
     let frame = Frame::new(alloc);
     match check_forest(alloc, &Forest { roots, frame }) {
         Ok(well_formed) => Ok(well_formed),
@@ -121,6 +124,7 @@ fn forest(alloc: Global, parts: &[Part]) -> Result<WellFormed, Fail>
 /// The unit with main alone, which has these roots.
 fn unit(alloc: Global, parts: &[Part]) -> Result<Lowered, Fail>
     ensures well_formed { IfOk result (λ u. All (λ f. IsWellFormed f.forest) u.functions) }
+    ensures ruled { IfOk result (λ u. All (λ f. HasRules f.forest.roots) u.functions) }
     ensures small { IfOk result (λ u. All (λ f. sum_by nodes f.forest.roots ≤ 2 ^ 24) u.functions) }
 {
     let forest = forest(alloc, parts)?.into_forest();

@@ -13,7 +13,7 @@ use Rattle.op_forest.specs.declared.lowered.Datum.{Datum}
 use Rattle.op_forest.specs.declared.lowered.Datum.TheVariants as datum
 use Rattle.op_forest.specs.Nodes.{Node, head_of}
 use Rattle.op_forest.specs.EachNode.{AtEachNode}
-use Rattle.op_forest.specs.Bodies.{label_of}
+use Rattle.op_forest.specs.Labels.{label_of}
 
 -- Functions and objects in order, each with its name's place among the names; the names; and the order of bytes in
 -- memory.

@@ -1,5 +1,5 @@
 -- What each operator takes and gives: the suffixes of its operands, from left to right, and whether it gives a value.
--- And which operators have a rule so far. A pair that is no operator has no row: what stands here for it says nothing.
+-- A pair that is no operator has no row: what stands here for it says nothing.
 -- Source: Fraser and Hanson, A Retargetable C Compiler, chapter 5, without floating point.
 use Rattle.std.specs.Prelude.{Bool, true, false, List, [], ◌∷◌}
 use Rattle.op_forest.specs.declared.op.Op.{Op}
@@ -73,16 +73,3 @@ moves Gt = true
 moves Ge = true
 moves Jump = true
 moves op = false
-
--- the operators that have a rule so far
-abbrev pub has_rule : Op → Suffix → Bool
-has_rule Cnst I = true
-has_rule Addrg P = true
-has_rule Arg I = true
-has_rule Call I = true
-has_rule Ret I = true
-has_rule Neg I = true
-has_rule Add I = true
-has_rule Sub I = true
-has_rule Mul I = true
-has_rule op s = false

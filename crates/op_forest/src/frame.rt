@@ -1,4 +1,4 @@
-ghost use Rattle.std.specs.Prelude.{◌≡◌, [], IfOk};
+ghost use Rattle.std.specs.Prelude.{◌≡◌, ◌++◌, [], IfOk, OnOk, OnErr};
 ghost use Rattle.op_forest.specs.Frames.{IsFrame};
 
 use lcc_base::{Items, Memory};
@@ -16,7 +16,7 @@ pub struct Slot {
 /// and ends at the frame's top or below, and no two share a byte.
 #[derive(Debug, Drop)]
 pub struct Frame {
-    slots: Items<Slot>,
+    slots: Vec<Slot>,
 }
 
 impl Model for Frame {
@@ -26,9 +26,9 @@ impl Model for Frame {
 
     ghost Value = { List Slot };
 
-    ghost view = { λ f. f.slots };
+    ghost view = { λ f. f.slots.items };
 
-    ghost invariant = { λ f. IsFrame f.slots };
+    ghost invariant = { λ f. IsFrame f.slots.items };
 }
 
 impl Frame {
@@ -37,7 +37,7 @@ impl Frame {
         ensures { result ≡ [] }
     {
         Frame {
-            slots: Items::new(alloc),
+            slots: Vec::new(alloc),
         }
     }
 
@@ -46,7 +46,9 @@ impl Frame {
         requires { IsFrame slots }
         ensures { result ≡ slots }
     {
-        Frame { slots }
+        Frame {
+            slots: slots.into_vec(),
+        }
     }
 
     /// A copy of the frame.
@@ -55,7 +57,18 @@ impl Frame {
     {
         let mut slots = Vec::new(alloc);
         slots.extend_from_slice(frame.slots())?;
-        Ok(Frame::of_slots(Items::from_vec(slots)))
+        Ok(Frame { slots })
+    }
+
+    /// Adds slots behind those that are there. `Memory` comes where an allocation is refused; the frame
+    /// is as before then.
+    pub fn extend(&mut self, slots: &[Slot]) -> Result<(), Memory>
+        requires { IsFrame (self.old ++ slots.now) }
+        ensures ok { OnOk result (self.new ≡ self.old ++ slots.now) }
+        ensures err { OnErr result (self.new ≡ self.old) }
+    {
+        self.slots.extend_from_slice(slots)?;
+        Ok(())
     }
 
     /// The slots in order.

@@ -78,7 +78,7 @@ impl Op {
     ghost use Rattle.op_forest.specs.Signature.{moves};
 
     /// Whether the run may go on elsewhere behind it: a return, a jump or a comparison.
-    pub(crate) fn moves(self) -> bool
+    pub fn moves(self) -> bool
         ensures { result ≡ moves self }
     {
         matches!(

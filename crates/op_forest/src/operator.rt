@@ -1,6 +1,6 @@
 ghost use Rattle.std.specs.Prelude.{◌≡◌};
 ghost use Rattle.op_forest.specs.Operators.{number};
-ghost use Rattle.op_forest.specs.Signature.{takes, gives_value, moves, has_rule};
+ghost use Rattle.op_forest.specs.Signature.{takes, gives_value, moves};
 ghost use Rattle.op_forest.specs.Shape.{listed};
 
 use crate::op::Op;
@@ -96,7 +96,7 @@ impl Operator {
     }
 
     /// The suffixes of the operands that it takes.
-    pub(crate) fn takes(self) -> Operands<Suffix>
+    pub fn takes(self) -> Operands<Suffix>
         ensures { listed result ≡ takes self.op self.suffix }
     {
         let s = self.suffix;
@@ -127,18 +127,6 @@ impl Operator {
             Op::Call => self.suffix != Suffix::V,
             Op::Asgn | Op::Arg | Op::Label => false,
             op => !op.moves(),
-        }
-    }
-
-    /// Whether it has a rule so far.
-    pub(crate) fn has_rule(self) -> bool
-        ensures { result ≡ has_rule self.op self.suffix }
-    {
-        match (self.op, self.suffix) {
-            (Op::Addrg, Suffix::P) => true,
-            (Op::Cnst | Op::Arg | Op::Call | Op::Ret, Suffix::I) => true,
-            (Op::Neg | Op::Add | Op::Sub | Op::Mul, Suffix::I) => true,
-            _ => false,
         }
     }
 }

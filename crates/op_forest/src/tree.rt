@@ -80,8 +80,8 @@ impl Tree {
         }
     }
 
-    /// Its operands.
-    pub(crate) fn operands(&self) -> Operands<&Tree>
+    /// Its operands, from left to right.
+    pub fn operands(&self) -> Operands<&Tree>
         ensures { self.now ≡ over (head_of self.now) result }
     {
         match self.kids.as_slice() {

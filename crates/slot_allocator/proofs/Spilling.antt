@@ -2,9 +2,9 @@
 use Rattle.std.proofs.Common.{◌≡◌, ⊎_elim, ℕ, suc, ◌≤◌, ℤ, List, [], ◌∷◌, ◌++◌, length, Bool, true, false, not, ◌&&◌, ◌||◌, refl, sym, ap, ◌∙◌, subst, arith}
 use Rattle.std.specs.Prelude.{if◌then◌else◌}
 use Rattle.std.proofs.lemmas.Bool.{leb-true, cases_Bool, cases_eq, both_ways, or_cases, true≢false, false≢true}
-use Rattle.op_forest.specs.Words.{Word}
-use Rattle.op_forest.specs.Worlds.{Point, Move, Next, Effect, Went}
-use Rattle.op_forest.specs.Rows.{Setting}
+use Rattle.forests.specs.Words.{Word}
+use Rattle.forests.specs.Worlds.{Point, Move, Next, Effect, Went}
+use Rattle.forests.specs.Bodies.{Setting}
 use Rattle.vcode.specs.declared.operand.Operand.{Operand}
 use Rattle.vcode.specs.Machines.{Machine, Kind, Plain, Mark, Load, Store, Copy, WritesNothing}
 use Rattle.vcode.specs.Execution.{State, with_value, with_slot, reads, first_of, rest_of, written, without, by_kind, slots_by, effect, state_by, executed}

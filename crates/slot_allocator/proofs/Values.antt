@@ -2,7 +2,7 @@
 use Rattle.std.proofs.Common.{◌≡◌, ℕ, ◌-◌, pos, List, [], ◌∷◌, ◌++◌, Bool, true, false, ◌||◌, refl, ap, ◌∙◌, arith}
 use Rattle.std.specs.Prelude.{◌==◌, if◌then◌else◌}
 use Rattle.std.proofs.lemmas.Bool.{leb-true, eq-eqb, ne_eqb, both_ways, or_parts}
-use Rattle.op_forest.specs.Words.{Word}
+use Rattle.forests.specs.Words.{Word}
 use Rattle.vcode.specs.declared.operand.Operand.{Operand}
 use Rattle.vcode.specs.Execution.{with_value, first_of, rest_of, written, without}
 use Rattle.vcode.specs.VirtualCode.{is_virtual, among}

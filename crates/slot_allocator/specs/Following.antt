@@ -1,7 +1,7 @@
 -- That allocated code has the runs of virtual code: a forward simulation. As each code has one run from a state, it
 -- says what every run of the allocated code comes to.
 use Rattle.std.specs.Prelude.{◌≡◌, ℕ, ◌≤◌, List, IsTrue}
-use Rattle.op_forest.specs.Rows.{Setting}
+use Rattle.forests.specs.Bodies.{Setting}
 use Rattle.vcode.specs.Machines.{Machine}
 use Rattle.vcode.specs.Execution.{State, executed}
 use Rattle.slot_allocator.specs.Slots.{is_kept}

@@ -3,7 +3,7 @@ use Rattle.std.proofs.Common.{◌≡◌, ℤ, refl}
 use Rattle.std.specs.Ordering.{int_eq}
 use Rattle.std.proofs.lemmas.Bool.{false_from_ne_true}
 use Rattle.std.proofs.lemmas.Bool.Decides.{Decides-int_eq}
-use Rattle.op_forest.specs.Words.{Word}
+use Rattle.forests.specs.Words.{Word}
 use Rattle.vcode.specs.Execution.{with_slot}
 
 pub slot_at : (f : ℤ → Word) (z : ℤ) (w : Word) → with_slot f z w z ≡ w

@@ -1,17 +1,15 @@
 -- The code that a derivation adds does what its node does, and its part stands for the node's value.
 use Rattle.std.proofs.Common.{◌≡◌, ℕ, ◌+◌, ◌<◌, ◌≤◌, ⊎_elim, true, false, Option, List, [], ◌∷◌, ◌++◌, length, refl, sym, ap, ◌∙◌, subst, arith, append_assoc, append-nil, length-append}
-use Rattle.std.proofs.lemmas.Bool.{false≢true, true≢false, or_right, cases_Bool}
+use Rattle.std.proofs.lemmas.Bool.{false≢true, or_right, cases_Bool}
 use Rattle.lburg_model.specs.Pattern.{MPattern, PHole, PLeaf, POne, PTwo}
 use Rattle.lburg_model.specs.Derivation.{MDerivation}
-use Rattle.op_forest.specs.declared.op.Op.{Op}
-use Rattle.op_forest.specs.declared.op.Op.TheVariants as op
 use Rattle.op_forest.specs.Nodes.{Node}
-use Rattle.op_forest.specs.Words.{Word}
-use Rattle.op_forest.specs.Worlds.{Point, Move, Next, To, End, Effect, Went, Exits, Unfinished, Stuck, then_do, Outcome}
-use Rattle.op_forest.specs.Rows.{Setting}
-use Rattle.op_forest.specs.Bodies.{evaluate}
-use Rattle.op_forest.specs.Effects.{stuck_then}
-use Rattle.op_forest.specs.Moving.{IsNext, goes_to, evaluate_next}
+use Rattle.forests.specs.Words.{Word}
+use Rattle.forests.specs.Worlds.{Point, Move, Next, To, End, Effect, Went, Exits, Unfinished, Stuck, then_do, Outcome}
+use Rattle.forests.specs.Bodies.{Setting}
+use Rattle.forests.specs.Bodies.{evaluate}
+use Rattle.forests.specs.Effects.{stuck_then}
+use Rattle.forests.specs.Moving.{IsNext, goes_to, evaluate_next}
 use Rattle.vcode.specs.Machines.{Machine}
 use Rattle.vcode.specs.Execution.{State, executed}
 use Rattle.vcode.specs.VirtualCode.{among}
@@ -36,13 +34,10 @@ to_not l e = cc
 end_not : (v : Option Word) → End v ≡ Next → ⊥
 end_not v e = cc
 
-return_moves : (o : Op) → is_move o ≡ false → o ≡ op.Ret → ⊥
-return_moves o stays is = true≢false (ap is_move (sym is) ∙ stays)
-
 -- where a tree doesn't go on behind its root, the root moves control
 moves_at : (s : Setting) (t : Node) (p : Point) (ws : List Word) (p1 : Point) (mv : Move) → evaluate s t p ≡ Went ws p1 mv → (mv ≡ Next → ⊥) → is_move (op_at t) ≡ true
 moves_at s t p ws p1 mv is away =
-    ⊎_elim (λ moves. moves) (λ stays. absurd (away (goes_to IsNext (evaluate s t p) ws p1 mv (evaluate_next s t p (return_moves (op_at t) stays)) is)))
+    ⊎_elim (λ moves. moves) (λ stays. absurd (away (goes_to IsNext (evaluate s t p) ws p1 mv (evaluate_next s t p stays) is)))
     (cases_Bool (is_move (op_at t)))
 
 module _ (I P : Type 0) (m : Machine I) (rules : Rules I P) (obeys : Obeys m rules) (s : Setting) (whole : List I) where

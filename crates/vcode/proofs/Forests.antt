@@ -152,8 +152,8 @@ module _ {I P : Type 0} (m : Machine I) (rules : Rules I P) (obeys : Obeys m rul
   pub virtual_code : {xs : List MDerivation} {ts : List Node} {free : ℕ} {code : List I} {cuts : List ℕ} → Gathered xs ts free code cuts → IsVirtualCode m (record { code = code; cuts = cuts })
   virtual_code g = record { stretches = g.stretches; code = g.code_is; cuts = g.cuts_are; each = g.each }
 
-  pub linearised : {xs : List MDerivation} {ts : List Node} {free : ℕ} {code : List I} {cuts : List ℕ} (c : MCode I) → c ≡ record { code = code; cuts = cuts } → Gathered xs ts free code cuts → IsLinearised m rules ts xs c
-  linearised {xs} {ts} {free} {code} {cuts} c e g =
+  pub linearised : {xs : List MDerivation} {ts : List Node} {free : ℕ} {code : List I} {cuts : List ℕ} (c : MCode I) → c ≡ record { code = code; cuts = cuts } → All IsQuiet ts → Gathered xs ts free code cuts → IsLinearised m rules ts xs c
+  linearised {xs} {ts} {free} {code} {cuts} c e quiet g =
       let made : c ≡ record { code = joined g.stretches; cuts = ends_from 0 g.stretches } = e ∙ ap (λ l. record { code = l; cuts = cuts }) g.code_is ∙ ap (λ l. record { code = joined g.stretches; cuts = l }) g.cuts_are in
       let some : All (λ (s : List I). 1 ≤ length s) g.stretches = All-weaker (IsStretch m) (λ s. 1 ≤ length s) (λ s h. h.some) g.stretches g.each in
       subst (IsLinearised m rules ts xs) (sym made)
@@ -165,5 +165,5 @@ module _ {I P : Type 0} (m : Machine I) (rules : Rules I P) (obeys : Obeys m rul
         cuts = refl;
         few = roots_few g.emits;
         names = g.named;
-        agrees = agrees m rules obeys xs ts g.stretches free g.emits some;
+        agrees = agrees m rules obeys xs ts g.stretches free g.emits quiet some;
       })

@@ -7,7 +7,7 @@ use Rattle.op_forest.specs.Nodes.{Node, head_of, gives, one_where, value_nodes}
 use Rattle.vcode.specs.Machines.{Machine}
 use Rattle.vcode.specs.VirtualCode.{among}
 use Rattle.vcode.specs.Patterns.{Meeting}
-use Rattle.op_forest.specs.Words.{Word}
+use Rattle.forests.specs.Words.{Word}
 use Rattle.vcode.specs.RuleSets.{Row, Rules, SameAt, Applies, Obeys, InRange, one_register, all_registers}
 use Rattle.vcode.specs.Emission.{Emitted, EmittedAll, with_chain, with_rule, and_one, Emits, EmitsAll, ByChain, ByRule, Nothing, OneMore}
 use Rattle.vcode.specs.Leaves.{met_by, met_by_append, fewer_values}

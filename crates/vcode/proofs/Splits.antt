@@ -5,11 +5,11 @@ use Rattle.std.proofs.lemmas.Bool.{true≢false, and_parts, or_cases, or_parts, 
 use Rattle.std.proofs.lemmas.Option.{none-some, same_Some}
 use Rattle.lburg_model.specs.Pattern.{MPattern, PHole, PLeaf, POne, PTwo}
 use Rattle.op_forest.specs.Nodes.{Head, Node, Leaf, One, Two, number_of}
-use Rattle.op_forest.specs.Words.{Word}
-use Rattle.op_forest.specs.Worlds.{Point, Next, Effect, Went, Stuck, then_do}
-use Rattle.op_forest.specs.Rows.{Setting, does}
-use Rattle.op_forest.specs.Bodies.{evaluate}
-use Rattle.op_forest.specs.Effects.{then_do_assoc, then_do_same, then_do_unless}
+use Rattle.forests.specs.Words.{Word}
+use Rattle.forests.specs.Worlds.{Point, Next, Effect, Went, Stuck, then_do}
+use Rattle.forests.specs.Bodies.{Setting, does}
+use Rattle.forests.specs.Bodies.{evaluate}
+use Rattle.forests.specs.Effects.{then_do_assoc, then_do_same, then_do_unless}
 use Rattle.vcode.specs.Patterns.{Meeting, both, leaves_at, inner, pattern_effect, each_of, is_chain, has_hole, is_steady, all_steady, is_ordered}
 use Rattle.vcode.proofs.Steady.{settled, does_steady}
 

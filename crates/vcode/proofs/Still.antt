@@ -6,9 +6,12 @@ use Rattle.std.proofs.lemmas.Bool.{or_parts, or_right, not_from_false, cases_Boo
 use Rattle.std.proofs.lemmas.Option.{same_Some, none-some}
 use Rattle.lburg_model.specs.Pattern.{MPattern, PHole, PLeaf, POne, PTwo}
 use Rattle.lburg_model.specs.Derivation.{MDerivation}
-use Rattle.op_forest.specs.Nodes.{Node, Leaf, One, Two, number_of}
+use Rattle.op_forest.specs.declared.op.Op.{Op}
+use Rattle.op_forest.specs.declared.op.Op.TheVariants as op
+use Rattle.op_forest.specs.declared.sym.Sym.TheVariants as symbol
+use Rattle.op_forest.specs.Nodes.{Node, Leaf, One, Two, head_of, number_of}
 use Rattle.vcode.specs.Machines.{Machine}
-use Rattle.vcode.specs.VirtualCode.{HasNoMark, MovesNot, MovesLast, MarkedFirst}
+use Rattle.vcode.specs.VirtualCode.{HasNoMark, MovesNot, MovesLast, MarkedFirst, BeginsWithMark}
 use Rattle.vcode.specs.Patterns.{Meeting, leaves_at, both, is_chain}
 use Rattle.vcode.specs.RuleSets.{Row, Rules, Applies, Obeys, is_label, is_move, op_at}
 use Rattle.vcode.specs.Emission.{Emitted, EmittedAll, Emits, EmitsAll, ByChain, ByRule, Nothing, OneMore}
@@ -83,6 +86,10 @@ pub not_nothing : {A : Type 0} (xs : List A) (x : A) → xs ++ x ∷ [] ≡ [] �
 not_nothing [] x e = cc
 not_nothing (y ∷ xs) x e = cc
 
+is_the_label : (o : Op) → is_label o ≡ true → o ≡ op.Label
+is_the_label op.Label h = refl
+is_the_label o h = absurd (both_ways false refl h)
+
 module _ {I P : Type 0} (m : Machine I) (rules : Rules I P) (obeys : Obeys m rules) where
   pub record Plain (code : List I) : Type 0 where
     pub marks : HasNoMark m code
@@ -121,6 +128,7 @@ module _ {I P : Type 0} (m : Machine I) (rules : Rules I P) (obeys : Obeys m rul
     pub moves : is_move (op_at t) ≡ false → MovesNot m code
     pub first : MarkedFirst m code
     pub last : MovesLast m code
+    pub begins : (l : ℕ) → is_label (op_at t) ≡ true → (head_of t).sym ≡ symbol.Label l → BeginsWithMark m l code
 
   -- the code of a chain rule behind that of its nonterminal
   rooted_chain : (t : Node) (code : List I) (number : ℕ) (row : Row) (ps : List P) (to : ℕ) → Rooted t code → Applies rules number row t ps to → is_chain row.pattern ≡ true → Rooted t (code ++ rules.code number t ps to)
@@ -135,12 +143,13 @@ module _ {I P : Type 0} (m : Machine I) (rules : Rules I P) (obeys : Obeys m rul
         moves = λ e. whole.moves;
         first = marked_first m (code ++ rules.code number t ps to) whole.marks;
         last = moves_last m (code ++ rules.code number t ps to) whole.moves;
+        begins = λ l is called. absurd (both_ways (is_label (op_at t)) b.0 is);
       })
       (cases_Bool (is_label (op_at t) || is_move (op_at t)))
 
   -- the code of a rule behind that of its nonterminals
-  rooted_rule : (t : Node) (code : List I) (number : ℕ) (row : Row) (ps : List P) (to : ℕ) → Plain code → (is_label (op_at t) ≡ true → code ≡ []) → Applies rules number row t ps to → Rooted t (code ++ rules.code number t ps to)
-  rooted_rule t code number row ps to p bare a =
+  rooted_rule : (t : Node) (code : List I) (number : ℕ) (row : Row) (ps : List P) (to : ℕ) → Plain code → (is_label (op_at t) ≡ true → code ≡ []) → Applies rules number row t ps to → is_chain row.pattern ≡ false → Rooted t (code ++ rules.code number t ps to)
+  rooted_rule t code number row ps to p bare a plain =
       let c = rules.code number t ps to in
       let unmarked : is_label (op_at t) ≡ false → HasNoMark m (code ++ c) =
       λ e. unmarked_joined m code c p.marks (obeys.marks_only number row t ps to a (or_right (is_chain row.pattern) (not (is_label (op_at t))) (not_from_false (is_label (op_at t)) e)))
@@ -153,10 +162,11 @@ module _ {I P : Type 0} (m : Machine I) (rules : Rules I P) (obeys : Obeys m rul
             (λ e. marked_first m (code ++ c) (unmarked e))
             (cases_Bool (is_label (op_at t)));
         last = moves_joined m code c p.moves (obeys.moves number row t ps to a);
+        begins = λ l is called. subst (λ d. BeginsWithMark m l (d ++ c)) (sym (bare is)) (obeys.labels number row t ps to l a plain (is_the_label (op_at t) is) called);
       }
 
   pub rooted : {x : MDerivation} {t : Node} {n : ℕ} {e : Emitted I P} → Emits rules x t n e → IsQuiet t → Rooted t e.code
   rooted (ByChain {number} {row} {x} {t} {n} {e} one chain a) h = rooted_chain t e.code number row (e.part ∷ []) e.to (rooted one h) a chain
   rooted (ByRule {number} {row} {xs} {meetings} {t} {n} {es} all fits chain a) h =
       rooted_rule t es.code number row es.parts es.next (plain_all all (below_still row.pattern t meetings chain fits h))
-      (λ l. nothing_met all (label_bare row.pattern t meetings chain fits h l)) a
+      (λ l. nothing_met all (label_bare row.pattern t meetings chain fits h l)) a chain

@@ -7,9 +7,9 @@ use Rattle.std.specs.List.{sum_by}
 use Rattle.lburg_model.specs.Derivation.{MDerivation, Apply}
 use Rattle.lburg_model.specs.DerivationOf.{parts_of}
 use Rattle.op_forest.specs.Nodes.{Node, head_of, gives, one_where, value_nodes}
-use Rattle.op_forest.specs.Worlds.{Failed}
-use Rattle.op_forest.specs.Rows.{Setting}
-use Rattle.op_forest.specs.Bodies.{body_run}
+use Rattle.forests.specs.Worlds.{Failed}
+use Rattle.forests.specs.Bodies.{Setting}
+use Rattle.forests.specs.Bodies.{body_run}
 use Rattle.vcode.specs.Machines.{Machine}
 use Rattle.vcode.specs.Execution.{State, executed}
 use Rattle.vcode.specs.VirtualCode.{MCode, NamesBelow, joined, ends_from}

@@ -3,9 +3,9 @@
 -- Source: Fraser and Hanson, A Retargetable C Compiler, chapter 15.
 use Rattle.std.specs.Prelude.{ℕ, zero, suc, ℤ, ◌==◌, List, [], ◌∷◌, Bool, false, Option, Some, None, if◌then◌else◌}
 use Rattle.std.specs.Ordering.{int_eq}
-use Rattle.op_forest.specs.Words.{Word, unknown}
-use Rattle.op_forest.specs.Worlds.{Point, Move, Next, To, End, Effect, Went, goes, Outcome, Finished, Going, Failed}
-use Rattle.op_forest.specs.Rows.{Setting}
+use Rattle.forests.specs.Words.{Word, unknown}
+use Rattle.forests.specs.Worlds.{Point, Move, Next, To, End, Effect, Went, goes, Outcome, Finished, Going, Failed}
+use Rattle.forests.specs.Bodies.{Setting}
 use Rattle.vcode.specs.declared.operand.Operand.{Operand}
 use Rattle.vcode.specs.Machines.{Machine, Kind, Plain, Mark, Load, Store, Copy}
 

@@ -3,9 +3,9 @@
 -- of targets hold by the construction of the step (`step_by` in Execution).
 -- Source: Fraser and Hanson, A Retargetable C Compiler, chapters 13 and 15.
 use Rattle.std.specs.Prelude.{◌≡◌, ℕ, zero, suc, ℤ, ◌<◌, ◌≤◌, List, [], ◌∷◌, Bool, true, false, length}
-use Rattle.op_forest.specs.Words.{Word}
-use Rattle.op_forest.specs.Worlds.{Point, Move, Next, Effect, Went}
-use Rattle.op_forest.specs.Rows.{Setting}
+use Rattle.forests.specs.Words.{Word}
+use Rattle.forests.specs.Worlds.{Point, Move, Next, Effect, Went}
+use Rattle.forests.specs.Bodies.{Setting}
 use Rattle.vcode.specs.declared.operand.Operand.{Operand}
 
 -- how an instruction stands to labels, spill slots and copies

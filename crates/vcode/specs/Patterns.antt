@@ -3,10 +3,10 @@
 use Rattle.std.specs.Prelude.{ℕ, ◌==◌, ◌&&◌, ◌||◌, not, Bool, true, false, Option, Some, None, List, [], ◌∷◌, ◌++◌, if◌then◌else◌}
 use Rattle.lburg_model.specs.Pattern.{MPattern, PHole, PLeaf, POne, PTwo}
 use Rattle.op_forest.specs.Nodes.{Node, Leaf, One, Two, number_of}
-use Rattle.op_forest.specs.Words.{Word}
-use Rattle.op_forest.specs.Worlds.{Point, Next, Effect, Went, Stuck, then_do}
-use Rattle.op_forest.specs.Rows.{Setting, does}
-use Rattle.op_forest.specs.Bodies.{evaluate}
+use Rattle.forests.specs.Words.{Word}
+use Rattle.forests.specs.Worlds.{Point, Next, Effect, Went, Stuck, then_do}
+use Rattle.forests.specs.Bodies.{Setting, does}
+use Rattle.forests.specs.Bodies.{evaluate}
 
 -- a nonterminal, and the node that it meets
 abbrev pub Meeting : Type 0
@@ -62,9 +62,9 @@ has_hole (PLeaf op) = false
 has_hole (POne op p) = has_hole p
 has_hole (PTwo op p q) = has_hole p || has_hole q
 
--- the operators whose value depends on their operands' values alone: CNSTI, ADDRGP, NEGI, ADDI, SUBI, MULI
+-- the operators whose value depends on their operands' values alone: CNSTI, NEGI, ADDI, SUBI, MULI
 abbrev pub is_steady : ℕ → Bool
-is_steady op = (op == 3) || ((op == 6) || ((op == 37) || ((op == 39) || ((op == 42) || (op == 45)))))
+is_steady op = (op == 3) || ((op == 37) || ((op == 39) || ((op == 42) || (op == 45))))
 
 abbrev pub all_steady : MPattern → Bool
 all_steady (PHole n) = true

@@ -8,9 +8,9 @@ use Rattle.op_forest.specs.declared.op.Op.TheVariants as op
 pub use Rattle.op_forest.specs.Signature.{moves as is_move}
 use Rattle.op_forest.specs.declared.sym.Sym.TheVariants as sym
 use Rattle.op_forest.specs.Nodes.{Node, head_of, gives}
-use Rattle.op_forest.specs.Words.{Word}
-use Rattle.op_forest.specs.Worlds.{Point, Move, Next, To, End, Effect, Went, Exits, Unfinished, Stuck, goes}
-use Rattle.op_forest.specs.Rows.{Setting}
+use Rattle.forests.specs.Words.{Word}
+use Rattle.forests.specs.Worlds.{Point, Move, Next, To, End, Effect, Went, Exits, Unfinished, Stuck, goes}
+use Rattle.forests.specs.Bodies.{Setting}
 use Rattle.vcode.specs.declared.operand.Operand.{Operand}
 use Rattle.vcode.specs.Machines.{Machine}
 use Rattle.vcode.specs.Execution.{State, executed, moved}

@@ -13,9 +13,10 @@ use crate::operand::Reg;
 use crate::rule_set::RuleSet;
 use crate::target::Target;
 use crate::virtual_code::VCode;
+use forests::WellFormed;
 use lburg_model::{Derivation, Pattern, Rule};
 use lcc_base::{Items, Memory};
-use op_forest::{Tree, WellFormed};
+use op_forest::Tree;
 use std::alloc::Global;
 
 /// The first virtual register.

@@ -19,7 +19,7 @@ impl Target for Toy {
     ghost use Rattle.std.specs.Prelude.{◌≡◌, ◌≤◌, ℕ, zero, suc, ℤ, List, [], ◌∷◌, Bool, false, true, length, refl};
     ghost use Rattle.std.proofs.Common.{sym, ap, subst, lit≤};
     ghost use Rattle.std.proofs.lemmas.Bool.{false≢true};
-    ghost use Rattle.op_forest.specs.Worlds.{Effect, Move, Went, Exits, Unfinished, Stuck, Next};
+    ghost use Rattle.forests.specs.Worlds.{Effect, Move, Went, Exits, Unfinished, Stuck, Next};
     ghost use Rattle.vcode.specs.declared.operand.Operand.{Operand};
     ghost use Rattle.vcode.specs.declared.tests.Instr.{Instr};
     ghost use Rattle.vcode.specs.declared.tests.Instr.TheVariants as instr;

@@ -1,11 +1,15 @@
 use Rattle.first_form.specs.FirstProgram.{program_of}
 use Rattle.first_forest.specs.WellFormedRoots.{well_formed}
+use Rattle.first_forest.specs.RuledRoots.{ruled}
 use Rattle.first_forest.specs.Small.{small, few}
 use Rattle.first_forest.specs.Running.{meant}
 use Rattle.first_forest.proofs.lowering.lower.Goals as goal
 
 pub returns-clause-well_formed : goal.returns-clause-well_formed
 returns-clause-well_formed c = well_formed (program_of c.args.program.now)
+
+pub returns-clause-ruled : goal.returns-clause-ruled
+returns-clause-ruled c = ruled (program_of c.args.program.now)
 
 pub returns-clause-small : goal.returns-clause-small
 returns-clause-small c = λ text. small text (program_of c.args.program.now)

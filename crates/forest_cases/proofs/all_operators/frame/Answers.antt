@@ -24,6 +24,5 @@ one_slot = record {
   apart = λ i j s t d e. inl ((same i s d).0 ∙ sym (same j t e).0);
 }
 
-pub of_slots-requires : goal.of_slots-requires
-of_slots-requires c =
-    subst IsFrame (sym (c.in_ok-push.ensures.ok ∙ ap (λ slots. slots ++ slot ∷ []) c.new-slots.ensures)) one_slot
+pub extend-requires : goal.extend-requires
+extend-requires c = subst (λ slots. IsFrame (slots ++ slot ∷ [])) (sym c.new-frame.ensures) one_slot

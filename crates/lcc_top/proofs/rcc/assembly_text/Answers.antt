@@ -1,4 +1,4 @@
-use Rattle.lcc_top.proofs.Assembled.{compiled_if, well_formed_unit, small_unit}
+use Rattle.lcc_top.proofs.Assembled.{compiled_if, well_formed_unit, ruled_unit, small_unit}
 use Rattle.lcc_top.proofs.rcc.assembly_text.Goals as goal
 
 pub returns : goal.returns
@@ -9,6 +9,9 @@ returns c = λ input p is within e.
 
 pub generate-requires-clause-well_formed : goal.generate-requires-clause-well_formed
 generate-requires-clause-well_formed c = well_formed_unit c.requires.1 c.requires.0 c.args.unit c.requires.4 c.requires.2
+
+pub generate-requires-clause-ruled : goal.generate-requires-clause-ruled
+generate-requires-clause-ruled c = ruled_unit c.requires.1 c.args.unit c.requires.4
 
 pub generate-requires-clause-size : goal.generate-requires-clause-size
 generate-requires-clause-size c = small_unit c.requires.1 c.requires.0 c.args.unit c.requires.4 c.requires.2 c.requires.3

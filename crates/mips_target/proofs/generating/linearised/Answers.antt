@@ -8,7 +8,7 @@ use Rattle.mips_target.proofs.generating.linearised.Goals as goal
 
 pub best_derivations-requires-clause-covered : goal.best_derivations-requires-clause-covered
 best_derivations-requires-clause-covered c =
-    covered c.args.rules.now c.description.result.now c.args.forest c.as_slice-roots.result.now c.requires.covers c.forest-2.ensures.is (c.as_slice-roots.ensures ∙ ap (λ f. f.roots) c.forest-2.ensures.value) c.description.ensures.value
+    covered c.args.rules.now c.description.result.now c.args.forest c.as_slice-roots.result.now c.requires.covers c.forest-2.ensures.is c.requires.ruled (c.as_slice-roots.ensures ∙ ap (λ f. f.roots) c.forest-2.ensures.value) c.description.ensures.value
 
 pub best_derivations-requires-clause-small : goal.best_derivations-requires-clause-small
 best_derivations-requires-clause-small c =

@@ -5,6 +5,7 @@ use Rattle.mips_target.specs.declared.layout.Layout.{Layout}
 use Rattle.mips_target.specs.Allocated.{IsAllocated}
 use Rattle.mips_target.specs.FunctionCode.{function_code}
 use Rattle.mips_target.specs.UnitLines.{named, label_text, code_lines, Coded}
+use Rattle.mips_target.proofs.CoveredRoots.{covered_roots}
 use Rattle.mips_target.proofs.CodeOfRoots.{layout_for, length_few, words_few, fits, is_code, layout_is, fits_same, code_same}
 use Rattle.mips_target.proofs.Numbering.{added}
 use Rattle.mips_target.proofs.generating.push_function.Goals as goal
@@ -15,7 +16,7 @@ argument_words-requires c =
     let roots = c.args.function.now.forest.roots in
     let code = c.in_ok-code.code in
     let a : IsAllocated roots code = subst (λ rs. IsAllocated rs code) e c.in_ok-code.ensures in
-    let few = length_few c.args.function.now.forest roots code a in
+    let few = length_few roots code a in
     let same = ap length c.code-2.ensures.value in
     let size = c.requires.size in
     omega (arith, few, same, size)
@@ -27,7 +28,7 @@ push_function_code-requires-clause-fits c =
     let code = c.in_ok-code.code in
     let a : IsAllocated roots code = subst (λ rs. IsAllocated rs code) e c.in_ok-code.ensures in
     let l = layout_is code c.argument_words.result c.slots.result c.code-2.result.now c.code-2.ensures.value c.argument_words.ensures c.slots.ensures in
-    fits_same c.args.lowered.now.names c.names-2.result.now (layout_for code) (record { arguments = c.argument_words.result; slots = c.slots.result }) code.code c.code-3.result.now c.names-2.ensures.value l c.code-3.ensures.value (fits c.args.function.now.forest roots code a c.args.lowered.now c.requires.well_formed c.requires.function.symbols)
+    fits_same c.args.lowered.now.names c.names-2.result.now (layout_for code) (record { arguments = c.argument_words.result; slots = c.slots.result }) code.code c.code-3.result.now c.names-2.ensures.value l c.code-3.ensures.value (fits roots code a c.args.lowered.now (covered_roots c.args.function.now.forest c.requires.well_formed c.requires.ruled) c.requires.function.symbols)
 
 pub push_function_code-requires-clause-frame : goal.push_function_code-requires-clause-frame
 push_function_code-requires-clause-frame c =
@@ -38,7 +39,7 @@ push_function_code-requires-clause-frame c =
     let l = layout_is code c.argument_words.result c.slots.result c.code-2.result.now c.code-2.ensures.value c.argument_words.ensures c.slots.ensures in
     let words = ap (λ x. x.arguments) l in
     let slots = ap (λ x. x.slots) l in
-    let few = words_few c.args.function.now.forest roots code a in
+    let few = words_few roots code a in
     let size = c.requires.size in
     omega (arith, words, slots, few, size)
 
@@ -48,7 +49,7 @@ push_function_code-requires-clause-size c =
     let roots = c.args.function.now.forest.roots in
     let code = c.in_ok-code.code in
     let a : IsAllocated roots code = subst (λ rs. IsAllocated rs code) e c.in_ok-code.ensures in
-    let few = length_few c.args.function.now.forest roots code a in
+    let few = length_few roots code a in
     let same = ap length c.code-3.ensures.value in
     let size = c.requires.size in
     omega (arith, few, same, size)
@@ -71,7 +72,7 @@ returns c =
       function = coded;
       is = record {
         name = there ∙ get_or_default u.names f.name item [] c.requires.function.name;
-        code = is_code f.forest f.forest.roots code a u label_text c.requires.well_formed c.requires.names c.requires.function.symbols items made;
+        code = is_code f.forest.roots code a u label_text (covered_roots f.forest c.requires.well_formed c.requires.ruled) c.requires.names c.requires.function.symbols items made;
       };
       adds = more ∙ added c.args.lines.now c.push_name.new.lines (named coded.name) (code_lines label_text items) c.in_ok-push_name.ensures;
     }) c.push_function_code.ensures

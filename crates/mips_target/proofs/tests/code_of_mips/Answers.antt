@@ -8,7 +8,7 @@ use Rattle.mips_target.proofs.tests.code_of_mips.Goals as goal
 
 pub best_derivations-requires-clause-covered : goal.best_derivations-requires-clause-covered
 best_derivations-requires-clause-covered g c =
-    covered c.in_ok-rules.rules c.description.result.now c.in_ok-forest.forest c.as_slice-roots.result.now c.in_ok-rules.ensures.covers c.forest-3.ensures.is (c.as_slice-roots.ensures ∙ ap (λ f. f.roots) c.forest-3.ensures.value) c.description.ensures.value
+    covered c.in_ok-rules.rules c.description.result.now c.in_ok-forest.forest c.as_slice-roots.result.now c.in_ok-rules.ensures.covers c.forest-3.ensures.is c.in_ok-forest.ensures.ruled (c.as_slice-roots.ensures ∙ ap (λ f. f.roots) c.forest-3.ensures.value) c.description.ensures.value
 
 pub best_derivations-requires-clause-small : goal.best_derivations-requires-clause-small
 best_derivations-requires-clause-small g c =

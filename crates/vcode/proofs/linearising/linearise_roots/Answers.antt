@@ -53,5 +53,5 @@ pub returns : goal.returns
 returns g c =
     let n = cover_length (g.R.RuleSet.described c.args.rules.now) c.args.roots.now c.args.cover.now c.requires.derived in
     let m = length-map c.args.cover.now derivation_of in
-    linearised g.T.Target.machine g.R.RuleSet.rules g.met.R.RuleSet.obeys c.new.result c.new.ensures
+    linearised g.T.Target.machine g.R.RuleSet.rules g.met.R.RuleSet.obeys c.new.result c.new.ensures c.requires.quiet
     (all_gathered g.T.Target.machine g.R.RuleSet.rules g.met.R.RuleSet.obeys (m ∙ n) c.loop-k-test.false c.loop-k.invariant)

@@ -1,11 +1,11 @@
 ghost use Rattle.std.specs.Prelude.{◌≡◌, [], ◌∷◌, pos, true, codes, IfOk};
 ghost use Rattle.op_forest.specs.Nodes.{Leaf};
 
+use forests::{ForestFault, check_forest};
 use lburg_model::TreeNode;
 use lcc_base::{Bytes, Items, Memory, Order};
 use op_forest::{
-    Datum, Forest, ForestFault, Frame, Lowered, LoweredFunction, LoweredObject, Op, Operator, Slot,
-    Suffix, Sym, Tree, check_forest,
+    Datum, Forest, Frame, Lowered, LoweredFunction, LoweredObject, Op, Operator, Suffix, Sym, Tree,
 };
 use std::alloc::{AllocError, Global};
 use std::test::Fail;
@@ -19,33 +19,13 @@ enum Part {
     With(Op, Suffix, Sym, Option<i64>),
 }
 
-const NAME: Sym = Sym::Global { name: 7, offset: 0 };
-
-const BEHIND: Sym = Sym::Global { name: 7, offset: 4 };
-
-const ADDRESS: Part = Part::With(Op::Addrg, Suffix::P, NAME, None);
-
 const FIVE: Part = Part::With(Op::Cnst, Suffix::I, Sym::Nothing, Some(5));
 
 const NEG: Part = Part::Over(Op::Neg, Suffix::I, 1);
 
-const ADD: Part = Part::Over(Op::Add, Suffix::I, 2);
-
 const SUB: Part = Part::Over(Op::Sub, Suffix::I, 2);
 
-const MUL: Part = Part::Over(Op::Mul, Suffix::I, 2);
-
-const ARG: Part = Part::Over(Op::Arg, Suffix::I, 1);
-
-const CALL: Part = Part::Over(Op::Call, Suffix::I, 1);
-
 const RET: Part = Part::Over(Op::Ret, Suffix::I, 1);
-
-const LABEL: Part = Part::With(Op::Label, Suffix::V, Sym::Label(1), None);
-
-const JUMP: Part = Part::Over(Op::Jump, Suffix::V, 1);
-
-const EQUAL: Part = Part::Over(Op::Eq, Suffix::I, 2);
 
 /// A tree over the last of these.
 fn tree_over(
@@ -96,31 +76,6 @@ fn fault(rt: &HostRuntime, parts: &[Part]) -> Result<Option<ForestFault>, Fail> 
         Err(ForestFault::Memory) => Err(Fail::from("memory")),
         Err(fault) => Ok(Some(fault)),
     }
-}
-
-#[test]
-fn good_forests(rt: HostRuntime) -> Result<(), Fail> {
-    let cases = [
-        [].as_slice(),
-        [FIVE, RET].as_slice(),
-        [FIVE, NEG, FIVE, ADD, FIVE, SUB, FIVE, MUL].as_slice(),
-        [ADDRESS, CALL].as_slice(),
-        // The ints.
-        [Part::With(Op::Cnst, Suffix::I, Sym::Nothing, Some(2_147_483_647))].as_slice(),
-        [Part::With(Op::Cnst, Suffix::I, Sym::Nothing, Some(-2_147_483_648))].as_slice(),
-        // A constant that no operator asks for.
-        [Part::With(Op::Addrg, Suffix::P, NAME, Some(0)), CALL].as_slice(),
-        // Arguments and the call that takes them.
-        [FIVE, ARG, FIVE, ARG, ADDRESS, CALL].as_slice(),
-        [FIVE, ARG, FIVE, ADDRESS, CALL, RET].as_slice(),
-        [FIVE, ARG, ADDRESS, CALL, RET].as_slice(),
-        [FIVE, ARG, ADDRESS, CALL, ARG, ADDRESS, CALL].as_slice(),
-        [FIVE, ARG, FIVE, FIVE, ADDRESS, CALL, ADD].as_slice(),
-    ];
-    for parts in cases {
-        assert_eq!(rt; fault(&rt, parts)?, None);
-    }
-    Ok(())
 }
 
 #[test]
@@ -177,153 +132,6 @@ fn arities(rt: HostRuntime) -> Result<(), Fail> {
 }
 
 #[test]
-fn kinds_of_operands(rt: HostRuntime) -> Result<(), Fail> {
-    let cases = [
-        // An operand gives no value.
-        ([FIVE, ARG, NEG].as_slice(), 0),
-        ([FIVE, RET, FIVE, ADD].as_slice(), 0),
-        ([FIVE, FIVE, FIVE, EQUAL, MUL].as_slice(), 0),
-        (
-            [ADDRESS, Part::Over(Op::Call, Suffix::V, 1), RET].as_slice(),
-            0,
-        ),
-        // An operand's suffix is another.
-        ([FIVE, CALL].as_slice(), 0),
-        ([ADDRESS, NEG].as_slice(), 0),
-        ([ADDRESS, RET].as_slice(), 0),
-        ([FIVE, ADDRESS, ADD].as_slice(), 0),
-        ([ADDRESS, FIVE, SUB].as_slice(), 0),
-        ([FIVE, ADDRESS, MUL, NEG].as_slice(), 0),
-        ([ADDRESS, ARG, ADDRESS, CALL].as_slice(), 0),
-    ];
-    for (parts, root) in cases {
-        assert_eq!(rt; fault(&rt, parts)?, Some(ForestFault::Kind { root }));
-    }
-    Ok(())
-}
-
-#[test]
-fn kinds_of_symbols(rt: HostRuntime) -> Result<(), Fail> {
-    let cases = [
-        // A constant or a symbol is missing, of another kind, or doesn't fit.
-        ([Part::With(Op::Cnst, Suffix::I, NAME, None)].as_slice(), 0),
-        // A constant with a symbol.
-        (
-            [Part::With(Op::Cnst, Suffix::I, NAME, Some(0))].as_slice(),
-            0,
-        ),
-        (
-            [
-                Part::With(Op::Cnst, Suffix::I, Sym::Nothing, Some(2_147_483_648)),
-                RET,
-            ]
-            .as_slice(),
-            0,
-        ),
-        (
-            [
-                Part::With(Op::Cnst, Suffix::I, Sym::Nothing, Some(-2_147_483_649)),
-                RET,
-            ]
-            .as_slice(),
-            0,
-        ),
-        ([Part::Over(Op::Addrg, Suffix::P, 0), CALL].as_slice(), 0),
-        (
-            [
-                Part::With(Op::Addrg, Suffix::P, Sym::Label(1), Some(0)),
-                CALL,
-            ]
-            .as_slice(),
-            0,
-        ),
-        // A place behind a name.
-        (
-            [Part::With(Op::Addrg, Suffix::P, BEHIND, None), CALL].as_slice(),
-            0,
-        ),
-    ];
-    for (parts, root) in cases {
-        assert_eq!(rt; fault(&rt, parts)?, Some(ForestFault::Kind { root }));
-    }
-    Ok(())
-}
-
-#[test]
-fn kinds_of_roots(rt: HostRuntime) -> Result<(), Fail> {
-    let cases = [
-        // An address alone.
-        ([ADDRESS].as_slice(), 0),
-        ([FIVE, RET, ADDRESS, FIVE, RET].as_slice(), 1),
-        // No call takes an argument.
-        ([FIVE, ARG].as_slice(), 0),
-        ([ADDRESS, CALL, ARG].as_slice(), 0),
-        (
-            [FIVE, ARG, ADDRESS, CALL, FIVE, ARG, FIVE, RET].as_slice(),
-            2,
-        ),
-        (
-            [FIVE, RET, FIVE, ARG, FIVE, RET, ADDRESS, CALL].as_slice(),
-            1,
-        ),
-        ([FIVE, ARG, LABEL, ADDRESS, CALL].as_slice(), 0),
-        ([FIVE, ARG, ADDRESS, JUMP, ADDRESS, CALL].as_slice(), 0),
-        ([FIVE, ARG, FIVE, FIVE, EQUAL, ADDRESS, CALL].as_slice(), 0),
-        (
-            [
-                FIVE,
-                ARG,
-                ADDRESS,
-                CALL,
-                Part::Over(Op::Label, Suffix::V, 1),
-            ]
-            .as_slice(),
-            0,
-        ),
-        // An argument is taken, and the root that takes it has no rule.
-        ([FIVE, ARG, ADDRESS, CALL, FIVE, EQUAL].as_slice(), 1),
-        ([FIVE, ARG, ADDRESS, CALL, JUMP].as_slice(), 1),
-        // An operator without a rule, and pairs that are none.
-        ([LABEL].as_slice(), 0),
-        (
-            [FIVE, Part::With(Op::Cnst, Suffix::U, Sym::Nothing, Some(5))].as_slice(),
-            1,
-        ),
-        (
-            [FIVE, FIVE, Part::Over(Op::Div, Suffix::I, 2)].as_slice(),
-            0,
-        ),
-        ([FIVE, Part::Over(Op::Cnst, Suffix::B, 1)].as_slice(), 0),
-        (
-            [FIVE, RET, FIVE, Part::Over(Op::Neg, Suffix::V, 1)].as_slice(),
-            1,
-        ),
-    ];
-    for (parts, root) in cases {
-        assert_eq!(rt; fault(&rt, parts)?, Some(ForestFault::Kind { root }));
-    }
-    Ok(())
-}
-
-#[test]
-fn first_bad_roots(rt: HostRuntime) -> Result<(), Fail> {
-    let add = Part::Over(Op::Add, Suffix::I, 1);
-    // The arities of a root come before its kinds.
-    let parts = [FIVE, add, JUMP];
-    assert_eq!(rt; fault(&rt, &parts)?, Some(ForestFault::Arity { root: 0 }));
-    let parts = [FIVE, add, ARG];
-    assert_eq!(rt; fault(&rt, &parts)?, Some(ForestFault::Arity { root: 0 }));
-    // A root comes before those behind it.
-    let parts = [FIVE, RET, LABEL, FIVE, add, LABEL];
-    assert_eq!(rt; fault(&rt, &parts)?, Some(ForestFault::Kind { root: 1 }));
-    let parts = [FIVE, RET, FIVE, add, LABEL, FIVE, add];
-    assert_eq!(rt; fault(&rt, &parts)?, Some(ForestFault::Arity { root: 1 }));
-    let parts = [FIVE, ARG, FIVE, add];
-    assert_eq!(rt; fault(&rt, &parts)?, Some(ForestFault::Kind { root: 0 }));
-    Ok(())
-}
-
-#[test]
 fn operator_numbers(rt: HostRuntime) {
     let rows = [
         (Op::Cnst, Suffix::C, 1),
@@ -375,30 +183,6 @@ fn nodes_of_a_tree(rt: HostRuntime) -> Result<(), Fail> {
         add_numbers(root, &mut numbers)?;
     }
     assert_eq!(rt; numbers.as_slice(), [23, 42, 3, 5, 37, 3, 5].as_slice());
-    Ok(())
-}
-
-/// A frame with one slot.
-fn frame(alloc: Global) -> Result<Frame, Memory> {
-    let mut slots = Items::new(alloc);
-    slots.push(Slot {
-        offset: -8,
-        size: 8,
-    })?;
-    Ok(Frame::of_slots(slots))
-}
-
-#[test]
-fn copy_of_a_forest(rt: HostRuntime) -> Result<(), Fail> {
-    let mut forest = forest(rt.alloc(), &[FIVE, ARG, ADDRESS, CALL, FIVE, RET])?;
-    forest.frame = frame(rt.alloc())?;
-    let Ok(copy) = check_forest(rt.alloc(), &forest) else {
-        return Err(Fail::from("a good forest"));
-    };
-    let shown = format!(in rt.alloc(); "{:?}", copy.forest())?;
-    let want = format!(in rt.alloc(); "{:?}", forest)?;
-    assert_eq!(rt; shown.as_str(), want.as_str());
-    assert_eq!(rt; copy.into_forest().roots.len(), 3);
     Ok(())
 }
 

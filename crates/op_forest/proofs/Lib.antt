@@ -1,3 +1,0 @@
-pub mod Examples
-mod OperandLists
-mod FirstFaults

@@ -1,5 +1,0 @@
-use Rattle.op_forest.proofs.FirstFaults.{IsKept}
-use Rattle.op_forest.proofs.checking.first_fault.Given as goal
-
-abbrev pub invariant-loop-root : goal.invariant-loop-root
-invariant-loop-root l = IsKept l.forest l.root l.is_taken l.fault
