@@ -5,6 +5,7 @@ mod Stays
 mod Sound
 mod Once
 mod SlotLaws
+mod NarrowLaws
 pub mod StandingLaws
 pub mod Ready
 pub mod Chosen
@@ -12,6 +13,9 @@ pub mod Fits
 pub mod Walked
 pub mod PlacedLaws
 pub mod Emits
+pub mod Counts
+pub mod ReleaseLaws
+pub mod RootLaws
 pub mod TurnLaws
 pub mod FrameLaws
 pub mod Finished

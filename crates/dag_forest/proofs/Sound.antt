@@ -3,7 +3,7 @@ use Rattle.std.proofs.Common.{◌≡◌, ⊎_elim, ℕ, zero, suc, Bool, true, f
 use Rattle.std.proofs.lemmas.Bool.{cases_eq}
 use Rattle.op_forest.specs.Nodes.{Head}
 use Rattle.op_forest.specs.Nodes.{Node as Tree}
-use Rattle.forests.specs.Words.{Word, IsWord}
+use Rattle.forests.specs.Words.{Word}
 use Rattle.forests.specs.Worlds.{World, Point, at_world, Next, To, End, Effect, Went, Exits, Unfinished, Stuck, Outcome, Going, goes}
 use Rattle.forests.specs.Bodies.{Setting, does}
 use Rattle.forests.specs.Bodies.{evaluate, follow, act}
@@ -11,7 +11,7 @@ use Rattle.forests.specs.Budgets.{with_left}
 use Rattle.dag_forest.specs.declared.kids.Kids.{Kids}
 use Rattle.dag_forest.specs.Entries.{is_call, is_read}
 use Rattle.dag_forest.specs.Schedules.{Act, Made, Acts, head_of, operands, at}
-use Rattle.dag_forest.specs.Meaning.{is_end, Temporary, Keeps, IsThere, IsTemporary, Same, HasNow, spent, Handed, Acted, Leaves, MadeRuns, Ran, Out, Runs}
+use Rattle.dag_forest.specs.Meaning.{is_end, Temporary, Keeps, IsThere, CanKeep, IsTemporary, Same, HasNow, spent, Handed, Acted, Leaves, MadeRuns, Ran, Out, Runs}
 use Rattle.dag_forest.specs.Emission.{AreOnce, tree_by, emitted, emit, Use, Stable, IsUsable, faded, kids_use, read_use, kept_use, IsMade, Holds, Distinct}
 use Rattle.dag_forest.specs.Meant.{ended_by}
 use Rattle.dag_forest.proofs.Stays.{at_new, at_old, HasValue, here, more, kept, new, behind as stays_behind, evaluates, unkept}
@@ -48,21 +48,21 @@ module _ (s : Setting) (keeps : Keeps) (distinct : Distinct keeps) (law : (m : �
     evaluates_here h k us left = here s keeps distinct made w (kids_use uses k) (λ p. evaluate s (tree_by ts h k) p ≡ does s h (operands k values) p) us (evaluates s keeps distinct made w uses ts values have h k) (with_left left w) (λ o off. refl)
 
     -- behind the store of a value
-    after_store : (n : ℕ) (x : Temporary) (v : Word) (call : Bool) (left : ℕ) (w1 : World) → made n ≡ false → AreOnce es (at made n true) → keeps n ≡ Some x → Leaves call keeps made w w1 → IsWord v → IsThere x w1 → Holds keeps es (at (λ m. faded call (uses m)) n Stable) → go n v (with_left left (x.put v w1)) → T (rest_of n x) (with_left left (x.put v w1)) ≡ ended r
+    after_store : (n : ℕ) (x : Temporary) (v : Word) (call : Bool) (left : ℕ) (w1 : World) → made n ≡ false → AreOnce es (at made n true) → keeps n ≡ Some x → Leaves call keeps made w w1 → CanKeep x v → IsThere x w1 → Holds keeps es (at (λ m. faded call (uses m)) n Stable) → go n v (with_left left (x.put v w1)) → T (rest_of n x) (with_left left (x.put v w1)) ≡ ended r
     unfolding go rest_of
-    after_store n x v call left w1 fresh once is same word there holds h =
+    after_store n x v call left w1 fresh once is same can there holds h =
         later (at made n true) (at (λ m. faded call (uses m)) n Stable) (at ts n x.read) (at values n v) left (x.put v w1) r once holds
         (have_more made n (x.put v w1) (λ m. faded call (uses m)) ts values x.read v Stable
         (λ m. kept s keeps distinct made n x w1 v (faded call (uses m)) _ fresh is (law n x is) (stays_behind s keeps distinct made w w1 call (uses m) _ same (have m)))
-        (new s keeps distinct made n x w1 v is (law n x is) word there))
+        (new s keeps distinct made n x w1 v is (law n x is) can there))
         h
 
     stored : (n : ℕ) (x : Temporary) (h : Head) (k : Kids) (left : ℕ) → made n ≡ false → AreOnce es (at made n true) → keeps n ≡ Some x → IsUsable (kids_use uses k) → Holds keeps es (at (λ m. faded true (uses m)) n Stable) → (e : Effect) → evaluate s (tree_by ts h k) (with_left left w) ≡ e
-        → Handed e r (λ v p. Same keeps made w p.world × IsWord v × IsThere x p.world × go n v (at_world p (x.put v p.world)))
+        → Handed e r (λ v p. Same keeps made w p.world × CanKeep x v × IsThere x p.world × go n v (at_world p (x.put v p.world)))
         → goes (evaluate s (x.store (tree_by ts h k)) (with_left left w)) (λ ws p1 mv. follow whole (rest_of n x) mv p1 (λ js. T js p1)) ≡ ended r
     stored n x h k left fresh once is us holds (Went [] p Next) e g = absurd g
     stored n x h k left fresh once is us holds (Went (v ∷ []) p Next) e g =
-        ap (λ z. goes z (λ ws p1 mv. follow whole (rest_of n x) mv p1 (λ js. T js p1))) ((law n x is).stores (tree_by ts h k) v (with_left left w) p e g.2)
+        ap (λ z. goes z (λ ws p1 mv. follow whole (rest_of n x) mv p1 (λ js. T js p1))) ((law n x is).stores (tree_by ts h k) v (with_left left w) p e g.1 g.2)
         ∙ after_store n x v true p.left p.world fresh once is g.0 g.1 g.2 holds g.3
     stored n x h k left fresh once is us holds (Went (v ∷ u ∷ vs) p Next) e g = absurd g
     stored n x h k left fresh once is us holds (Went [] p (To l)) e g = absurd g
@@ -88,7 +88,7 @@ module _ (s : Setting) (keeps : Keeps) (distinct : Distinct keeps) (law : (m : �
     plain_node n (Some x) h k zero fresh once is is_made holds g = T-zero (x.store (tree_by ts h k)) (rest_of n x) w ∙ ap ended (sym g)
     plain_node n (Some x) h k (suc l) fresh once is is_made holds g =
         T-step (x.store (tree_by ts h k)) (rest_of n x) l w
-        ∙ ap (λ z. goes z (λ ws p1 mv. follow whole (rest_of n x) mv p1 (λ js. T js p1))) ((law n x is).stores (tree_by ts h k) g.0 (with_left l w) (with_left l w) (evaluates_here h k is_made l ∙ now (is_read h.operator.op) g.1) g.3)
+        ∙ ap (λ z. goes z (λ ws p1 mv. follow whole (rest_of n x) mv p1 (λ js. T js p1))) ((law n x is).stores (tree_by ts h k) g.0 (with_left l w) (with_left l w) (evaluates_here h k is_made l ∙ now (is_read h.operator.op) g.1) g.2 g.3)
         ∙ after_store n x g.0 false l w fresh once is (λ o. refl) g.2 g.3 holds g.4
       where
         now : (b : Bool) → HasNow b s keeps made h (operands k values) w g.0 → does s h (operands k values) (with_left l w) ≡ Went (g.0 ∷ []) (with_left l w) Next

@@ -3,14 +3,14 @@ use Rattle.std.proofs.Common.{◌≡◌, ⊎_elim, ℕ, Bool, true, false, [], �
 use Rattle.std.proofs.lemmas.Bool.{cases_eq, eq-eqb, ne_eqb}
 use Rattle.op_forest.specs.Nodes.{Head}
 use Rattle.op_forest.specs.Nodes.{Node as Tree}
-use Rattle.forests.specs.Words.{Word, IsWord}
+use Rattle.forests.specs.Words.{Word}
 use Rattle.forests.specs.Worlds.{World, Point, Next, Went, then_do}
 use Rattle.forests.specs.Bodies.{Setting, does}
 use Rattle.forests.specs.Bodies.{evaluate}
 use Rattle.dag_forest.specs.declared.kids.Kids.{Kids}
 use Rattle.dag_forest.specs.declared.kids.Kids.TheVariants.{Zero, One, Two}
 use Rattle.dag_forest.specs.Schedules.{operands, at}
-use Rattle.dag_forest.specs.Meaning.{Temporary, Keeps, IsThere, IsTemporary, SameBut, Same, HasNow, Leaves}
+use Rattle.dag_forest.specs.Meaning.{Temporary, Keeps, IsThere, CanKeep, IsTemporary, SameBut, Same, HasNow, Leaves}
 use Rattle.dag_forest.specs.Emission.{tree_by, Use, Lost, Now, Stable, IsUsable, faded, least, kids_use, read_use, Distinct}
 
 pub at_new : {A : Type 0} (f : ℕ → A) (n : ℕ) (v : A) → at f n v n ≡ v
@@ -69,8 +69,8 @@ module _ (s : Setting) (keeps : Keeps) (distinct : Distinct keeps) where
   kept made n x w v Now P fresh is law h = λ p e. h p (λ o off. e o (λ m t un ist. off m t (unmade made n m un) ist) ∙ law.others v w o (λ d. off n x fresh is d))
   kept made n x w v Stable P fresh is law h = λ p e. h p (λ m t is_made ist. e m t (still_made made n m is_made) ist ∙ law.others v w t.object (λ d. let q : m ≡ n = distinct m n t x ist is d in absurd (true≢false (sym is_made ∙ ap made q ∙ fresh))))
 
-  pub new : (made : ℕ → Bool) (n : ℕ) (x : Temporary) (w : World) (v : Word) → keeps n ≡ Some x → IsTemporary s x → IsWord v → IsThere x w → HasValue s keeps (at made n true) (x.put v w) x.read v Stable
-  new made n x w v is law word there p e = law.reads v w p word there (e n x (at_new made n true) is)
+  pub new : (made : ℕ → Bool) (n : ℕ) (x : Temporary) (w : World) (v : Word) → keeps n ≡ Some x → IsTemporary s x → CanKeep x v → IsThere x w → HasValue s keeps (at made n true) (x.put v w) x.read v Stable
+  new made n x w v is law can there p e = law.reads v w p can there (e n x (at_new made n true) is)
 
   -- a root or a call that leaves the temporaries as they are, or all objects
   pub behind : (made : ℕ → Bool) (w w2 : World) (ends : Bool) (u : Use) (P : Point → Type 0) → Leaves ends keeps made w w2 → Throughout keeps made w u P → Throughout keeps made w2 (faded ends u) P

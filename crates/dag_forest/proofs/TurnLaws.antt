@@ -1,43 +1,78 @@
 -- One entry's turn.
-use Rattle.std.proofs.Common.{◌≡◌, ℕ, zero, suc, ◌+◌, ◌≤◌, Bool, true, false, Some, List, [], ◌∷◌, ◌++◌, length, drop, slice_get, reverse, sym, ap, ◌∙◌, arith, append_assoc}
-use Rattle.std.specs.Prelude.{if◌then◌else◌}
-use Rattle.std.proofs.lemmas.List.{at_drop_all}
+use Rattle.std.proofs.Common.{◌≡◌, ℕ, ◌+◌, ◌<◌, ◌≤◌, Bool, Some, List, [], ◌∷◌, ◌++◌, length, drop, slice_get, replicate, sym, ap, ◌∙◌, arith, subst, append-nil}
+use Rattle.std.proofs.lemmas.List.{at_drop_all, length-replicate}
 use Rattle.dag_forest.specs.declared.entry.Entry.{Entry}
 use Rattle.dag_forest.specs.declared.entry.Entry.TheVariants.{Value, Root}
 use Rattle.dag_forest.specs.declared.parts.Parts.{Parts}
-use Rattle.dag_forest.specs.Schedules.{Act, Made, Acts, Parted, waits, kids_list, parted, reversed, in_turn}
-use Rattle.dag_forest.proofs.Ready.{reversed_is}
+use Rattle.dag_forest.specs.Entries.{AreBelow}
+use Rattle.dag_forest.specs.Tally.{AreFormed, node_count}
+use Rattle.dag_forest.specs.Schedules.{Act, in_turn}
+use Rattle.dag_forest.specs.Releases.{root_count, first_roots, by_lists}
+use Rattle.dag_forest.proofs.Counts.{drop_get, formed_drop}
+use Rattle.dag_forest.proofs.ReleaseLaws.{length_first, all_turned}
 
-value_by : (acts xs ys : List Act) (n : ℕ) (x : Parts) (b c : Bool) → b ≡ c → acts ++ (if c then xs else Made n x ∷ ys) ≡ acts ++ (if b then xs else Made n x ∷ ys)
-value_by acts xs ys n x b c e = ap (λ z. acts ++ (if z then xs else Made n x ∷ ys)) (sym e)
+-- what was done, and what the entries that are left do
+pub record AreTurned (es : List Entry) (id : ℕ) (acts : List Act) (first : List ℕ) (ws : List Bool) (lists : List (List Act)) (passed : ℕ) : Type 0 where
+  pub turns : acts ++ by_lists first (drop id es) passed ws lists ≡ by_lists (first_roots es 0 0) es 0 [] (replicate (root_count es) [])
+  pub told : first ≡ first_roots es 0 0
+  pub nodes : length ws + node_count (drop id es) ≡ node_count es
+  pub rooms : length lists ≡ root_count es
+  pub roots : passed + root_count (drop id es) ≡ root_count es
 
-pub value_waits : (acts pending new : List Act) (n : ℕ) (x : Parts) (b : Bool) (rest : List Entry) → b ≡ waits x pending → b ≡ true → new ≡ pending ++ Made n x ∷ [] → acts ++ in_turn rest (n + 1) new ≡ acts ++ in_turn (Value x ∷ rest) n pending
-value_waits acts pending new n x b rest is t e =
-    ap (λ z. acts ++ in_turn rest (n + 1) z) e ∙ ap (λ z. acts ++ in_turn rest z (pending ++ Made n x ∷ [])) (let q : n + 1 ≡ suc n = omega arith in q)
-    ∙ value_by acts (in_turn rest (suc n) (pending ++ Made n x ∷ [])) (in_turn rest (suc n) pending) n x (waits x pending) true (sym is ∙ t)
+pub turned_none : (es : List Entry) (acts : List Act) (first : List ℕ) (ws : List Bool) (lists : List (List Act)) (roots passed : ℕ) → acts ≡ [] → first ≡ first_roots es 0 0 → ws ≡ [] → roots ≡ root_count es → lists ≡ replicate roots [] → passed ≡ 0 → AreTurned es 0 acts first ws lists passed
+turned_none es acts first ws lists roots passed a f w r l p =
+    let nothing : List Act = [] in
+    let full : lists ≡ replicate (root_count es) [] = l ∙ ap (λ z. replicate z []) r in
+    record {
+      turns = λ i. a i ++ by_lists (f i) es (p i) (w i) (full i);
+      told = f;
+      nodes = let q = ap length w in omega (arith, q);
+      rooms = let q = ap length full in let z = length-replicate (root_count es) nothing in omega (arith, q, z);
+      roots = omega (arith, p);
+    }
 
-pub value_made : (acts pending new : List Act) (n : ℕ) (x : Parts) (b : Bool) (rest : List Entry) → b ≡ waits x pending → b ≡ false → new ≡ acts ++ Made n x ∷ [] → new ++ in_turn rest (n + 1) pending ≡ acts ++ in_turn (Value x ∷ rest) n pending
-value_made acts pending new n x b rest is t e =
-    ap (λ z. z ++ in_turn rest (n + 1) pending) e ∙ append_assoc acts (Made n x ∷ []) (in_turn rest (n + 1) pending)
-    ∙ ap (λ z. acts ++ (Made n x ∷ in_turn rest z pending)) (let q : n + 1 ≡ suc n = omega arith in q)
-    ∙ value_by acts (in_turn rest (suc n) (pending ++ Made n x ∷ [])) (in_turn rest (suc n) pending) n x (waits x pending) false (sym is ∙ t)
+pub turned_all : (es : List Entry) (id : ℕ) (acts : List Act) (first : List ℕ) (ws : List Bool) (lists : List (List Act)) (passed : ℕ) → AreFormed es 0 → length es ≤ id → AreTurned es id acts first ws lists passed → acts ≡ in_turn es 0 []
+turned_all es id acts first ws lists passed formed l h =
+    sym (at_drop_all (λ (rest : List Entry). acts ++ by_lists first rest passed ws lists) es id l ∙ append-nil acts) ∙ h.turns ∙ all_turned es formed
 
-pub root_acts : (acts pending mid others new : List Act) (n : ℕ) (x : Parts) (rest : List Entry) → mid ≡ acts ++ (parted (kids_list x.kids) (reversed pending)).below → others ≡ (parted (kids_list x.kids) (reversed pending)).others → new ≡ mid ++ Acts x ∷ [] → new ++ in_turn rest n others ≡ acts ++ in_turn (Root x ∷ rest) n pending
-root_acts acts pending mid others new n x rest is os e =
-    ap (λ z. z ++ in_turn rest n others) e ∙ append_assoc mid (Acts x ∷ []) (in_turn rest n others)
-    ∙ (λ i. is i ++ (Acts x ∷ in_turn rest n (os i)))
-    ∙ append_assoc acts (parted (kids_list x.kids) (reversed pending)).below (Acts x ∷ in_turn rest n (parted (kids_list x.kids) (reversed pending)).others)
+module _ (es : List Entry) (id : ℕ) (acts : List Act) (first : List ℕ) (ws : List Bool) (lists : List (List Act)) (passed : ℕ) (h : AreTurned es id acts first ws lists passed) where
+  module _ (x : Parts) (is : slice_get es id ≡ Some (Value x)) where
+    pub node_left : length ws < length first
+    node_left =
+        let s = ap node_count (drop_get es id (Value x) is) in let a = h.nodes in let b = ap length h.told in let c = length_first es 0 0 in
+        omega (arith, s, a, b, c)
 
--- what was parted at the end
-pub parted_all : (sel : Parted → List Act) (numbers ns : List ℕ) (i : ℕ) (waiting pending found : List Act) → sel (record { below = []; others = [] }) ≡ [] → length waiting ≤ i → waiting ≡ reverse pending → sel (parted numbers (drop i waiting)) ++ reverse found ≡ sel (parted ns waiting) → reverse found ≡ sel (parted ns (reversed pending))
-parted_all sel numbers ns i waiting pending found none l is e =
-    let end = at_drop_all (λ (rest : List Act). sel (parted numbers rest) ++ reverse found) waiting i l in
-    sym (end ∙ ap (λ z. z ++ reverse found) none) ∙ e ∙ ap (λ z. sel (parted ns z)) (is ∙ sym (reversed_is pending))
+    pub node_below : AreFormed es 0 → AreBelow (length ws) x.kids
+    node_below formed =
+        let s = drop_get es id (Value x) is in
+        let a = h.nodes in
+        let f : AreFormed (Value x ∷ drop (id + 1) es) (length ws) = subst (λ z. AreFormed z (length ws)) s (formed_drop id es 0 (length ws) (omega (arith, a)) formed) in
+        f.0
 
-drop_get : {X : Type 0} (xs : List X) (i : ℕ) (x : X) → slice_get xs i ≡ Some x → drop i xs ≡ x ∷ drop (i + 1) xs
-drop_get [] i x e = let no : ⊥ = cc in absurd no
-drop_get (y ∷ ys) zero x e = let q : y ≡ x = cc in ap (λ z. z ∷ ys) q
-drop_get (y ∷ ys) (suc i) x e = drop_get ys i x e ∙ ap (λ k. x ∷ drop k (y ∷ ys)) (let z : suc (i + 1) ≡ suc i + 1 = omega arith in z)
+    pub node_turned : (acts' : List Act) (first' : List ℕ) (ws' : List Bool) (lists' : List (List Act)) (passed' : ℕ) → acts' ++ by_lists first' (drop (id + 1) es) passed' ws' lists' ≡ acts ++ by_lists first (Value x ∷ drop (id + 1) es) passed ws lists
+        → first' ≡ first → length ws' ≡ length ws + 1 → length lists' ≡ length lists → passed' ≡ passed → AreTurned es (id + 1) acts' first' ws' lists' passed'
+    node_turned acts' first' ws' lists' passed' step f w l p =
+        let s = drop_get es id (Value x) is in
+        record {
+          turns = step ∙ ap (λ z. acts ++ by_lists first z passed ws lists) (sym s) ∙ h.turns;
+          told = f ∙ h.told;
+          nodes = let a = h.nodes in let q = ap node_count s in omega (arith, a, q, w);
+          rooms = l ∙ h.rooms;
+          roots = let a = h.roots in let q = ap root_count s in omega (arith, a, q, p);
+        }
 
-pub one_turn : (entries : List Entry) (i : ℕ) (e : Entry) (acts pending later waiting total : List Act) (n m : ℕ) → slice_get entries i ≡ Some e → later ++ in_turn (drop (i + 1) entries) m waiting ≡ acts ++ in_turn (e ∷ drop (i + 1) entries) n pending → acts ++ in_turn (drop i entries) n pending ≡ total → later ++ in_turn (drop (i + 1) entries) m waiting ≡ total
-one_turn entries i e acts pending later waiting total n m is step inv = step ∙ ap (λ z. acts ++ in_turn z n pending) (sym (drop_get entries i e is)) ∙ inv
+  module _ (x : Parts) (is : slice_get es id ≡ Some (Root x)) where
+    pub root_left : passed < length lists
+    root_left = let s = ap root_count (drop_get es id (Root x) is) in let a = h.roots in let b = h.rooms in omega (arith, s, a, b)
+
+    pub root_turned : (acts' : List Act) (first' : List ℕ) (ws' : List Bool) (lists' : List (List Act)) (passed' : ℕ) → acts' ++ by_lists first' (drop (id + 1) es) passed' ws' lists' ≡ acts ++ by_lists first (Root x ∷ drop (id + 1) es) passed ws lists
+        → first' ≡ first → length ws' ≡ length ws → length lists' ≡ length lists → passed' ≡ passed + 1 → AreTurned es (id + 1) acts' first' ws' lists' passed'
+    root_turned acts' first' ws' lists' passed' step f w l p =
+        let s = drop_get es id (Root x) is in
+        record {
+          turns = step ∙ ap (λ z. acts ++ by_lists first z passed ws lists) (sym s) ∙ h.turns;
+          told = f ∙ h.told;
+          nodes = let a = h.nodes in let q = ap node_count s in omega (arith, a, q, w);
+          rooms = l ∙ h.rooms;
+          roots = let a = h.roots in let q = ap root_count s in omega (arith, a, q, p);
+        }

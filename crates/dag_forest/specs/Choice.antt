@@ -9,7 +9,7 @@ use Rattle.op_forest.specs.declared.suffix.Suffix.TheVariants as suffix
 use Rattle.dag_forest.specs.declared.kids.Kids.{Kids}
 use Rattle.dag_forest.specs.declared.kids.Kids.TheVariants.{Zero, One, Two}
 use Rattle.dag_forest.specs.declared.kind.Kind.{Kind}
-use Rattle.dag_forest.specs.declared.kind.Kind.TheVariants.{Signed, Unsigned, Address}
+use Rattle.dag_forest.specs.declared.kind.Kind.TheVariants.{Char, Short, Signed, Unsigned, Address}
 use Rattle.dag_forest.specs.declared.parts.Parts.{Parts}
 use Rattle.dag_forest.specs.declared.uses.Times.{Times}
 use Rattle.dag_forest.specs.declared.uses.Times.TheVariants.{Never, Once, More}
@@ -88,6 +88,8 @@ abbrev pub reads_by : (ℕ → Bool) → Parts → Bool
 reads_by reads x = is_read x.operator.op || kids_read reads x.kids
 
 abbrev pub kind_of : Suffix → Kind
+kind_of suffix.C = Char
+kind_of suffix.S = Short
 kind_of suffix.U = Unsigned
 kind_of suffix.P = Address
 kind_of x = Signed

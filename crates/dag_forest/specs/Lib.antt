@@ -4,6 +4,7 @@ pub mod Keys
 pub mod SameKeys
 pub mod Tally
 pub mod Schedules
+pub mod Releases
 pub mod Meaning
 pub mod Emission
 pub mod Meant

@@ -4,7 +4,7 @@
 use Rattle.std.specs.Prelude.{◌≡◌, ℕ, zero, suc, ◌||◌, Bool, true, false, Option, Some, None, List, [], ◌∷◌, slice_get}
 use Rattle.op_forest.specs.Nodes.{Head}
 use Rattle.op_forest.specs.Nodes.{Node as Tree}
-use Rattle.forests.specs.Words.{Word, IsWord}
+use Rattle.forests.specs.Words.{Word, IsWord, narrow}
 use Rattle.forests.specs.Worlds.{World, Point, at_world, Next, To, End, Effect, Went, Exits, Unfinished, Stuck}
 use Rattle.forests.specs.Bodies.{Setting, does}
 use Rattle.forests.specs.Bodies.{evaluate}
@@ -13,10 +13,20 @@ use Rattle.dag_forest.specs.Entries.{is_call, is_read, is_write}
 use Rattle.dag_forest.specs.declared.parts.Parts.{Parts}
 use Rattle.dag_forest.specs.Schedules.{Act, Made, Acts, head_of, operands, at}
 
--- A temporary: its object, the tree that reads it, the root that stores a tree in it, whether it may be written in a world,
--- and the world in which it has a value.
+-- what a temporary can keep: any word, or a number of so many bits
+pub data Content : Type 0 where
+  WholeWord : Content
+  LowBits : (bits : ℕ) → Content
+
+abbrev pub IsOf : Content → Word → Type 0
+IsOf WholeWord v = IsWord v
+IsOf (LowBits bits) v = (n : ℕ) × (v ≡ narrow bits n)
+
+-- A temporary: its object, what it can keep, the tree that reads it, the root that stores a tree in it, whether it may be
+-- written in a world, and the world in which it has a value.
 pub record Temporary : Type 0 where
   pub object : ℕ
+  pub content : Content
   pub read : Tree
   pub store : Tree → Tree
   pub is_there : World → Bool
@@ -28,10 +38,13 @@ Keeps = ℕ → Option Temporary
 abbrev pub IsThere : Temporary → World → Type 0
 IsThere t w = t.is_there w ≡ true
 
+abbrev pub CanKeep : Temporary → Word → Type 0
+CanKeep t v = IsOf t.content v
+
 -- what the rows of operators make of a temporary
 pub record IsTemporary (s : Setting) (t : Temporary) : Type 0 where
-  pub reads : (v : Word) (w : World) (p : Point) → IsWord v → IsThere t w → slice_get p.world.objects t.object ≡ slice_get (t.put v w).objects t.object → evaluate s t.read p ≡ Went (v ∷ []) p Next
-  pub stores : (tree : Tree) (v : Word) (p p1 : Point) → evaluate s tree p ≡ Went (v ∷ []) p1 Next → IsThere t p1.world → evaluate s (t.store tree) p ≡ Went [] (at_world p1 (t.put v p1.world)) Next
+  pub reads : (v : Word) (w : World) (p : Point) → CanKeep t v → IsThere t w → slice_get p.world.objects t.object ≡ slice_get (t.put v w).objects t.object → evaluate s t.read p ≡ Went (v ∷ []) p Next
+  pub stores : (tree : Tree) (v : Word) (p p1 : Point) → evaluate s tree p ≡ Went (v ∷ []) p1 Next → CanKeep t v → IsThere t p1.world → evaluate s (t.store tree) p ≡ Went [] (at_world p1 (t.put v p1.world)) Next
   pub exits : (tree : Tree) (p : Point) (status : ℕ) (w : World) → evaluate s tree p ≡ Exits status w → evaluate s (t.store tree) p ≡ Exits status w
   pub unfinished : (tree : Tree) (p : Point) (w : World) → evaluate s tree p ≡ Unfinished w → evaluate s (t.store tree) p ≡ Unfinished w
   pub others : (v : Word) (w : World) (o : ℕ) → (o ≡ t.object → ⊥) → slice_get (t.put v w).objects o ≡ slice_get w.objects o
@@ -91,9 +104,9 @@ Leaves false keeps made w w1 = (o : ℕ) → slice_get w1.objects o ≡ slice_ge
 -- a value is kept, which takes a step; a call takes one as well
 abbrev pub MadeRuns : Bool → Option Temporary → Setting → Keeps → (ℕ → Bool) → Head → List Word → ℕ → World → Ran → (Word → Point → Type 0) → Type 0
 MadeRuns false None s keeps made h ws left w r go = (v : Word) × HasNow (is_read h.operator.op) s keeps made h ws w v × go v (with_left left w)
-MadeRuns false (Some t) s keeps made h ws left w r go = spent left (r ≡ Out w) (λ l. (v : Word) × HasNow (is_read h.operator.op) s keeps made h ws w v × IsWord v × IsThere t w × go v (with_left l (t.put v w)))
+MadeRuns false (Some t) s keeps made h ws left w r go = spent left (r ≡ Out w) (λ l. (v : Word) × HasNow (is_read h.operator.op) s keeps made h ws w v × CanKeep t v × IsThere t w × go v (with_left l (t.put v w)))
 MadeRuns true None s keeps made h ws left w r go = ⊥
-MadeRuns true (Some t) s keeps made h ws left w r go = spent left (r ≡ Out w) (λ l. Handed (does s h ws (with_left l w)) r (λ v p. Same keeps made w p.world × IsWord v × IsThere t p.world × go v (at_world p (t.put v p.world))))
+MadeRuns true (Some t) s keeps made h ws left w r go = spent left (r ≡ Out w) (λ l. Handed (does s h ws (with_left l w)) r (λ v p. Same keeps made w p.world × CanKeep t v × IsThere t p.world × go v (at_world p (t.put v p.world))))
 
 -- From the values of the nodes that are made the acts do so, with so many root steps.
 abbrev pub Runs : Setting → Keeps → List Act → (ℕ → Bool) → (ℕ → Word) → ℕ → World → Ran → Type 0

@@ -1,6 +1,6 @@
 -- Trees have the meaning of a block where each run of the block is theirs: then they do what the block does, and go on behind.
 use Rattle.std.specs.Prelude.{◌≡◌, ℕ, false, Some, List}
-use Rattle.op_forest.specs.Bodies.{behind}
+use Rattle.op_forest.specs.Labels.{behind}
 use Rattle.op_forest.specs.Nodes.{Node as Tree}
 use Rattle.forests.specs.Words.{unknown}
 use Rattle.forests.specs.Worlds.{World, Point, Outcome, Finished, Going}

@@ -8,7 +8,7 @@ ghost use Rattle.dag_forest.specs.Tally.{IsFresh};
 use crate::choice::choose;
 use crate::emission::trees_of;
 use crate::entry::Entry;
-use crate::frames::{grown, lowest};
+use crate::frames::{lowest, slots_below};
 use crate::key::Key;
 use crate::kids::Kids;
 use crate::parts::Parts;
@@ -139,9 +139,11 @@ impl Block {
     {
         let nodes = self.keys.len();
         let steps = used_steps(alloc, acts_in_turn(alloc, &self.entries)?, nodes)?;
-        let choice = choose(alloc, &steps, nodes, lowest(frame.slots()))?;
+        let lowest = lowest(frame.slots());
+        let choice = choose(alloc, &steps, nodes, lowest)?;
         let trees = trees_of(alloc, &steps, &choice.standing)?;
-        *frame = grown(alloc, frame, choice.slots)?;
+        let slots = slots_below(alloc, lowest, choice.slots)?;
+        frame.extend(slots.as_slice())?;
         Ok(trees)
     }
 

@@ -1,10 +1,9 @@
 //! New slots below those of a frame.
-ghost use Rattle.std.specs.Prelude.{◌≡◌, ◌++◌, IfOk, pos};
-ghost use Rattle.op_forest.specs.Frames.{IsFrame};
+ghost use Rattle.std.specs.Prelude.{◌≡◌, IfOk};
 ghost use Rattle.dag_forest.specs.NewSlots.{lowest, offset_below, slots_below};
 
-use lcc_base::{Items, Memory};
-use op_forest::{Frame, Slot};
+use lcc_base::Memory;
+use op_forest::Slot;
 use std::alloc::Global;
 use std::cmp::min;
 
@@ -33,16 +32,15 @@ pub(crate) fn offset_below(lowest: i32, number: u32) -> Result<i32, Memory>
     }
 }
 
-/// The frame with so many new slots below its lowest one.
-pub(crate) fn grown(alloc: Global, frame: &Frame, number: u32) -> Result<Frame, Memory>
-    ensures { IfOk result (λ f. f ≡ frame.now ++ slots_below (lowest frame.now) number) }
+/// So many new slots below a lowest one. `Memory` comes where an allocation is refused, or where a slot
+/// would begin below -2^31.
+pub(crate) fn slots_below(alloc: Global, lowest: i32, number: u32) -> Result<Vec<Slot>, Memory>
+    ensures { IfOk result (λ v. v.items ≡ slots_below lowest number) }
 {
-    let lowest = lowest(frame.slots());
     let mut slots = Vec::new(alloc);
-    slots.extend_from_slice(frame.slots())?;
     for n in 0..number {
         let offset = offset_below(lowest, n)?;
         slots.push(Slot { offset, size: WORD })?;
     }
-    Ok(Frame::of_slots(Items::from_vec(slots)))
+    Ok(slots)
 }

@@ -3,9 +3,11 @@ ghost use Rattle.dag_forest.specs.Choice.{kind_of};
 
 use op_forest::Suffix;
 
-/// What is kept in a temporary: a signed or unsigned number, or an address.
+/// What is kept in a temporary: a number of 8 or 16 bits, a signed or unsigned one, or an address.
 #[derive(Clone, Copy, Debug, PartialEq, Eq)]
 pub enum Kind {
+    Char,
+    Short,
     Signed,
     Unsigned,
     Address,
@@ -17,6 +19,8 @@ impl Kind {
         ensures { result ≡ kind_of suffix }
     {
         match suffix {
+            Suffix::C => Kind::Char,
+            Suffix::S => Kind::Short,
             Suffix::U => Kind::Unsigned,
             Suffix::P => Kind::Address,
             _ => Kind::Signed,

@@ -13,12 +13,14 @@ mod kids;
 mod kind;
 mod laws;
 mod parts;
+mod roots;
 mod slot_trees;
 mod standing;
 #[cfg(test)]
 mod tests;
 mod turns;
 mod uses;
+mod waiting;
 
 pub use act::Act;
 pub use block::Block;
@@ -26,7 +28,10 @@ pub use entry::Entry;
 pub use key::Key;
 pub use kids::Kids;
 pub use kind::Kind;
-pub use laws::{blocks_are_split, slots_are_temporaries, trees_do_what_blocks_do};
+pub use laws::{
+    blocks_are_split, narrow_operators_give_narrow_words, slots_are_temporaries,
+    trees_do_what_blocks_do,
+};
 pub use parts::Parts;
 pub use standing::Standing;
 pub use uses::{Step, Times, Use};

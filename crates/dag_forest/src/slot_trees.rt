@@ -15,6 +15,8 @@ pub(crate) fn slot_read(alloc: Global, kind: Kind, offset: i32) -> Result<Tree, 
 {
     let address = slot_address(alloc, offset);
     match kind {
+        Kind::Char => one(alloc, Op::Indir, Suffix::C, address),
+        Kind::Short => one(alloc, Op::Indir, Suffix::S, address),
         Kind::Signed => one(alloc, Op::Indir, Suffix::I, address),
         Kind::Unsigned => {
             let read = one(alloc, Op::Indir, Suffix::I, address)?;
@@ -30,6 +32,8 @@ pub(crate) fn slot_store(alloc: Global, kind: Kind, offset: i32, tree: Tree) -> 
 {
     let address = slot_address(alloc, offset);
     match kind {
+        Kind::Char => store(alloc, Suffix::C, address, tree),
+        Kind::Short => store(alloc, Suffix::S, address, tree),
         Kind::Signed => store(alloc, Suffix::I, address, tree),
         Kind::Unsigned => {
             let tree = one(alloc, Op::Cvu, Suffix::I, tree)?;

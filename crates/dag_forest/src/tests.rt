@@ -1,8 +1,14 @@
+ghost use Rattle.std.specs.Prelude.{◌<◌, ◌≤◌, length, OnOk};
+ghost use Rattle.dag_forest.specs.Tally.{keys_of};
+
 use crate::{Block, Kids};
 use lcc_base::Items;
 use op_forest::{Frame, Op, Operator, Slot, Suffix, Sym, Tree};
 use std::alloc::Global;
 use std::test::Fail;
+
+mod compared;
+mod plain;
 
 const READ: Operator = Operator {
     op: Op::Indir,
@@ -283,6 +289,84 @@ fn a_read_of_two_roots_is_kept_over_the_first(rt: HostRuntime) -> Result<(), Fai
         read_of_two_roots(alloc)?,
         read_kept_for_two_roots(alloc)?,
     )?;
+    assert_eq!(rt; text, wanted);
+    Ok(())
+}
+
+const READ_CHAR: Operator = Operator {
+    op: Op::Indir,
+    suffix: Suffix::C,
+};
+
+const WRITE_CHAR: Operator = Operator {
+    op: Op::Asgn,
+    suffix: Suffix::C,
+};
+
+const READ_SHORT: Operator = Operator {
+    op: Op::Indir,
+    suffix: Suffix::S,
+};
+
+const WRITE_SHORT: Operator = Operator {
+    op: Op::Asgn,
+    suffix: Suffix::S,
+};
+
+// Writes a node to two names.
+fn write_twice(block: &mut Block, write: Operator, node: u32) -> Result<(), Fail>
+    requires { node < length (keys_of block.old) }
+    ensures { OnOk result (length (keys_of block.old) ≤ length (keys_of block.new)) }
+{
+    let y = block.value(ADDRESS, Kids::Zero, global(2), None)?;
+    block.root(write, Kids::Two(y, node), Sym::Nothing)?;
+    let z = block.value(ADDRESS, Kids::Zero, global(3), None)?;
+    block.root(write, Kids::Two(z, node), Sym::Nothing)?;
+    Ok(())
+}
+
+// A char and a short are read, and each is written to two names.
+fn narrow_reads(alloc: Global) -> Result<Block, Fail> {
+    let mut block = Block::new(alloc);
+    let c = block.value(ADDRESS, Kids::Zero, global(0), None)?;
+    let s = block.value(ADDRESS, Kids::Zero, global(1), None)?;
+    let char = block.value(READ_CHAR, Kids::One(c), Sym::Nothing, None)?;
+    let short = block.value(READ_SHORT, Kids::One(s), Sym::Nothing, None)?;
+    write_twice(&mut block, WRITE_CHAR, char)?;
+    write_twice(&mut block, WRITE_SHORT, short)?;
+    Ok(block)
+}
+
+// The roots that write what the slot at this offset keeps to the two names.
+fn push_writes(
+    alloc: Global,
+    trees: &mut Items<Tree>,
+    write: Operator,
+    read: Operator,
+    offset: i64,
+) -> Result<(), Fail> {
+    let first = one(alloc, read, slot(alloc, offset))?;
+    trees.push(two(alloc, write, name(alloc, 2), first)?)?;
+    let second = one(alloc, read, slot(alloc, offset))?;
+    trees.push(two(alloc, write, name(alloc, 3), second)?)?;
+    Ok(())
+}
+
+fn narrow_reads_kept(alloc: Global) -> Result<Items<Tree>, Fail> {
+    let mut expected = Items::new(alloc);
+    let char = one(alloc, READ_CHAR, name(alloc, 0))?;
+    expected.push(two(alloc, WRITE_CHAR, slot(alloc, -4), char)?)?;
+    let short = one(alloc, READ_SHORT, name(alloc, 1))?;
+    expected.push(two(alloc, WRITE_SHORT, slot(alloc, -8), short)?)?;
+    push_writes(alloc, &mut expected, WRITE_CHAR, READ_CHAR, -4)?;
+    push_writes(alloc, &mut expected, WRITE_SHORT, READ_SHORT, -8)?;
+    Ok(expected)
+}
+
+#[test]
+fn a_char_and_a_short_are_kept_as_such(rt: HostRuntime) -> Result<(), Fail> {
+    let alloc = rt.alloc();
+    let (text, wanted) = texts(alloc, narrow_reads(alloc)?, narrow_reads_kept(alloc)?)?;
     assert_eq!(rt; text, wanted);
     Ok(())
 }
