@@ -14,13 +14,12 @@ use Rattle.op_forest.specs.declared.op.Op.TheVariants as op
 use Rattle.op_forest.specs.declared.suffix.Suffix.{Suffix}
 use Rattle.op_forest.specs.declared.suffix.Suffix.TheVariants.{C, S}
 use Rattle.op_forest.specs.Nodes.{Head}
-use Rattle.forests.specs.Words.{Word, Plain, Label, Partly, narrow, low_number}
+use Rattle.forests.specs.Words.{Word, Plain, Label, Partly, narrow, low_number, number_of}
 use Rattle.forests.specs.Objects.{Object, shapes, bytes_through}
 use Rattle.forests.specs.Accesses.{defined, number_read, number_cause}
 use Rattle.forests.specs.Actions.{Gave, gave, changed}
 use Rattle.forests.specs.Addresses.{Environment}
 use Rattle.forests.specs.Numbers.{narrow_constant, narrowed_by}
-use Rattle.forests.specs.Words.{number_of}
 use Rattle.forests.specs.Rows.{acts, leaf_row, unary_row, binary_row}
 
 -- a number of so many bits

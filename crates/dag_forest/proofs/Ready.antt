@@ -30,7 +30,7 @@ kids_below n Zero h = tt
 kids_below n (One a) h = h
 kids_below n (Two a c) h = (h.0, h.1)
 
-below_more : (n p : ℕ) (k : Kids) → n ≤ p → AreBelow n k → AreBelow p k
+pub below_more : (n p : ℕ) (k : Kids) → n ≤ p → AreBelow n k → AreBelow p k
 below_more n p Zero l h = tt
 below_more n p (One a) l h = omega (arith, l, h)
 below_more n p (Two a c) l h = (omega (arith, l, h.0), omega (arith, l, h.1))
@@ -102,7 +102,7 @@ in_kids ns P Zero f = tt
 in_kids ns P (One a) f = f a (inl refl)
 in_kids ns P (Two a c) f = (f a (inl refl), f c (inr (inl refl)))
 
-reversed_snoc : (xs : List Act) (a : Act) → reversed (xs ++ a ∷ []) ≡ a ∷ reversed xs
+pub reversed_snoc : (xs : List Act) (a : Act) → reversed (xs ++ a ∷ []) ≡ a ∷ reversed xs
 reversed_snoc [] a = refl
 reversed_snoc (x ∷ xs) a = ap (λ z. z ++ x ∷ []) (reversed_snoc xs a)
 

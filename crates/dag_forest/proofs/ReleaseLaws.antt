@@ -13,6 +13,7 @@ use Rattle.dag_forest.specs.Entries.{AreBelow, is_call}
 use Rattle.dag_forest.specs.Tally.{AreFormed, node_count}
 use Rattle.dag_forest.specs.Schedules.{Act, Made, Acts, Parted, with_below, with_other, is_in, has_kid_in, kids_list, kids_of, number_of, numbers, waits, parted, reversed, in_turn}
 use Rattle.dag_forest.specs.Releases.{root_count, lowered, lowered_kids, first_roots, is_left, has_kid_left, listed, by_lists}
+use Rattle.dag_forest.proofs.Ready.{below_more, reversed_snoc}
 
 -- ---- the first roots, as a map
 
@@ -89,11 +90,6 @@ kids_tell r (Two a c) xs f below h m l =
     one_tells r c (lowered r a xs) (λ m. pick (m == a) r (f m)) (omega (arith, lc, len)) (one_tells r a xs f below.0 h) m l
     ∙ pick_or (m == a) (m == c) r (f m) ∙ ap (λ b. pick ((m == a) || b) r (f m)) (or_false_right (m == c))
 
-pub below_more : (n p : ℕ) (k : Kids) → n ≤ p → AreBelow n k → AreBelow p k
-below_more n p Zero l h = tt
-below_more n p (One a) l h = omega (arith, l, h)
-below_more n p (Two a c) l h = (let z = h.0 in omega (arith, l, z), let z = h.1 in omega (arith, l, z))
-
 first_tells : (es : List Entry) (n r : ℕ) → AreFormed es n → Tells (first_roots es n r) (firsts es n r)
 first_tells [] n r formed m l = let len = length-replicate n r in get_or-replicate n m r 0 (omega (arith, l, len))
 first_tells (Value x ∷ es) n r formed m l =
@@ -140,10 +136,6 @@ keys_same (a ∷ as') f g h =
     or_right false b h = h
 
 -- ---- appending
-
-reversed_snoc : (xs : List Act) (a : Act) → reversed (xs ++ a ∷ []) ≡ a ∷ reversed xs
-reversed_snoc [] a = refl
-reversed_snoc (x ∷ xs) a = ap (λ z. z ++ x ∷ []) (reversed_snoc xs a)
 
 reversed_twice : (xs : List Act) → reversed (reversed xs) ≡ xs
 reversed_twice [] = refl

@@ -9,7 +9,8 @@ use Rattle.dag_forest.specs.Entries.{AreBelow}
 use Rattle.dag_forest.specs.Tally.{AreFormed, node_count}
 use Rattle.dag_forest.specs.Releases.{root_count, lowered_kids, first_roots}
 use Rattle.dag_forest.proofs.Counts.{drop_get, node_or_root, fewer_nodes, fewer_roots, formed_drop}
-use Rattle.dag_forest.proofs.ReleaseLaws.{below_more, length_first}
+use Rattle.dag_forest.proofs.Ready.{below_more}
+use Rattle.dag_forest.proofs.ReleaseLaws.{length_first}
 
 -- what the entries behind the first ones tell, where so many nodes and roots are before
 pub record AreFirst (es : List Entry) (id : ℕ) (first : List ℕ) (node root : ℕ) : Type 0 where

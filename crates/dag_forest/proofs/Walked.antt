@@ -13,7 +13,7 @@ use Rattle.dag_forest.specs.Entries.{AreBelow}
 use Rattle.dag_forest.specs.Schedules.{Act, Made, Acts, kids_of, used, reversed}
 use Rattle.dag_forest.specs.Choice.{hits, in_kids, counts, times_of, is_above, ends_stretch, late, IsLow}
 use Rattle.dag_forest.specs.Walks.{step_before, steps_of, no_use, step_of, is_never, unused, used_more, noted, noted_kids, ends_before, walk}
-use Rattle.dag_forest.proofs.Ready.{AllLow, low_reversed, reversed_is}
+use Rattle.dag_forest.proofs.Ready.{AllLow, below_more, low_reversed, reversed_is}
 use Rattle.dag_forest.proofs.Fits.{is_counted, hit, miss}
 
 -- what is noted of a node that is used so often, and so late
@@ -75,11 +75,6 @@ act_noted : (a : Act) (as' : List Act) (uses : List Use) (ends : ℕ) → AreBel
 act_noted a as' uses ends low h =
     kids_noted (ends_before a ends) (kids_of a) uses (counts as') (λ m. if ends_stretch a then is_above (counts as' m) else late as' m) low
     (λ m lt. past_end (ends_stretch a) ends (get_or uses m no_use) (counts as' m) (late as' m) (h m lt))
-
-below_more : (n p : ℕ) (k : Kids) → n ≤ p → AreBelow n k → AreBelow p k
-below_more n p Zero l h = tt
-below_more n p (One a) l h = omega (arith, l, h)
-below_more n p (Two a c) l h = (omega (arith, l, h.0), omega (arith, l, h.1))
 
 pub low_kids : (k : ℕ) (a : Act) → IsLow k a → AreBelow k (kids_of a)
 low_kids k (Made n x) h = below_more n k x.kids (let z = h.0 in omega (arith, z)) h.1

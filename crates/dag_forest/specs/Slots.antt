@@ -49,20 +49,22 @@ slot_store Signed offset t = TwoTree (head op.Asgn I None) (slot_address offset)
 slot_store Unsigned offset t = TwoTree (head op.Asgn I None) (slot_address offset) (OneTree (head op.Cvu I None) t)
 slot_store Address offset t = TwoTree (head op.Asgn P None) (slot_address offset) t
 
+-- what a slot can keep, by what it keeps a node as
 abbrev pub content_of : Kind → Content
 content_of Char = LowBits (bits_in width.One)
 content_of Short = LowBits (bits_in width.Two)
 content_of k = WholeWord
 
+-- the bytes of so many low bits, where these are known
 abbrev pub known_low : Order → Width → Option ℕ → List (Byte Word)
 known_low order w None = []
 known_low order w (Some n) = known_bytes (number_bytes order (bytes_in w) n)
 
--- the bytes of a word's low number
+-- a word's low bits as bytes
 abbrev pub low_bytes : Order → Width → Word → List (Byte Word)
 low_bytes order w v = known_low order w (low_number (bits_in w) v)
 
--- the bytes of a value that is kept
+-- the bytes that a slot keeps of a value
 abbrev pub kept_bytes : Order → Kind → Word → List (Byte Word)
 kept_bytes order Char v = low_bytes order width.One v
 kept_bytes order Short v = low_bytes order width.Two v

@@ -1,6 +1,6 @@
 -- The code of a forest's roots does what the roots do: it goes on behind a root, at its caller, or at a label, whose mark
 -- stands in the code of the root that is the label.
-use Rattle.std.proofs.Common.{◌≡◌, ◌⊎◌, ℕ, zero, suc, ◌==◌, ◌+◌, ◌<◌, ◌≤◌, Bool, true, false, Option, Some, None, List, [], ◌∷◌, ◌++◌, length, All, if◌then◌else◌, refl, sym, ap, ◌∙◌, subst, arith, ⊎_elim}
+use Rattle.std.proofs.Common.{◌≡◌, ℕ, zero, suc, ◌==◌, ◌<◌, ◌≤◌, Bool, true, false, Option, Some, None, List, [], ◌∷◌, ◌++◌, length, All, if◌then◌else◌, refl, sym, ap, ◌∙◌, subst, arith, ⊎_elim}
 use Rattle.std.specs.List.{AllByRecursion}
 use Rattle.std.proofs.lemmas.Bool.{cases_Bool, cond-true, cond-false, false≢true, eq-eqb, eqb-true}
 use Rattle.std.proofs.lemmas.List.Elements.{All-head, All-tail}
@@ -8,10 +8,9 @@ use Rattle.std.proofs.lemmas.Option.{same_Some}
 use Rattle.lburg_model.specs.Derivation.{MDerivation}
 use Rattle.op_forest.specs.declared.op.Op.{Op}
 use Rattle.op_forest.specs.declared.op.Op.TheVariants as op
-use Rattle.op_forest.specs.declared.suffix.Suffix.TheVariants.{V}
 use Rattle.op_forest.specs.declared.sym.Sym.{Sym}
 use Rattle.op_forest.specs.declared.sym.Sym.TheVariants as symbol
-use Rattle.op_forest.specs.Nodes.{Head, Node, Leaf, One, Two, head_of}
+use Rattle.op_forest.specs.Nodes.{Node, Leaf, One, Two, head_of}
 use Rattle.op_forest.specs.Labels.{label_by, label_of, behind_by, behind}
 use Rattle.forests.specs.Words.{Word}
 use Rattle.forests.specs.Worlds.{Point, Next, To, End, Effect, Went, Exits, Unfinished, Stuck, goes, Outcome, Failed}
@@ -27,7 +26,7 @@ use Rattle.vcode.specs.Roots.{IsQuiet}
 use Rattle.vcode.specs.Emission.{Emitted, Emits, EmitsRoots, NoRoot, OneRoot}
 use Rattle.vcode.proofs.Registers.{takes}
 use Rattle.vcode.proofs.Following.{one_follows}
-use Rattle.vcode.proofs.Still.{Rooted, rooted}
+use Rattle.vcode.proofs.Still.{is_the_label, Rooted, rooted}
 
 -- ---- labels
 
@@ -38,10 +37,6 @@ symbol_is op.Label (symbol.Label k) l e = (refl, ap symbol.Label (same_label k l
     same_label : (k l : ℕ) → Some k ≡ Some l → k ≡ l
     same_label k l e = cc
 symbol_is o x l e = absurd (let never : ⊥ = cc in never)
-
-is_the_label : (o : Op) → is_label o ≡ true → o ≡ op.Label
-is_the_label op.Label h = refl
-is_the_label o h = absurd (false≢true h)
 
 some_none : {A : Type 0} (x : A) → Some x ≡ None → ⊥
 some_none x e = cc

@@ -86,7 +86,7 @@ pub not_nothing : {A : Type 0} (xs : List A) (x : A) → xs ++ x ∷ [] ≡ [] �
 not_nothing [] x e = cc
 not_nothing (y ∷ xs) x e = cc
 
-is_the_label : (o : Op) → is_label o ≡ true → o ≡ op.Label
+pub is_the_label : (o : Op) → is_label o ≡ true → o ≡ op.Label
 is_the_label op.Label h = refl
 is_the_label o h = absurd (both_ways false refl h)
 
