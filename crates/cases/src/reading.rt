@@ -1,7 +1,6 @@
 //! Reading a case file, line by line.
-use crate::bytes::{NamedText, bytes_of};
 use crate::case::{Case, Step};
-use crate::fault::CaseFault;
+use case_files::{CaseFault, NamedText, Refused, bytes_of};
 use std::alloc::{AllocError, Global};
 
 /// Where in a case file the next line stands. The sections of a case are in their order.
@@ -231,13 +230,6 @@ fn split_words(alloc: Global, text: &str) -> Result<Vec<String>, AllocError> {
         words.push(String::from_str(alloc, word)?)?;
     }
     Ok(words)
-}
-
-/// A fault of a case file, and the number of its line, from 1.
-#[derive(Clone, Copy, Debug, PartialEq, Eq)]
-pub struct Refused {
-    pub line: u64,
-    pub fault: CaseFault,
 }
 
 /// The cases of a file, in order, or the first fault. A case without a status is told at the line

@@ -1,5 +1,4 @@
-//! Streams that fail, other streams, the numbers of statuses, and the faults of descriptions and trees.
-//! What the commands print else stands in the cases of the crate `cases`.
+//! Streams that fail, and streams of other types.
 use lcc_base::{CountSink, FullSource, MemSink, MemSource};
 use lcc_top::{Status, top};
 use std::alloc::{AllocError, Global};
@@ -131,97 +130,6 @@ fn streams_fail(rt: HostRuntime) -> Result<(), Fail> {
     Ok(())
 }
 
-/// No stream fails.
-const SOUND: Failing = Failing {
-    read: 0,
-    write: 0,
-    report: 0,
-};
-
-#[test]
-fn faults_of_descriptions(rt: HostRuntime) -> Result<(), Fail> {
-    let alloc = rt.alloc();
-    let table = [
-        ("", "line 1: BadRule\n"),
-        ("%term A=1\n%%\n", "line 2: BadRule\n"),
-        ("%term A=1\n%%\ns: A \"\n", "line 3: BadToken\n"),
-        (
-            "%term A=1\n%%\ns: A(t) \"\"\nt: A(t,t) \"\"\n",
-            "line 4: ArityDiffers\n",
-        ),
-        ("%term A=1\n%%\ns: A \"\" 40000\n", "line 3: CostTooLarge\n"),
-        ("%term A=1\n%%\ns: A \"\" x\n", "line 3: CostForm\n"),
-        ("%term A=1\n%%\ns: t \"\"\n", "line 3: UnknownNonterminal\n"),
-        ("%term A=1\n%%\ns: B(s) \"\"\n", "line 3: UnknownTerminal\n"),
-        ("%term A=1 A=2\n%%\ns: A \"\"\n", "line 1: DoubleTerminal\n"),
-        // The last fault of a description comes before the first of a tree.
-        (
-            "%term A=1\n%%\ns: t \"\"\n%%\n)\n",
-            "line 3: UnknownNonterminal\n",
-        ),
-    ];
-    for (text, reported) in table {
-        let ran = call(alloc, "lburg cover", text, SOUND)?;
-        assert_eq!(rt; ran.status, Status::BadText);
-        assert_eq!(rt; ran.output.as_slice(), b"".as_slice());
-        assert_eq!(rt; ran.report.as_slice(), reported.as_bytes());
-    }
-    Ok(())
-}
-
-#[test]
-fn faults_of_trees(rt: HostRuntime) -> Result<(), Fail> {
-    let alloc = rt.alloc();
-    let table = [
-        ("%term A=1\n%%\ns: A \"\"\n%%\nA A\n", "line 5: BadTree\n"),
-        (
-            "%term A=1\n%%\ns: A \"\"\n%%\nA\n\nB\n)\n",
-            "line 7: UnknownOp\n",
-        ),
-        (
-            "%term A=1\n%%\ns: A \"\"\n%%\nA(A)\n",
-            "line 5: WrongArity\n",
-        ),
-    ];
-    for (text, reported) in table {
-        let ran = call(alloc, "lburg cover", text, SOUND)?;
-        assert_eq!(rt; ran.status, Status::BadText);
-        assert_eq!(rt; ran.output.as_slice(), b"".as_slice());
-        assert_eq!(rt; ran.report.as_slice(), reported.as_bytes());
-    }
-    Ok(())
-}
-
-#[test]
-fn limit_of_numbers(rt: HostRuntime) -> Result<(), Fail> {
-    let text = "%term A=2147483648\n%%\ns: A \"\"\n";
-    let ran = call(rt.alloc(), "lburg cover", text, SOUND)?;
-    assert_eq!(rt; ran.status, Status::Limit);
-    assert_eq!(rt; ran.output.as_slice(), b"".as_slice());
-    assert_eq!(rt; ran.report.as_slice(), b"line 1: limit number\n".as_slice());
-    Ok(())
-}
-
-#[test]
-fn constants_in_a_range(rt: HostRuntime) -> Result<(), Fail> {
-    let text = "%term CNSTI=3
-%%
-con13: CNSTI \"%a\" range(a,-4096,4095)
-%%
-CNSTI[-4097]
-CNSTI[-4096]
-CNSTI[4095]
-CNSTI[4096]
-CNSTI
-";
-    let covered = "1: no cover\n2: cost 0: 1\n3: cost 0: 1\n4: no cover\n5: no cover\n";
-    let ran = call(rt.alloc(), "lburg cover", text, SOUND)?;
-    assert_eq!(rt; ran.status, Status::NoCover);
-    assert_eq!(rt; ran.output.as_slice(), covered.as_bytes());
-    assert_eq!(rt; ran.report.as_slice(), b"no cover: 3\n".as_slice());
-    Ok(())
-}
-
 #[test]
 fn other_streams(rt: HostRuntime) -> Result<(), Fail> {
     let alloc = rt.alloc();
@@ -235,28 +143,4 @@ fn other_streams(rt: HostRuntime) -> Result<(), Fail> {
     assert_eq!(rt; output.count(), 12);
     assert_eq!(rt; report.count(), 12);
     Ok(())
-}
-
-#[test]
-fn numbers_of_statuses(rt: HostRuntime) {
-    let table = [
-        (Status::Ok, 0),
-        (Status::Usage, 1),
-        (Status::ReadFault, 2),
-        (Status::WriteFault, 3),
-        (Status::Memory, 4),
-        (Status::InputTooLong, 5),
-        (Status::BadText, 6),
-        (Status::BadProgram, 7),
-        (Status::Limit, 8),
-        (Status::NoCover, 9),
-        (Status::Undefined, 10),
-        (Status::Stuck, 11),
-        (Status::StackOut, 12),
-        (Status::OutOfSteps, 13),
-        (Status::OutOfTurns, 14),
-    ];
-    for (status, number) in table {
-        assert_eq!(rt; status.number(), number);
-    }
 }

@@ -1,6 +1,6 @@
 //! Case files that aren't read.
-use crate::fault::CaseFault;
 use crate::reading::read_cases;
+use case_files::CaseFault;
 use std::test::Fail;
 
 #[test]

@@ -1,6 +1,0 @@
-use Rattle.std.proofs.Common.{◌≡◌, ◌++◌, take}
-use Rattle.cases.specs.Repetition.{numbered}
-use Rattle.cases.proofs.bytes.add_numbered.Given as goal
-
-abbrev pub invariant-loop-byte : goal.invariant-loop-byte
-invariant-loop-byte l = l.into.items ≡ l.initial.into.items ++ numbered l.digits (take l.byte-index l.piece)

@@ -1,6 +1,0 @@
-use Rattle.std.proofs.Common.{◌≡◌, ◌++◌}
-use Rattle.cases.specs.Repetition.{repeated}
-use Rattle.cases.proofs.bytes.add_repeated.Given as goal
-
-abbrev pub invariant-loop : goal.invariant-loop
-invariant-loop l = l.into.items ≡ l.initial.into.items ++ repeated l.counter l.piece

@@ -1,0 +1,5 @@
+//! Names by scopes: calls with ample memory.
+#![tactic(auto)]
+
+#[cfg(test)]
+mod names;
