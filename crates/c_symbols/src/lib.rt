@@ -5,8 +5,6 @@ mod declare;
 mod scope;
 mod scopes;
 mod symbol;
-#[cfg(test)]
-mod tests;
 
 pub use declare::Declare;
 pub use scope::Scope;

@@ -13,7 +13,7 @@ use Rattle.dag_forest.specs.declared.kids.Kids.TheVariants.{Zero, One, Two}
 use Rattle.dag_forest.specs.declared.standing.Standing.{Standing}
 use Rattle.dag_forest.specs.Schedules.{Act, Made, Acts, head_of, at}
 use Rattle.dag_forest.specs.Emission.{tree_by, tree_at, emit, emitted}
-use Rattle.dag_forest.specs.NewSlots.{lowest}
+use Rattle.op_forest.specs.Frames.{lowest}
 use Rattle.dag_forest.specs.Choice.{Room}
 use Rattle.dag_forest.specs.Walks.{steps_of}
 use Rattle.dag_forest.specs.Split.{temporary_of, kept_by}

@@ -11,7 +11,7 @@ use Rattle.dag_forest.specs.declared.uses.Step.{Step}
 use Rattle.dag_forest.specs.Tally.{AreFormed, node_count}
 use Rattle.dag_forest.specs.Schedules.{Act, Made, Acts, in_turn, used, acts_of}
 use Rattle.dag_forest.specs.Emission.{no_tree}
-use Rattle.dag_forest.specs.NewSlots.{lowest}
+use Rattle.op_forest.specs.Frames.{lowest}
 use Rattle.dag_forest.specs.Choice.{IsLow, chosen, rooms_to}
 use Rattle.dag_forest.specs.Walks.{steps_of}
 use Rattle.dag_forest.specs.Split.{room_of, room_count, split_trees}

@@ -6,10 +6,10 @@ use Rattle.std.specs.Prelude.{◌⊎◌, ◌&&◌, int_le, int_lt, if◌then◌e
 use Rattle.std.specs.Int.RustNames.{unsigned_abs}
 use Rattle.objects.specs.declared.value.Value.TheVariants.{Pointer}
 use Rattle.op_forest.specs.declared.frame.Slot.{Slot}
-use Rattle.op_forest.specs.Frames.{IsFrame, end_of}
+use Rattle.op_forest.specs.Frames.{IsFrame, end_of, lesser, lowest_from, lowest}
 use Rattle.forests.specs.Words.{Word, Plain}
 use Rattle.forests.specs.Addresses.{lies_in, slot_place}
-use Rattle.dag_forest.specs.NewSlots.{lesser, lowest_from, lowest, offset_below, slot_below, slots_below}
+use Rattle.dag_forest.specs.NewSlots.{offset_below, slot_below, slots_below}
 use Rattle.dag_forest.proofs.Listed.{snoc_cases}
 
 abbrev IsFour : ℤ → Type 0

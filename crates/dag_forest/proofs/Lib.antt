@@ -22,3 +22,4 @@ pub mod Finished
 mod Weights
 mod Thrift
 pub mod Splits
+mod RunExamples

@@ -25,6 +25,8 @@ use Rattle.forests.specs.Words.{Word, Plain, Partly, IsWord, narrow, low_number}
 use Rattle.forests.specs.WordBytes.{word_bytes}
 use Rattle.forests.specs.WordLaws.{stored_elsewhere, word_is_read, number_is_read}
 use Rattle.forests.specs.Objects.{Object, shapes, shape_of, stored_through}
+use Rattle.forests.specs.Alike.{AreAlike}
+use Rattle.forests.specs.Kept.{shapes-stored_through}
 use Rattle.forests.specs.Accesses.{defined, word_read, word_written, number_read, number_written, number_written_by}
 use Rattle.forests.specs.Addresses.{local}
 use Rattle.forests.specs.Worlds.{World, Point, at_world, with_objects, Next, Effect, Went, then_do}
@@ -136,6 +138,9 @@ module _ (s : Setting) (name : ObjectName) (offset : ℤ) (is : local s.environm
   others : (k : Kind) (v : Word) (w : World) (o : ℕ) → (o ≡ name.place → ⊥) → slice_get ((slot_temporary s.environment.order k name offset).put v w).objects o ≡ slice_get w.objects o
   others k v w o ne = stored_elsewhere w.objects name.place 0 (kept_bytes s.environment.order k v) o ne
 
+  shape : (k : Kind) (v : Word) (w : World) → AreAlike w.objects ((slot_temporary s.environment.order k name offset).put v w).objects
+  shape k v w = sym (shapes-stored_through w.objects (Pointer name 0) (kept_bytes s.environment.order k v))
+
   -- objects that are changed so
   change : (p : Point) (new : Option (List Object)) (objects : List Object) → new ≡ Some objects → effect_of s.call (changed new) p ≡ Went [] (at_world p (with_objects p.world objects)) Next
   change p new objects e = ap (λ x. effect_of s.call (changed x) p) e
@@ -152,6 +157,7 @@ module _ (s : Setting) (name : ObjectName) (offset : ℤ) (is : local s.environm
         exits = λ tree p status w e. stored C tree p _ e;
         unfinished = λ tree p w e. stored C tree p _ e;
         others = others Char;
+        shape = shape Char;
       }
   is_temporary Short =
       record {
@@ -160,6 +166,7 @@ module _ (s : Setting) (name : ObjectName) (offset : ℤ) (is : local s.environm
         exits = λ tree p status w e. stored S tree p _ e;
         unfinished = λ tree p w e. stored S tree p _ e;
         others = others Short;
+        shape = shape Short;
       }
   is_temporary Signed =
       record {
@@ -168,6 +175,7 @@ module _ (s : Setting) (name : ObjectName) (offset : ℤ) (is : local s.environm
         exits = λ tree p status w e. stored I tree p _ e;
         unfinished = λ tree p w e. stored I tree p _ e;
         others = others Signed;
+        shape = shape Signed;
       }
   is_temporary Unsigned =
       record {
@@ -176,6 +184,7 @@ module _ (s : Setting) (name : ObjectName) (offset : ℤ) (is : local s.environm
         exits = λ tree p status w e. stored I (OneTree (head op.Cvu I None) tree) p _ (converted tree p _ e);
         unfinished = λ tree p w e. stored I (OneTree (head op.Cvu I None) tree) p _ (converted tree p _ e);
         others = others Unsigned;
+        shape = shape Unsigned;
       }
   is_temporary Address =
       record {
@@ -184,4 +193,5 @@ module _ (s : Setting) (name : ObjectName) (offset : ℤ) (is : local s.environm
         exits = λ tree p status w e. stored P tree p _ e;
         unfinished = λ tree p w e. stored P tree p _ e;
         others = others Address;
+        shape = shape Address;
       }

@@ -2,7 +2,7 @@
 use Rattle.std.proofs.Common.{◌≡◌, ◌++◌, ℕ, ◌+◌, true, false, Option, Some, None, refl, [], true≢false, sym, ap, ◌∙◌, length, List, subst, arith}
 use Rattle.lcc_base.specs.declared.order.Order.{Order}
 use Rattle.op_forest.specs.declared.frame.Slot.{Slot}
-use Rattle.op_forest.specs.Frames.{IsFrame}
+use Rattle.op_forest.specs.Frames.{IsFrame, lowest}
 use Rattle.forests.specs.Addresses.{Home, slot_place}
 use Rattle.forests.specs.Bodies.{Setting}
 use Rattle.dag_forest.specs.declared.entry.Entry.{Entry}
@@ -11,7 +11,7 @@ use Rattle.dag_forest.specs.Schedules.{acts_of, in_turn}
 use Rattle.dag_forest.specs.Meaning.{Temporary, IsTemporary}
 use Rattle.dag_forest.specs.Emission.{Lost, Distinct, no_tree}
 use Rattle.dag_forest.specs.Choice.{Room}
-use Rattle.dag_forest.specs.NewSlots.{lowest, offset_below}
+use Rattle.dag_forest.specs.NewSlots.{offset_below}
 use Rattle.dag_forest.specs.Split.{Split, temporary_of, kept_by, keeps_of, room_of, room_count, slot_name, split_frame}
 use Rattle.dag_forest.proofs.Once.{acts_are_once}
 use Rattle.dag_forest.proofs.Ready.{acts_are_ready}

@@ -1,6 +1,6 @@
 -- What one walk over the acts, from the last one on, tells of them.
 use Rattle.std.proofs.Common.{◌≡◌, ⊎_elim, ℕ, zero, suc, ◌+◌, ◌<◌, ◌≤◌, Bool, true, false, true≢false, List, [], ◌∷◌, ◌++◌, length, get_or, reverse, replicate, refl, sym, ap, ◌∙◌, arith, subst, append_assoc, append-nil}
-use Rattle.std.specs.Prelude.{nat_lt, if◌then◌else◌, All}
+use Rattle.std.specs.Prelude.{nat_lt, ◌&&◌, if◌then◌else◌, All}
 use Rattle.std.proofs.lemmas.Bool.{cases_eq}
 use Rattle.std.proofs.lemmas.Bool.Decides.{nat_tests}
 use Rattle.std.proofs.lemmas.Grind.{reverse_onto}
@@ -11,7 +11,7 @@ use Rattle.dag_forest.specs.declared.uses.Step.{Step}
 use Rattle.dag_forest.specs.declared.uses.Use.{Use}
 use Rattle.dag_forest.specs.Entries.{AreBelow}
 use Rattle.dag_forest.specs.Schedules.{Act, Made, Acts, kids_of, used, reversed}
-use Rattle.dag_forest.specs.Choice.{hits, in_kids, counts, times_of, is_above, ends_stretch, late, IsLow}
+use Rattle.dag_forest.specs.Choice.{hits, in_kids, counts, times_of, is_above, ends_stretch, late, root_kids, next_kids, is_last, is_once, IsLow}
 use Rattle.dag_forest.specs.Walks.{step_before, steps_of, no_use, step_of, is_never, unused, used_more, noted, noted_kids, ends_before, walk}
 use Rattle.dag_forest.proofs.Ready.{AllLow, below_more, low_reversed, reversed_is}
 use Rattle.dag_forest.proofs.Fits.{is_counted, hit, miss}
@@ -91,25 +91,25 @@ ever_is (suc zero) e = refl
 ever_is (suc (suc c)) e = refl
 
 -- the step that is told is that of the act
-pub step_is : (a : Act) (as' : List Act) (uses : List Use) (ends : ℕ) → IsLow (length uses) a → AreNoted uses ends (counts as') (late as') → unused (step_of uses ends a) ≡ false → step_of uses ends a ≡ step_before a as'
-step_is (Made n x) as' uses ends low h some =
+pub step_is : (a : Act) (as' : List Act) (uses : List Use) (ends : ℕ) (next : Kids) → IsLow (length uses) a → AreNoted uses ends (counts as') (late as') → next ≡ next_kids as' → unused (step_of uses ends next a) ≡ false → step_of uses ends next a ≡ step_before a as'
+step_is (Made n x) as' uses ends next low h follows some =
     let u = h n low.0 in
     let c : is_above (counts as' n) ≡ true = ever_is (counts as' n) (sym (ap is_never u.0) ∙ some) in
-    λ i. record { act = Made n x; times = u.0 i; late = sym (u.3 (above_so (counts as' n) c)) i }
+    λ i. record { act = Made n x; times = u.0 i; late = sym (u.3 (above_so (counts as' n) c)) i; handed = is_last n (follows i) && is_once (u.0 i) }
   where
     above_so : (c : ℕ) → is_above c ≡ true → 0 < c
     above_so zero e = absurd (true≢false (sym e))
     above_so (suc c) e = omega arith
-step_is (Acts x) as' uses ends low h some = refl
+step_is (Acts x) as' uses ends next low h follows some = refl
 
 -- an act that isn't told is dropped, and any other is used
-used_not : (a : Act) (as' : List Act) (uses : List Use) (ends : ℕ) → IsLow (length uses) a → AreNoted uses ends (counts (used as')) (late (used as')) → unused (step_of uses ends a) ≡ true → used (a ∷ as') ≡ used as'
-used_not (Made n x) as' uses ends low h none = ap (λ b. if b then Made n x ∷ used as' else used as') (is_counted n (used as') ∙ never_is (counts (used as') n) (sym (ap is_never (h n low.0).0) ∙ none))
-used_not (Acts x) as' uses ends low h none = absurd (true≢false (sym none))
+used_not : (a : Act) (as' : List Act) (uses : List Use) (ends : ℕ) (next : Kids) → IsLow (length uses) a → AreNoted uses ends (counts (used as')) (late (used as')) → unused (step_of uses ends next a) ≡ true → used (a ∷ as') ≡ used as'
+used_not (Made n x) as' uses ends next low h none = ap (λ b. if b then Made n x ∷ used as' else used as') (is_counted n (used as') ∙ never_is (counts (used as') n) (sym (ap is_never (h n low.0).0) ∙ none))
+used_not (Acts x) as' uses ends next low h none = absurd (true≢false (sym none))
 
-used_so : (a : Act) (as' : List Act) (uses : List Use) (ends : ℕ) → IsLow (length uses) a → AreNoted uses ends (counts (used as')) (late (used as')) → unused (step_of uses ends a) ≡ false → used (a ∷ as') ≡ a ∷ used as'
-used_so (Made n x) as' uses ends low h some = ap (λ b. if b then Made n x ∷ used as' else used as') (is_counted n (used as') ∙ ever_is (counts (used as') n) (sym (ap is_never (h n low.0).0) ∙ some))
-used_so (Acts x) as' uses ends low h some = refl
+used_so : (a : Act) (as' : List Act) (uses : List Use) (ends : ℕ) (next : Kids) → IsLow (length uses) a → AreNoted uses ends (counts (used as')) (late (used as')) → unused (step_of uses ends next a) ≡ false → used (a ∷ as') ≡ a ∷ used as'
+used_so (Made n x) as' uses ends next low h some = ap (λ b. if b then Made n x ∷ used as' else used as') (is_counted n (used as') ∙ ever_is (counts (used as') n) (sym (ap is_never (h n low.0).0) ∙ some))
+used_so (Acts x) as' uses ends next low h some = refl
 
 abbrev pub back : List Step → List Step
 back [] = []
@@ -121,23 +121,25 @@ reversed_more a as' s = append_assoc (reversed as') (a ∷ []) s
 low_length : (k p : ℕ) (xs : List Act) → k ≡ p → AllLow k xs → AllLow p xs
 low_length k p xs e h = subst (λ z. AllLow z xs) e h
 
-walks : (r s : List Act) (uses : List Use) (ends : ℕ) (done : List Step) → AllLow (length uses) r → AreNoted uses ends (counts (used s)) (late (used s)) → done ≡ back (steps_of (used s)) → walk r uses ends done ≡ back (steps_of (used (reversed r ++ s)))
-walks [] s uses ends done low h is = is
-walks (a ∷ as') s uses ends done low h is =
-    by (unused (step_of uses ends a)) refl
-    (λ none. walks as' (a ∷ s) uses ends done low.1
-    (subst (λ z. AreNoted uses ends (counts z) (late z)) (sym (used_not a s uses ends low.0 h none)) h)
-    (is ∙ ap (λ z. back (steps_of z)) (sym (used_not a s uses ends low.0 h none))))
-    (λ some. walks as' (a ∷ s) (noted_kids (ends_before a ends) (kids_of a) uses) (ends_before a ends) (done ++ step_of uses ends a ∷ [])
+walks : (r s : List Act) (uses : List Use) (ends : ℕ) (next : Kids) (done : List Step) → AllLow (length uses) r → AreNoted uses ends (counts (used s)) (late (used s)) → next ≡ next_kids (used s) → done ≡ back (steps_of (used s)) → walk r uses ends next done ≡ back (steps_of (used (reversed r ++ s)))
+walks [] s uses ends next done low h follows is = is
+walks (a ∷ as') s uses ends next done low h follows is =
+    by (unused (step_of uses ends next a)) refl
+    (λ none. walks as' (a ∷ s) uses ends next done low.1
+    (subst (λ z. AreNoted uses ends (counts z) (late z)) (sym (used_not a s uses ends next low.0 h none)) h)
+    (follows ∙ ap next_kids (sym (used_not a s uses ends next low.0 h none)))
+    (is ∙ ap (λ z. back (steps_of z)) (sym (used_not a s uses ends next low.0 h none))))
+    (λ some. walks as' (a ∷ s) (noted_kids (ends_before a ends) (kids_of a) uses) (ends_before a ends) (root_kids a) (done ++ step_of uses ends next a ∷ [])
     (low_length (length uses) (length (noted_kids (ends_before a ends) (kids_of a) uses)) as' (sym (kids_length (ends_before a ends) (kids_of a) uses)) low.1)
-    (subst (λ z. AreNoted (noted_kids (ends_before a ends) (kids_of a) uses) (ends_before a ends) (counts z) (late z)) (sym (used_so a s uses ends low.0 h some))
+    (subst (λ z. AreNoted (noted_kids (ends_before a ends) (kids_of a) uses) (ends_before a ends) (counts z) (late z)) (sym (used_so a s uses ends next low.0 h some))
     (act_noted a (used s) uses ends (low_kids (length uses) a low.0) h))
-    ((λ i. is i ++ step_is a (used s) uses ends low.0 h some i ∷ []) ∙ ap (λ z. back (steps_of z)) (sym (used_so a s uses ends low.0 h some))))
+    (ap next_kids (sym (used_so a s uses ends next low.0 h some)))
+    ((λ i. is i ++ step_is a (used s) uses ends next low.0 h follows some i ∷ []) ∙ ap (λ z. back (steps_of z)) (sym (used_so a s uses ends next low.0 h some))))
   where
-    by : (b : Bool) → unused (step_of uses ends a) ≡ b
-        → (unused (step_of uses ends a) ≡ true → walk as' uses ends done ≡ back (steps_of (used (reversed as' ++ (a ∷ s)))))
-        → (unused (step_of uses ends a) ≡ false → walk as' (noted_kids (ends_before a ends) (kids_of a) uses) (ends_before a ends) (done ++ step_of uses ends a ∷ []) ≡ back (steps_of (used (reversed as' ++ (a ∷ s)))))
-        → (if b then walk as' uses ends done else walk as' (noted_kids (ends_before a ends) (kids_of a) uses) (ends_before a ends) (done ++ step_of uses ends a ∷ [])) ≡ back (steps_of (used (reversed (a ∷ as') ++ s)))
+    by : (b : Bool) → unused (step_of uses ends next a) ≡ b
+        → (unused (step_of uses ends next a) ≡ true → walk as' uses ends next done ≡ back (steps_of (used (reversed as' ++ (a ∷ s)))))
+        → (unused (step_of uses ends next a) ≡ false → walk as' (noted_kids (ends_before a ends) (kids_of a) uses) (ends_before a ends) (root_kids a) (done ++ step_of uses ends next a ∷ []) ≡ back (steps_of (used (reversed as' ++ (a ∷ s)))))
+        → (if b then walk as' uses ends next done else walk as' (noted_kids (ends_before a ends) (kids_of a) uses) (ends_before a ends) (root_kids a) (done ++ step_of uses ends next a ∷ [])) ≡ back (steps_of (used (reversed (a ∷ as') ++ s)))
     by true e g k = g e ∙ ap (λ z. back (steps_of (used z))) (sym (reversed_more a as' s))
     by false e g k = k e ∙ ap (λ z. back (steps_of (used z))) (sym (reversed_more a as' s))
 
@@ -167,11 +169,11 @@ back_is (x ∷ xs) = ap (λ z. z ++ x ∷ []) (back_is xs) ∙ sym (reverse_onto
 none_noted : (nodes m : ℕ) → m < nodes → IsUse 0 (get_or (replicate nodes no_use) m no_use) 0 false
 none_noted nodes m l = subst (λ u. IsUse 0 u 0 false) (sym (get_or-replicate nodes m no_use no_use l)) (refl, omega arith, (λ e. refl), (λ q. absurd (omega (arith, q))))
 
-pub walked : (nodes : ℕ) (acts : List Act) (steps : List Step) → All (λ a. IsLow nodes a) acts → steps ≡ walk (reverse acts) (replicate nodes no_use) 0 [] → reverse steps ≡ steps_of (used acts)
+pub walked : (nodes : ℕ) (acts : List Act) (steps : List Step) → All (λ a. IsLow nodes a) acts → steps ≡ walk (reverse acts) (replicate nodes no_use) 0 Zero [] → reverse steps ≡ steps_of (used acts)
 walked nodes acts steps low is =
     let len : length (replicate nodes no_use) ≡ nodes = length-replicate nodes no_use in
     let all : AllLow (length (replicate nodes no_use)) (reverse acts) = subst (λ k. AllLow k (reverse acts)) (sym len) (subst (λ z. AllLow nodes z) (reversed_is acts) (low_reversed nodes acts (all_low nodes acts low))) in
     let forth : reversed (reverse acts) ++ [] ≡ acts = append-nil (reversed (reverse acts)) ∙ reversed_is (reverse acts) ∙ reverse-reverse acts in
     sym (back_is steps)
-    ∙ ap back (is ∙ walks (reverse acts) [] (replicate nodes no_use) 0 [] all (λ m l. none_noted nodes m (omega (arith, l, len))) refl ∙ ap (λ z. back (steps_of (used z))) forth)
+    ∙ ap back (is ∙ walks (reverse acts) [] (replicate nodes no_use) 0 Zero [] all (λ m l. none_noted nodes m (omega (arith, l, len))) refl refl ∙ ap (λ z. back (steps_of (used z))) forth)
     ∙ back_back (steps_of (used acts))

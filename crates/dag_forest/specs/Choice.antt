@@ -1,5 +1,6 @@
--- Which nodes of a block are kept in slots of the frame: none that is an address or a constant, each call, each node that is
--- used more than once, and one that is used behind its stretch and at or below which a read stands that isn't kept.
+-- Which nodes of a block are kept in slots of the frame: none that is an address or a constant; each call that isn't handed to
+-- the root right behind it; and of the others each that is used more than once, and one that is used behind its stretch and at
+-- or below which a read or call stands that isn't kept.
 -- Source: Fraser and Hanson, A Retargetable C Compiler, chapter 12 (common subexpressions).
 use Rattle.std.specs.Prelude.{◌≡◌, ◌⊎◌, ℕ, zero, suc, ◌+◌, ◌<◌, ◌≤◌, ◌==◌, ◌&&◌, ◌||◌, not, Bool, true, false, Option, Some, None, List, [], ◌∷◌, cond, if◌then◌else◌}
 use Rattle.op_forest.specs.declared.op.Op.{Op}
@@ -51,6 +52,33 @@ abbrev pub late : List Act → ℕ → Bool
 late [] m = false
 late (a ∷ as') m = if ends_stretch a then is_above (counts as' m) else late as' m
 
+-- ---- handed calls
+
+-- the operands of a root
+abbrev pub root_kids : Act → Kids
+root_kids (Made n x) = Zero
+root_kids (Acts x) = x.kids
+
+-- those of the root right behind, if one is
+abbrev pub next_kids : List Act → Kids
+next_kids [] = Zero
+next_kids (a ∷ as') = root_kids a
+
+abbrev pub is_last : ℕ → Kids → Bool
+is_last m Zero = false
+is_last m (One a) = m == a
+is_last m (Two a c) = m == c
+
+abbrev pub is_once : Times → Bool
+is_once Never = false
+is_once Once = true
+is_once More = false
+
+-- A node that is made right before these acts is the last operand of the first of them, a root, and nothing else uses it. Such
+-- a call is handed to the root: it is made in it, behind the root's other operand.
+abbrev pub is_handed : List Act → ℕ → Bool
+is_handed as' n = is_last n (next_kids as') && is_once (times_of (counts as' n))
+
 -- ---- choice
 
 abbrev pub is_leaf : Op → Bool
@@ -75,17 +103,17 @@ is_needed Never stale = false
 is_needed Once stale = stale
 is_needed More stale = true
 
-abbrev pub wants : Parts → Times → Bool → Bool → Bool
-wants x times late reads = is_computed x && (is_call x.operator.op || is_needed times (late && reads))
+abbrev pub wants : Parts → Times → Bool → Bool → Bool → Bool
+wants x times late handed reads = is_computed x && (if is_call x.operator.op then not handed else is_needed times (late && reads))
 
 abbrev pub kids_read : (ℕ → Bool) → Kids → Bool
 kids_read reads Zero = false
 kids_read reads (One a) = reads a
 kids_read reads (Two a c) = reads a || reads c
 
--- whether a read that isn't kept stands at or below it
+-- whether a read or a call that isn't kept stands at or below it
 abbrev pub reads_by : (ℕ → Bool) → Parts → Bool
-reads_by reads x = is_read x.operator.op || kids_read reads x.kids
+reads_by reads x = is_read x.operator.op || (is_call x.operator.op || kids_read reads x.kids)
 
 abbrev pub kind_of : Suffix → Kind
 kind_of suffix.C = Char
@@ -109,7 +137,7 @@ next_by true t = suc t
 
 -- whether a node that is made before these acts is kept
 abbrev pub is_wanted : List Act → (ℕ → Bool) → ℕ → Parts → Bool
-is_wanted as' reads n x = wants x (times_of (counts as' n)) (late as' n) (reads_by reads x)
+is_wanted as' reads n x = wants x (times_of (counts as' n)) (late as' n) (is_handed as' n) (reads_by reads x)
 
 -- the rooms of the nodes that these acts make, of which the first is that of number t
 abbrev pub chosen : List Act → (ℕ → Bool) → ℕ → (ℕ → Option Room)
@@ -134,9 +162,9 @@ abbrev pub IfRoom : Option Room → Type 0 → Type 0
 IfRoom None P = Unit {0}
 IfRoom (Some r) P = P
 
--- No node has a room without need: none that is an address or a constant, and no other than a call, what is used more than
--- once, and what is used behind its stretch.
+-- No node has a room without need: none that is an address or a constant, and no other than a call that isn't handed, what is
+-- used more than once, and what is used behind its stretch.
 abbrev pub AreSparing : (ℕ → Option Room) → List Act → Type 0
 AreSparing rooms [] = Unit {0}
-AreSparing rooms (Made n x ∷ as') = IfRoom (rooms n) ((is_computed x ≡ true) × ((is_call x.operator.op ≡ true) ⊎ (2 ≤ counts as' n) ⊎ (late as' n ≡ true))) × AreSparing rooms as'
+AreSparing rooms (Made n x ∷ as') = IfRoom (rooms n) ((is_computed x ≡ true) × (((is_call x.operator.op ≡ true) × (is_handed as' n ≡ false)) ⊎ (2 ≤ counts as' n) ⊎ (late as' n ≡ true))) × AreSparing rooms as'
 AreSparing rooms (Acts x ∷ as') = AreSparing rooms as'

@@ -11,7 +11,7 @@ use Rattle.dag_forest.specs.declared.kids.Kids.TheVariants.{Zero, One, Two}
 use Rattle.dag_forest.specs.declared.parts.Parts.{Parts}
 use Rattle.dag_forest.specs.Entries.{is_call, is_read}
 use Rattle.dag_forest.specs.Schedules.{Act, Made, Acts, head_of, at}
-use Rattle.dag_forest.specs.Meaning.{Temporary, Keeps, is_end}
+use Rattle.dag_forest.specs.Meaning.{Temporary, Keeps, is_end, is_handing}
 
 abbrev pub tree_by : (ℕ → Tree) → Head → Kids → Tree
 tree_by ts h Zero = Leaf h
@@ -79,11 +79,33 @@ abbrev pub IsMade : Use → Option Temporary → Type 0
 IsMade u None = Unit {0}
 IsMade u (Some t) = IsUsable u
 
--- each use stands in the stretch of the reads below it that aren't kept
+-- A root takes a call as its last operand alone, and its other operand finds its tree before the call.
+abbrev pub Takes : ℕ → (ℕ → Use) → Kids → Type 0
+Takes n uses Zero = ⊥
+Takes n uses (One a) = a ≡ n
+Takes n uses (Two a c) = (c ≡ n) × (a ≡ n → ⊥) × IsUsable (uses a)
+
+-- by whether a call is handed to the root behind it
+abbrev pub HoldsMade : Bool → Type 0 → Type 0 → Type 0
+HoldsMade true handed other = handed
+HoldsMade false handed other = other
+
+-- the acts hold so behind this call, which isn't kept and which a root has to take, or behind anything else
+abbrev pub HoldsBehind : Option ℕ → Keeps → List Act → (ℕ → Use) → Type 0
+HoldsBehind None keeps [] uses = Unit {0}
+HoldsBehind (Some c) keeps [] uses = ⊥
+HoldsBehind None keeps (Made n x ∷ as') uses =
+    HoldsMade (is_handing (is_call x.operator.op) (keeps n))
+    (IsUsable (kids_use uses x.kids) × HoldsBehind (Some n) keeps as' uses)
+    (IsMade (kids_use uses x.kids) (keeps n) × HoldsBehind None keeps as' (at (λ m. faded (is_call x.operator.op) (uses m)) n (kept_use (keeps n) (read_use (is_read x.operator.op) (kids_use uses x.kids)))))
+HoldsBehind (Some c) keeps (Made n x ∷ as') uses = ⊥
+HoldsBehind None keeps (Acts x ∷ as') uses = IsUsable (kids_use uses x.kids) × HoldsBehind None keeps as' (λ m. faded (is_end x) (uses m))
+HoldsBehind (Some c) keeps (Acts x ∷ as') uses = Takes c uses x.kids × HoldsBehind None keeps as' (λ m. faded (is_end x) (at (λ k. fade (uses k)) c Lost m))
+
+-- Each use stands in the stretch of the reads below it that aren't kept; and a call that isn't kept is the last operand of the
+-- root right behind it, and of nothing else.
 abbrev pub Holds : Keeps → List Act → (ℕ → Use) → Type 0
-Holds keeps [] uses = Unit {0}
-Holds keeps (Made n x ∷ as') uses = IsMade (kids_use uses x.kids) (keeps n) × Holds keeps as' (at (λ m. faded (is_call x.operator.op) (uses m)) n (kept_use (keeps n) (read_use (is_read x.operator.op) (kids_use uses x.kids))))
-Holds keeps (Acts x ∷ as') uses = IsUsable (kids_use uses x.kids) × Holds keeps as' (λ m. faded (is_end x) (uses m))
+Holds keeps as' uses = HoldsBehind None keeps as' uses
 
 -- each node is made once
 abbrev pub AreOnce : List Act → (ℕ → Bool) → Type 0

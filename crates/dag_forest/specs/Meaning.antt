@@ -1,6 +1,7 @@
 -- The meaning of what a block does, over the worlds of forests: each node has the value that its operator gives where it is
 -- made, and the roots act in order. Some nodes are kept in temporaries when they are made, which is a root step; nothing
--- else touches a temporary, or there is no run.
+-- else touches a temporary, or there is no run. A call that isn't kept is made in the root right behind it, and shares its
+-- step.
 use Rattle.std.specs.Prelude.{◌≡◌, ℕ, zero, suc, ◌||◌, Bool, true, false, Option, Some, None, List, [], ◌∷◌, slice_get}
 use Rattle.op_forest.specs.Nodes.{Head}
 use Rattle.op_forest.specs.Nodes.{Node as Tree}
@@ -9,6 +10,7 @@ use Rattle.forests.specs.Worlds.{World, Point, at_world, Next, To, End, Effect, 
 use Rattle.forests.specs.Bodies.{Setting, does}
 use Rattle.forests.specs.Bodies.{evaluate}
 use Rattle.forests.specs.Budgets.{with_left}
+use Rattle.forests.specs.Alike.{AreAlike}
 use Rattle.dag_forest.specs.Entries.{is_call, is_read, is_write}
 use Rattle.dag_forest.specs.declared.parts.Parts.{Parts}
 use Rattle.dag_forest.specs.Schedules.{Act, Made, Acts, head_of, operands, at}
@@ -48,6 +50,7 @@ pub record IsTemporary (s : Setting) (t : Temporary) : Type 0 where
   pub exits : (tree : Tree) (p : Point) (status : ℕ) (w : World) → evaluate s tree p ≡ Exits status w → evaluate s (t.store tree) p ≡ Exits status w
   pub unfinished : (tree : Tree) (p : Point) (w : World) → evaluate s tree p ≡ Unfinished w → evaluate s (t.store tree) p ≡ Unfinished w
   pub others : (v : Word) (w : World) (o : ℕ) → (o ≡ t.object → ⊥) → slice_get (t.put v w).objects o ≡ slice_get w.objects o
+  pub shape : (v : Word) (w : World) → AreAlike w.objects (t.put v w).objects
 
 -- all objects are the same but the temporaries of nodes that aren't made yet
 abbrev pub SameBut : Keeps → (ℕ → Bool) → World → World → Type 0
@@ -65,11 +68,11 @@ pub data Ran : Type 0 where
   Exited : (status : ℕ) (world : World) → Ran
   Out : (world : World) → Ran
 
--- A node that is no call has this value now: a read as long as no object changes but a later node's temporary, any
--- other operator always.
+-- A node that is no call has this value now: wherever the same objects live, of the same sizes, and for a read as long as
+-- none of them changes but a later node's temporary.
 abbrev pub HasNow : Bool → Setting → Keeps → (ℕ → Bool) → Head → List Word → World → Word → Type 0
-HasNow true s keeps made h ws w v = (p : Point) → SameBut keeps made w p.world → does s h ws p ≡ Went (v ∷ []) p Next
-HasNow false s keeps made h ws w v = (p : Point) → does s h ws p ≡ Went (v ∷ []) p Next
+HasNow true s keeps made h ws w v = (p : Point) → AreAlike w.objects p.world.objects → SameBut keeps made w p.world → does s h ws p ≡ Went (v ∷ []) p Next
+HasNow false s keeps made h ws w v = (p : Point) → AreAlike w.objects p.world.objects → does s h ws p ≡ Went (v ∷ []) p Next
 
 abbrev pub spent : ℕ → Type 0 → (ℕ → Type 0) → Type 0
 spent zero out go = out
@@ -101,15 +104,32 @@ abbrev pub Leaves : Bool → Keeps → (ℕ → Bool) → World → World → Ty
 Leaves true keeps made w w1 = Same keeps made w w1
 Leaves false keeps made w w1 = (o : ℕ) → slice_get w1.objects o ≡ slice_get w.objects o
 
+-- whether a node is a call that isn't kept
+abbrev pub is_handing : Bool → Option Temporary → Bool
+is_handing true None = true
+is_handing true (Some t) = false
+is_handing false o = false
+
 -- a value is kept, which takes a step; a call takes one as well
 abbrev pub MadeRuns : Bool → Option Temporary → Setting → Keeps → (ℕ → Bool) → Head → List Word → ℕ → World → Ran → (Word → Point → Type 0) → Type 0
 MadeRuns false None s keeps made h ws left w r go = (v : Word) × HasNow (is_read h.operator.op) s keeps made h ws w v × go v (with_left left w)
 MadeRuns false (Some t) s keeps made h ws left w r go = spent left (r ≡ Out w) (λ l. (v : Word) × HasNow (is_read h.operator.op) s keeps made h ws w v × CanKeep t v × IsThere t w × go v (with_left l (t.put v w)))
-MadeRuns true None s keeps made h ws left w r go = ⊥
+MadeRuns true None s keeps made h ws left w r go = spent left (r ≡ Out w) (λ l. Handed (does s h ws (with_left l w)) r (λ v p. Same keeps made w p.world × go v p))
 MadeRuns true (Some t) s keeps made h ws left w r go = spent left (r ≡ Out w) (λ l. Handed (does s h ws (with_left l w)) r (λ v p. Same keeps made w p.world × CanKeep t v × IsThere t p.world × go v (at_world p (t.put v p.world))))
+
+-- a root behind a call that isn't kept shares its step
+abbrev pub stepped : Bool → ℕ → Type 0 → (ℕ → Type 0) → Type 0
+stepped true left out go = go left
+stepped false left out go = spent left out go
+
+-- The acts do so behind a call that isn't kept, which a root has to follow, or behind anything else.
+abbrev pub RunsBehind : Bool → Setting → Keeps → List Act → (ℕ → Bool) → (ℕ → Word) → ℕ → World → Ran → Type 0
+RunsBehind false s keeps [] made values left w r = r ≡ Through values (with_left left w)
+RunsBehind true s keeps [] made values left w r = ⊥
+RunsBehind false s keeps (Made n x ∷ as') made values left w r = MadeRuns (is_call x.operator.op) (keeps n) s keeps made (head_of x) (operands x.kids values) left w r (λ v p. RunsBehind (is_handing (is_call x.operator.op) (keeps n)) s keeps as' (at made n true) (at values n v) p.left p.world r)
+RunsBehind true s keeps (Made n x ∷ as') made values left w r = ⊥
+RunsBehind handed s keeps (Acts x ∷ as') made values left w r = stepped handed left (r ≡ Out w) (λ l. Acted (does s (head_of x) (operands x.kids values) (with_left l w)) r (λ p. Leaves (is_end x) keeps made w p.world × RunsBehind false s keeps as' made values p.left p.world r))
 
 -- From the values of the nodes that are made the acts do so, with so many root steps.
 abbrev pub Runs : Setting → Keeps → List Act → (ℕ → Bool) → (ℕ → Word) → ℕ → World → Ran → Type 0
-Runs s keeps [] made values left w r = r ≡ Through values (with_left left w)
-Runs s keeps (Made n x ∷ as') made values left w r = MadeRuns (is_call x.operator.op) (keeps n) s keeps made (head_of x) (operands x.kids values) left w r (λ v p. Runs s keeps as' (at made n true) (at values n v) p.left p.world r)
-Runs s keeps (Acts x ∷ as') made values left w r = spent left (r ≡ Out w) (λ l. Acted (does s (head_of x) (operands x.kids values) (with_left l w)) r (λ p. Leaves (is_end x) keeps made w p.world × Runs s keeps as' made values p.left p.world r))
+Runs s keeps as' made values left w r = RunsBehind false s keeps as' made values left w r

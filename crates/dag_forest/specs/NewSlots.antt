@@ -1,17 +1,6 @@
 -- New slots below those of a frame, each of 4 bytes, and each right below the one before.
-use Rattle.std.specs.Prelude.{ℕ, zero, suc, ◌*◌, ℤ, pos, ◌-ℤ◌, int_le, List, [], ◌∷◌, ◌++◌, if◌then◌else◌}
+use Rattle.std.specs.Prelude.{ℕ, zero, suc, ◌*◌, ℤ, pos, ◌-ℤ◌, List, [], ◌∷◌, ◌++◌}
 use Rattle.op_forest.specs.declared.frame.Slot.{Slot}
-
-abbrev pub lesser : ℤ → ℤ → ℤ
-lesser a b = if int_le a b then a else b
-
-abbrev pub lowest_from : ℤ → List Slot → ℤ
-lowest_from z [] = z
-lowest_from z (s ∷ ss) = lowest_from (lesser z s.offset) ss
-
--- where the lowest of the slots begins, or the frame's top
-abbrev pub lowest : List Slot → ℤ
-lowest slots = lowest_from (pos 0) slots
 
 -- where the new slot of this number begins, from 0
 abbrev pub offset_below : ℤ → ℕ → ℤ

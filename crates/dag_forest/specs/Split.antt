@@ -3,6 +3,7 @@ use Rattle.std.specs.Prelude.{◌≡◌, ℕ, ◌+◌, false, Option, Some, None
 use Rattle.lcc_base.specs.declared.order.Order.{Order}
 use Rattle.objects.specs.declared.value.ObjectName.{ObjectName}
 use Rattle.op_forest.specs.declared.frame.Slot.{Slot}
+use Rattle.op_forest.specs.Frames.{lowest}
 use Rattle.op_forest.specs.Nodes.{Node as Tree}
 use Rattle.forests.specs.Addresses.{Home}
 use Rattle.forests.specs.Bodies.{Setting}
@@ -12,7 +13,7 @@ use Rattle.dag_forest.specs.Meaning.{Temporary, Keeps}
 use Rattle.dag_forest.specs.Meant.{AreTemporaries}
 use Rattle.dag_forest.specs.Emission.{emit, no_tree, Lost, Holds, Distinct}
 use Rattle.dag_forest.specs.Slots.{slot_temporary}
-use Rattle.dag_forest.specs.NewSlots.{lowest, offset_below, slots_below}
+use Rattle.dag_forest.specs.NewSlots.{offset_below, slots_below}
 use Rattle.dag_forest.specs.Choice.{Room, chosen, rooms_to, AreSparing}
 use Rattle.dag_forest.specs.Places.{Plain, MarkedRoot, marked, erased_all, all_places, times_computed}
 

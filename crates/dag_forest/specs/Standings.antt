@@ -76,8 +76,8 @@ unplaced nodes = placed_of (replicate nodes nothing) (replicate nodes false) 0
 abbrev pub reads_in : List Bool → ℕ → Bool
 reads_in reads m = get_or reads m false
 
-abbrev pub wanted_in : Placed → Parts → Times → Bool → Bool
-wanted_in p x times late = wants x times late (reads_by (reads_in p.reads) x)
+abbrev pub wanted_in : Placed → Parts → Times → Bool → Bool → Bool
+wanted_in p x times late handed = wants x times late handed (reads_by (reads_in p.reads) x)
 
 abbrev pub placed_node : ℤ → Placed → ℕ → Parts → Bool → Placed
 placed_node low p n x w = record {
@@ -86,10 +86,10 @@ placed_node low p n x w = record {
   slots = next_by w p.slots;
 }
 
-abbrev pub placed_act : ℤ → Placed → Act → Times → Bool → Placed
-placed_act low p (Made n x) times late = placed_node low p n x (wanted_in p x times late)
-placed_act low p (Acts x) times late = p
+abbrev pub placed_act : ℤ → Placed → Act → Times → Bool → Bool → Placed
+placed_act low p (Made n x) times late handed = placed_node low p n x (wanted_in p x times late handed)
+placed_act low p (Acts x) times late handed = p
 
 abbrev pub placed : ℤ → Placed → List Step → Placed
 placed low p [] = p
-placed low p (s ∷ ss) = placed low (placed_act low p s.act s.times s.late) ss
+placed low p (s ∷ ss) = placed low (placed_act low p s.act s.times s.late s.handed) ss

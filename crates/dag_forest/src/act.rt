@@ -1,4 +1,5 @@
 ghost use Rattle.std.specs.Prelude.{◌≡◌};
+ghost use Rattle.dag_forest.specs.Choice.{root_kids};
 ghost use Rattle.dag_forest.specs.Schedules.{kids_of};
 
 use crate::kids::Kids;
@@ -20,6 +21,16 @@ impl Act {
     {
         match self {
             Act::Made(_, parts) | Act::Acts(parts) => parts.kids,
+        }
+    }
+
+    /// The operands of a root.
+    pub(crate) fn root_kids(self) -> Kids
+        ensures { result ≡ root_kids self }
+    {
+        match self {
+            Act::Made(..) => Kids::Zero,
+            Act::Acts(parts) => parts.kids,
         }
     }
 }

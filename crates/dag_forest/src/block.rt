@@ -8,7 +8,7 @@ ghost use Rattle.dag_forest.specs.Tally.{IsFresh};
 use crate::choice::choose;
 use crate::emission::trees_of;
 use crate::entry::Entry;
-use crate::frames::{lowest, slots_below};
+use crate::frames::slots_below;
 use crate::key::Key;
 use crate::kids::Kids;
 use crate::parts::Parts;
@@ -127,8 +127,9 @@ impl Block {
     }
 
     /// The trees of what the block does, in order. A node that is no address or constant is assigned to a
-    /// new slot of the frame where it is used more than once, where it is a call, or where a write or call
-    /// between its stretch and its use could change what it reads. Each new slot has 4 bytes and begins
+    /// new slot of the frame where it is used more than once, or where a write or call between its stretch
+    /// and its use could change what it reads. So is a call, unless it is the last operand of the root right
+    /// behind it and nothing else uses it, as in `x = f()`. Each new slot has 4 bytes and begins
     /// where the lowest one did that was there. `Memory` comes where an allocation is refused, or where a
     /// slot would begin below -2^31; the frame is as before then.
     pub fn finish(self, alloc: Global, frame: &mut Frame) -> Result<Items<Tree>, Memory>
@@ -139,7 +140,7 @@ impl Block {
     {
         let nodes = self.keys.len();
         let steps = used_steps(alloc, acts_in_turn(alloc, &self.entries)?, nodes)?;
-        let lowest = lowest(frame.slots());
+        let lowest = frame.lowest();
         let choice = choose(alloc, &steps, nodes, lowest)?;
         let trees = trees_of(alloc, &steps, &choice.standing)?;
         let slots = slots_below(alloc, lowest, choice.slots)?;

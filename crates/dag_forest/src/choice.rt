@@ -19,7 +19,7 @@ use std::alloc::Global;
 #[derive(Debug, Drop)]
 pub(crate) struct Choice {
     pub standing: Vec<Standing>,
-    // Whether a read that has no slot stands at or below each node.
+    // Whether a read or a call that has no slot stands at or below each node.
     reads: Vec<bool>,
     pub slots: u32,
 }
@@ -66,10 +66,10 @@ impl Choice {
         requires node { node < length self.old.standing.items }
         requires kids { AreBelow (length self.old.reads.items) parts.kids }
         requires reads { length self.old.reads.items ≡ length self.old.standing.items }
-        ensures { OnOk result (placed_of self.new.standing.items self.new.reads.items self.new.slots ≡ placed_node lowest (placed_of self.old.standing.items self.old.reads.items self.old.slots) node parts (wanted_in (placed_of self.old.standing.items self.old.reads.items self.old.slots) parts step.times step.late)) }
+        ensures { OnOk result (placed_of self.new.standing.items self.new.reads.items self.new.slots ≡ placed_node lowest (placed_of self.old.standing.items self.old.reads.items self.old.slots) node parts (wanted_in (placed_of self.old.standing.items self.old.reads.items self.old.slots) parts step.times step.late step.handed)) }
     {
         let reads = self.reads(parts);
-        let wanted = wants(parts, step.times, step.late, reads);
+        let wanted = wants(parts, step, reads);
         self.standing[node as usize] = if wanted {
             let offset = offset_below(lowest, self.slots)?;
             self.slots += 1;
@@ -81,12 +81,12 @@ impl Choice {
         Ok(())
     }
 
-    // Whether a read that has no slot stands at or below a node of these parts.
+    // Whether a read or a call that has no slot stands at or below a node of these parts.
     fn reads(&self, parts: Parts) -> bool
         requires { AreBelow (length self.now.reads.items) parts.kids }
         ensures { result ≡ reads_by (reads_in self.now.reads.items) parts }
     {
-        if parts.operator.op == Op::Indir {
+        if matches!(parts.operator.op, Op::Indir | Op::Call) {
             return true;
         }
         match parts.kids {
@@ -97,15 +97,18 @@ impl Choice {
     }
 }
 
-// Whether a node of these parts is kept, which is used so often, and maybe behind its stretch; and at or
-// below which maybe a read stands that isn't kept.
-fn wants(parts: Parts, times: Times, late: bool, reads: bool) -> bool
-    ensures { result ≡ wants parts times late reads }
+// Whether a node of these parts is kept, which is made in this step; and at or below which maybe a read or a
+// call stands that isn't kept.
+fn wants(parts: Parts, step: Step, reads: bool) -> bool
+    ensures { result ≡ wants parts step.times step.late step.handed reads }
 {
     if !is_computed(parts) {
         return false;
     }
-    parts.operator.op == Op::Call || is_needed(times, late && reads)
+    if parts.operator.op == Op::Call {
+        return !step.handed;
+    }
+    is_needed(step.times, step.late && reads)
 }
 
 // Whether a node of these parts is no address and no constant.

@@ -1,25 +1,13 @@
 //! New slots below those of a frame.
 ghost use Rattle.std.specs.Prelude.{◌≡◌, IfOk};
-ghost use Rattle.dag_forest.specs.NewSlots.{lowest, offset_below, slots_below};
+ghost use Rattle.dag_forest.specs.NewSlots.{offset_below, slots_below};
 
 use lcc_base::Memory;
 use op_forest::Slot;
 use std::alloc::Global;
-use std::cmp::min;
 
 /// The size of a slot that keeps a node, in bytes.
 const WORD: u32 = 4;
-
-/// Where the lowest of the slots begins, or the frame's top.
-pub(crate) fn lowest(slots: &[Slot]) -> i32
-    ensures { result ≡ lowest slots.now }
-{
-    let mut lowest = 0;
-    for slot in slots {
-        lowest = min(lowest, slot.offset);
-    }
-    lowest
-}
 
 /// Where the new slot of this number begins, from 0. `Memory` comes where that is below -2^31.
 pub(crate) fn offset_below(lowest: i32, number: u32) -> Result<i32, Memory>

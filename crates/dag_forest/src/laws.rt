@@ -21,8 +21,9 @@ ghost use Rattle.op_forest.specs.Nodes.{Head};
 ghost use Rattle.op_forest.specs.declared.suffix.Suffix.TheVariants.{C, S};
 
 /// A block makes each of its nodes once at most. Where some of its nodes are kept in temporaries of their
-/// own, and each use of a node stands in the stretch of the reads below it that aren't kept, the trees of
-/// what the block does have its meaning: from each world, with as many root steps, they do what it does.
+/// own, each use of a node stands in the stretch of the reads below it that aren't kept, and each call that
+/// isn't kept is the last operand of the root right behind it, the trees of what the block does have its
+/// meaning: from each world, with as many root steps, they do what it does.
 pub fn trees_do_what_blocks_do()
     ensures once { (entries : List Entry) → AreOnce (acts_of entries) (λ m. false) }
     ensures meaning { (entries : List Entry) → (keeps : Keeps) → Distinct keeps → Holds keeps (acts_of entries) (λ m. Lost) → HaveMeaning keeps (acts_of entries) (emit keeps (acts_of entries) (λ m. no_tree)) }

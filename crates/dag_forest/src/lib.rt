@@ -16,8 +16,6 @@ mod parts;
 mod roots;
 mod slot_trees;
 mod standing;
-#[cfg(test)]
-mod tests;
 mod turns;
 mod uses;
 mod waiting;

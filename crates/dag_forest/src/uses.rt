@@ -2,7 +2,7 @@
 ghost use Rattle.std.specs.Prelude.{◌≡◌, ◌<◌, length, All, IfOk};
 ghost use Rattle.dag_forest.specs.Schedules.{used};
 ghost use Rattle.dag_forest.specs.Entries.{AreBelow};
-ghost use Rattle.dag_forest.specs.Choice.{ends_stretch, IsLow};
+ghost use Rattle.dag_forest.specs.Choice.{ends_stretch, is_last, IsLow};
 ghost use Rattle.dag_forest.specs.Walks.{noted, noted_kids, step_of, steps_of, unused};
 
 use crate::act::Act;
@@ -26,12 +26,14 @@ pub struct Use {
     pub ends: usize,
 }
 
-/// What a block does, and of a node that is made how often it is used, and whether behind its stretch.
+/// What a block does; and of a node that is made how often it is used, whether behind its stretch, and whether
+/// by the root right behind it alone, as its last operand.
 #[derive(Clone, Copy, Debug, PartialEq, Eq)]
 pub struct Step {
     pub act: Act,
     pub times: Times,
     pub late: bool,
+    pub handed: bool,
 }
 
 /// The steps of these acts, over so many nodes, without the nodes that nothing uses.
@@ -49,10 +51,11 @@ pub(crate) fn used_steps(
     }; nodes]?;
     let mut steps = Vec::new(alloc);
     let mut ends = 0;
+    let mut next = Kids::Zero;
     acts.reverse();
     let backwards = acts.as_slice();
     for act in backwards {
-        let step = step_of(*act, &uses, ends);
+        let step = step_of(*act, &uses, ends, next);
         if is_unused(step) {
             continue;
         }
@@ -60,16 +63,17 @@ pub(crate) fn used_steps(
             ends += 1;
         }
         note_kids(&mut uses, act.kids(), ends);
+        next = act.root_kids();
         steps.push(step)?;
     }
     steps.reverse();
     Ok(steps)
 }
 
-// The step of an act, in front of which so many stretches end.
-fn step_of(act: Act, uses: &[Use], ends: usize) -> Step
+// The step of an act, behind which so many stretches end, and a root of these operands stands.
+fn step_of(act: Act, uses: &[Use], ends: usize, next: Kids) -> Step
     requires { IsLow (length uses.now) act }
-    ensures { result ≡ step_of uses.now ends act }
+    ensures { result ≡ step_of uses.now ends next act }
 {
     match act {
         Act::Made(number, _) => {
@@ -78,13 +82,25 @@ fn step_of(act: Act, uses: &[Use], ends: usize) -> Step
                 act,
                 times: node.times,
                 late: node.ends < ends,
+                handed: is_last(number, next) && node.times == Times::Once,
             }
         }
         Act::Acts(_) => Step {
             act,
             times: Times::Once,
             late: false,
+            handed: false,
         },
+    }
+}
+
+// Whether a node is the last of the operands.
+fn is_last(node: u32, kids: Kids) -> bool
+    ensures { result ≡ is_last node kids }
+{
+    match kids {
+        Kids::Zero => false,
+        Kids::One(a) | Kids::Two(_, a) => node == a,
     }
 }
 

@@ -4,7 +4,7 @@ use Rattle.std.specs.Prelude.{◌≡◌, ℕ, ◌≤◌, List, [], ◌∷◌, �
 use Rattle.first_form.specs.FirstProgram.{MProgram}
 use Rattle.first_form.specs.Meaning.{value, output}
 use Rattle.objects.specs.declared.value.Value.TheVariants.{Number}
-use Rattle.op_forest.specs.Traces.{Event, output_of, depth_of}
+use Rattle.lcc_base.specs.Traces.{Event, output_of, depth_of}
 use Rattle.forests.specs.Words.{Plain}
 use Rattle.forests.specs.Worlds.{Next, Effect, Went, Exits, Unfinished, Stuck}
 use Rattle.forests.specs.Meaning.{call_of}

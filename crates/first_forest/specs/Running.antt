@@ -13,7 +13,7 @@ use Rattle.op_forest.specs.declared.op.Op.TheVariants as op
 use Rattle.op_forest.specs.Nodes.{Node, One}
 use Rattle.forests.specs.Words.{Word, Plain}
 use Rattle.objects.specs.declared.value.Value.TheVariants.{Number, Function}
-use Rattle.op_forest.specs.Traces.{Event, Wrote, Opened, Closed, output_of, depth_of}
+use Rattle.lcc_base.specs.Traces.{Event, Wrote, Opened, Closed, output_of, depth_of}
 use Rattle.forests.specs.Worlds.{World, Point, Move, Next, Went, then_do, Outcome, Finished, Exited, Going, Failed, goes}
 use Rattle.forests.specs.Bodies.{Setting, does, evaluate, follow, act}
 use Rattle.forests.specs.Actions.{handed, gave, effect_of}
@@ -22,7 +22,7 @@ use Rattle.op_forest.specs.Callees.{Provided, Putchar}
 use Rattle.forests.specs.Functions.{Program, answered, setting_of, call_by}
 use Rattle.forests.specs.Meaning.{counted_run, counted_call, call_of}
 use Rattle.forests.specs.Budgets.{with_left, with_calls}
-use Rattle.op_forest.specs.Prefixes.{Starts, starts_trans, output_starts, depth_starts}
+use Rattle.lcc_base.specs.Prefixes.{Starts, starts_trans, output_starts, depth_starts}
 use Rattle.forests.specs.OneRoot.{runs_in, one_call, one_root, no_steps}
 use Rattle.forests.specs.Units.{program_of, start_world}
 use Rattle.op_forest.specs.Units.{body_of}

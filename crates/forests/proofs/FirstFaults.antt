@@ -80,7 +80,7 @@ first_here f from t Bad root there e bad =
     subst (λ (n : ℕ). IsFirstFrom f from Bad n) (sym e) (record { root = t; there = there; bad = bad; behind = omega arith; before = none_between f from })
 
 -- the root is bad
-found : (f : Forest) (places : ℕ → Option ℕ) (from : ℕ) (t : Node) (taken : Bool) (fault : ForestFault) → AreFirst 0 f.roots places → slice_get f.roots from ≡ Some t → Same taken (drop (suc from) f.roots) → IsRootAnswer f places from t (IsTrue taken) (Some fault) → IsAnswerFrom f from (Some fault)
+found : (f : Forest) (places : ℕ → Option ℕ) (from : ℕ) (t : Node) (taken : Bool) (fault : ForestFault) → AreFirst 0 f.roots places → slice_get f.roots from ≡ Some t → Same taken (drop (suc from) f.roots) → IsRootAnswer f.frame places from t (IsTrue taken) (Some fault) → IsAnswerFrom f from (Some fault)
 found f places from t taken (Arity root) first there same told = first_here f from t LacksArity root there told.0 told.1
 found f places from t taken (Kind root) first there same told =
     first_here f from t LacksKind root there told.0 (record { arities = told.1; unfit = λ g. told.2 (fit_here t (drop (suc from) f.roots) taken same g) })
@@ -90,7 +90,7 @@ found f places from t taken (Slot root) first there same told =
     first_here f from t LacksSlot root there told.0 (record { arities = told.1; fit = fit_behind t (drop (suc from) f.roots) taken same told.2; labels = (labels_by_places f.roots places from t first there).0 told.3; outside = told.4 })
 found f places from t taken Memory first there same told = told
 
-one_more : (f : Forest) (places : ℕ → Option ℕ) (from : ℕ) (t : Node) (taken : Bool) (own later : Option ForestFault) → AreFirst 0 f.roots places → slice_get f.roots from ≡ Some t → Same taken (drop (suc from) f.roots) → IsRootAnswer f places from t (IsTrue taken) own → IsAnswerFrom f (suc from) later → IsAnswerFrom f from (option_or own later)
+one_more : (f : Forest) (places : ℕ → Option ℕ) (from : ℕ) (t : Node) (taken : Bool) (own later : Option ForestFault) → AreFirst 0 f.roots places → slice_get f.roots from ≡ Some t → Same taken (drop (suc from) f.roots) → IsRootAnswer f.frame places from t (IsTrue taken) own → IsAnswerFrom f (suc from) later → IsAnswerFrom f from (option_or own later)
 one_more f places from t taken None later first there same own told =
     kept f from t later there (record { arities = own.0; fit = fit_behind t (drop (suc from) f.roots) taken same own.1; labels = (labels_by_places f.roots places from t first there).0 own.2; slots = own.3 }) told
 one_more f places from t taken (Some fault) later first there same own told = found f places from t taken fault first there same own
@@ -139,7 +139,7 @@ none_kept f roots are =
       told = none_between f (length f.roots);
     })
 
-pub one_kept : (f : Forest) (places : ℕ → Option ℕ) (roots : List Node) (place : ℕ) (t : Node) (taken result : Bool) (own later fault : Option ForestFault) → AreFirst 0 f.roots places → roots ≡ f.roots → slice_get f.roots place ≡ Some t → drop place f.roots ≡ t ∷ drop (suc place) f.roots → IsKept f (suc place) taken later → IsRootAnswer f places place t (IsTrue taken) own → IsTrue result ↔ IsTakenFrom t (IsTrue taken) → fault ≡ option_or own later → IsKept f place result fault
+pub one_kept : (f : Forest) (places : ℕ → Option ℕ) (roots : List Node) (place : ℕ) (t : Node) (taken result : Bool) (own later fault : Option ForestFault) → AreFirst 0 f.roots places → roots ≡ f.roots → slice_get f.roots place ≡ Some t → drop place f.roots ≡ t ∷ drop (suc place) f.roots → IsKept f (suc place) taken later → IsRootAnswer f.frame places place t (IsTrue taken) own → IsTrue result ↔ IsTakenFrom t (IsTrue taken) → fault ≡ option_or own later → IsKept f place result fault
 one_kept f places roots place t taken result own later fault first are there here kept now then e =
     record {
       same = subst (λ ts. Same result ts) (sym here) (same_more t (drop (suc place) f.roots) taken result kept.same then);

@@ -7,5 +7,6 @@ mod ControlExamples
 mod OperandLists
 mod LabelPlaces
 mod FirstFaults
+mod Reaches
 mod RunExamples
 mod UnitExamples

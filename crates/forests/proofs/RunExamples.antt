@@ -9,7 +9,7 @@ use Rattle.op_forest.specs.declared.suffix.Suffix.TheVariants.{I, U, P, V}
 use Rattle.op_forest.specs.declared.sym.Sym.TheVariants as sym
 use Rattle.op_forest.specs.Callees.{Callee, Defined, Provided, Missing, Putchar}
 use Rattle.op_forest.specs.Nodes.{Node, Leaf, One, Two}
-use Rattle.op_forest.specs.Traces.{output_of}
+use Rattle.lcc_base.specs.Traces.{output_of}
 use Rattle.forests.specs.Words.{Word, Plain, Label, unknown}
 use Rattle.forests.specs.WordBytes.{word_bytes}
 use Rattle.forests.specs.Worlds.{Point, Effect, Went, Exits, Unfinished, Stuck}

@@ -10,7 +10,7 @@ use Rattle.op_forest.specs.declared.suffix.Suffix.TheVariants.{I, P, V}
 use Rattle.op_forest.specs.declared.sym.Sym.TheVariants as sym
 use Rattle.op_forest.specs.Lowered.{LoweredUnit}
 use Rattle.op_forest.specs.Nodes.{Node, Leaf, One}
-use Rattle.op_forest.specs.Traces.{output_of}
+use Rattle.lcc_base.specs.Traces.{output_of}
 use Rattle.forests.specs.Words.{Word, Plain, Label}
 use Rattle.forests.specs.Worlds.{Effect, Went, Exits, Unfinished, Stuck}
 use Rattle.forests.specs.Units.{value_of, program_of, start_world, main_world}

@@ -3,7 +3,7 @@ use Rattle.std.specs.Prelude.{ℕ, zero, suc, ◌%◌, ◌==◌, Bool, true, fal
 use Rattle.std.proofs.Common.{refl}
 use Rattle.op_forest.specs.Nodes.{Head, Node, Leaf, One, Two}
 use Rattle.forests.specs.Words.{Word, Plain}
-use Rattle.op_forest.specs.Traces.{Event, Wrote, Opened, Closed}
+use Rattle.lcc_base.specs.Traces.{Event, Wrote, Opened, Closed}
 use Rattle.forests.specs.Worlds.{World, Point, at_world, Move, Next, To, End, Effect, Went, Exits, Unfinished, Stuck, then_do, Outcome, Finished, Exited, Going, Failed, goes}
 use Rattle.op_forest.specs.Labels.{behind}
 use Rattle.op_forest.specs.Callees.{Body, BuiltIn, Putchar, Getchar, Exit, Callee, Defined, Provided, Missing}
@@ -13,7 +13,7 @@ use Rattle.forests.specs.Functions.{Program, entered, answered, put_character, g
 use Rattle.forests.specs.Meaning.{spend, counted_run, counted_call, call_of}
 use Rattle.forests.specs.Actions.{Calls, Action, Gave, Stored, Passed, Called, Moved, Meaningless, handed, effect_of}
 use Rattle.forests.specs.Rows.{acts}
-pub use Rattle.op_forest.specs.Prefixes.{Starts, starts_refl, starts_trans, output_starts, depth_starts}
+pub use Rattle.lcc_base.specs.Prefixes.{Starts, starts_refl, starts_trans, output_starts, depth_starts}
 
 -- an effect's trace goes on from this one
 abbrev pub Begins : List Event → Effect → Type 0

@@ -1,7 +1,8 @@
 -- The faults of forests: which root is the first bad one, and what is wrong there. A root that is bad in one way isn't
 -- told of those behind it in the order arities, kinds, labels, slots.
-use Rattle.std.specs.Prelude.{◌≡◌, ℕ, suc, Option, Some, None, take, drop, slice_get}
+use Rattle.std.specs.Prelude.{◌≡◌, ℕ, suc, Option, Some, None, List, take, drop, slice_get}
 use Rattle.op_forest.specs.declared.forest.Forest.{Forest}
+use Rattle.op_forest.specs.declared.frame.Slot.{Slot as Slots}
 use Rattle.op_forest.specs.Nodes.{Node}
 use Rattle.forests.specs.declared.forest_fault.ForestFault.{ForestFault}
 use Rattle.forests.specs.declared.forest_fault.ForestFault.TheVariants.{Arity, Kind, Label, Slot, Memory}
@@ -45,12 +46,12 @@ IsFaultOf f (Label root) = IsFirst f LacksLabel root
 IsFaultOf f (Slot root) = IsFirst f LacksSlot root
 IsFaultOf f Memory = Unit {0}
 
--- What is told of one root alone, at its place, where `taken` says that its arguments are taken, and by the places of
--- labels. Without a fault it is good.
-abbrev pub IsRootAnswer : Forest → (ℕ → Option ℕ) → ℕ → Node → Type 0 → Option ForestFault → Type 0
-IsRootAnswer f places place t taken None = HasArities t × IsFit t taken × HasPlaces places place t × HasSlots f.frame t
-IsRootAnswer f places place t taken (Some (Arity root)) = (root ≡ place) × (¬ HasArities t)
-IsRootAnswer f places place t taken (Some (Kind root)) = (root ≡ place) × HasArities t × (¬ IsFit t taken)
-IsRootAnswer f places place t taken (Some (Label root)) = (root ≡ place) × HasArities t × IsFit t taken × (¬ HasPlaces places place t)
-IsRootAnswer f places place t taken (Some (Slot root)) = (root ≡ place) × HasArities t × IsFit t taken × HasPlaces places place t × (¬ HasSlots f.frame t)
-IsRootAnswer f places place t taken (Some Memory) = ⊥
+-- What is told of one root alone, at its place, where `taken` says that its arguments are taken, by the frame's slots and
+-- the places of labels. Without a fault it is good.
+abbrev pub IsRootAnswer : List Slots → (ℕ → Option ℕ) → ℕ → Node → Type 0 → Option ForestFault → Type 0
+IsRootAnswer slots places place t taken None = HasArities t × IsFit t taken × HasPlaces places place t × HasSlots slots t
+IsRootAnswer slots places place t taken (Some (Arity root)) = (root ≡ place) × (¬ HasArities t)
+IsRootAnswer slots places place t taken (Some (Kind root)) = (root ≡ place) × HasArities t × (¬ IsFit t taken)
+IsRootAnswer slots places place t taken (Some (Label root)) = (root ≡ place) × HasArities t × IsFit t taken × (¬ HasPlaces places place t)
+IsRootAnswer slots places place t taken (Some (Slot root)) = (root ≡ place) × HasArities t × IsFit t taken × HasPlaces places place t × (¬ HasSlots slots t)
+IsRootAnswer slots places place t taken (Some Memory) = ⊥

@@ -7,7 +7,7 @@ use Rattle.objects.specs.declared.value.Value.TheVariants.{Number}
 use Rattle.objects.specs.Bytes.{unknown_byte}
 use Rattle.op_forest.specs.declared.frame.Slot.{Slot}
 use Rattle.op_forest.specs.Nodes.{Node}
-use Rattle.op_forest.specs.Traces.{Wrote, Opened, Closed}
+use Rattle.lcc_base.specs.Traces.{Wrote, Opened, Closed}
 use Rattle.op_forest.specs.Callees.{Body, BuiltIn, Putchar, Getchar, Exit, Callee, Defined, Provided, Missing}
 use Rattle.forests.specs.Words.{Word, Plain, unknown}
 use Rattle.forests.specs.WordBytes.{word_bytes}

@@ -33,5 +33,6 @@ pub mod SoundRuns
 pub mod SoundUnits
 pub mod WellFormed
 pub mod HasRules
+pub mod SlotTables
 pub mod FirstPlaces
 pub mod ForestFaults

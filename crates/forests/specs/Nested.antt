@@ -4,7 +4,7 @@ use Rattle.std.specs.Prelude.{◌≡◌, ℕ, zero, suc, ◌+◌, ◌≤◌, ◌
 use Rattle.std.proofs.Common.{refl, ap, ◌∙◌, arith}
 use Rattle.op_forest.specs.Nodes.{Head, Node, Leaf, One, Two}
 use Rattle.forests.specs.Words.{Word, Plain}
-use Rattle.op_forest.specs.Traces.{Wrote}
+use Rattle.lcc_base.specs.Traces.{Wrote}
 use Rattle.forests.specs.Worlds.{World, with_objects, with_arguments, with_input, with_event, Point, at_world, Move, Next, To, End, Effect, Went, Exits, Unfinished, Stuck, then_do, Outcome, Finished, Exited, Going, Failed, goes}
 use Rattle.op_forest.specs.Labels.{behind}
 use Rattle.op_forest.specs.Callees.{Body, BuiltIn, Putchar, Getchar, Exit, Callee, Defined, Provided, Missing}

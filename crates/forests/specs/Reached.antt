@@ -2,7 +2,7 @@
 -- many steps, calls come to with that budget, and with any larger one.
 use Rattle.std.specs.Prelude.{◌≡◌, ℕ, zero, suc, ◌+◌, ◌-◌, ◌≤◌, List}
 use Rattle.std.proofs.Common.{ap, ◌∙◌, subst, arith}
-use Rattle.op_forest.specs.Traces.{Event}
+use Rattle.lcc_base.specs.Traces.{Event}
 use Rattle.forests.specs.Worlds.{Point, Effect, Went, Exits, Unfinished, Stuck}
 use Rattle.forests.specs.Bodies.{body_run}
 use Rattle.forests.specs.Functions.{Program, setting_of}

@@ -1,7 +1,7 @@
 -- What a run acts on: the objects that live, the argument words since the last call, the input that is left, and the
 -- trace. And what its steps give.
 use Rattle.std.specs.Prelude.{ℕ, ◌∷◌, List, [], ◌++◌, Option}
-use Rattle.op_forest.specs.Traces.{Event}
+use Rattle.lcc_base.specs.Traces.{Event}
 use Rattle.forests.specs.Words.{Word}
 use Rattle.forests.specs.Objects.{Object}
 

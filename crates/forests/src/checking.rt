@@ -9,7 +9,7 @@ use crate::calls::is_taken_from;
 use crate::forest_fault::ForestFault;
 use crate::kinds::has_kinds;
 use crate::labels::{has_labels, label_places};
-use crate::slots::has_slots;
+use crate::slots::{SlotTable, has_slots};
 use crate::well_formed::WellFormed;
 use indexmap::IndexMap;
 use op_forest::{Forest, Op, Tree};
@@ -22,7 +22,8 @@ pub fn check_forest(alloc: Global, forest: &Forest) -> Result<WellFormed, Forest
     ensures fault { IfErr result (λ e. IsFaultOf forest.now e) }
 {
     let places = label_places(alloc, forest.roots.as_slice())?;
-    if let Some(fault) = first_fault(forest, &places) {
+    let table = SlotTable::of_slots(alloc, forest.frame.slots())?;
+    if let Some(fault) = first_fault(forest, &places, &table) {
         return Err(fault);
     }
     let copy = Forest::copied(alloc, forest)?;
@@ -30,8 +31,13 @@ pub fn check_forest(alloc: Global, forest: &Forest) -> Result<WellFormed, Forest
 }
 
 /// What is wrong with the first bad root, if one is bad.
-fn first_fault(forest: &Forest, places: &IndexMap<u32, usize>) -> Option<ForestFault>
-    requires { AreFirst 0 forest.now.roots (get nat_eq places.now) }
+fn first_fault(
+    forest: &Forest,
+    places: &IndexMap<u32, usize>,
+    table: &SlotTable,
+) -> Option<ForestFault>
+    requires places { AreFirst 0 forest.now.roots (get nat_eq places.now) }
+    requires slots { table.now ≡ forest.now.frame }
     ensures none { IfNone result (IsWellFormed forest.now) }
     ensures some { IfSome result (IsFaultOf forest.now) }
 {
@@ -40,7 +46,7 @@ fn first_fault(forest: &Forest, places: &IndexMap<u32, usize>) -> Option<ForestF
     let mut is_taken = false;
     for root in (0..roots.len()).rev() {
         let tree = &roots[root];
-        fault = root_fault(forest, places, root, tree, is_taken).or(fault);
+        fault = root_fault(places, table, root, tree, is_taken).or(fault);
         is_taken = is_taken_from(tree, is_taken);
     }
     fault
@@ -48,13 +54,13 @@ fn first_fault(forest: &Forest, places: &IndexMap<u32, usize>) -> Option<ForestF
 
 /// What is wrong with a root, if it is bad.
 fn root_fault(
-    forest: &Forest,
     places: &IndexMap<u32, usize>,
+    table: &SlotTable,
     root: usize,
     tree: &Tree,
     is_taken: bool,
 ) -> Option<ForestFault>
-    ensures { IsRootAnswer forest.now (get nat_eq places.now) root tree.now (IsTrue is_taken) result }
+    ensures { IsRootAnswer table.now (get nat_eq places.now) root tree.now (IsTrue is_taken) result }
 {
     if !has_arities(tree) {
         return Some(ForestFault::Arity { root });
@@ -65,7 +71,7 @@ fn root_fault(
     if !has_labels(places, root, tree) {
         return Some(ForestFault::Label { root });
     }
-    if !has_slots(forest.frame.slots(), tree) {
+    if !has_slots(table, tree) {
         return Some(ForestFault::Slot { root });
     }
     None

@@ -59,7 +59,7 @@ open_one b (Mark CloseBracket) ts = refl
 open_one b (Bound n) ts = refl
 open_one b Wrong ts = refl
 
--- a tree of a wrong number of operands that stands at the front, and ends at the place
+-- a tree of a wrong number of operands that stands at the front, and whose last token stands at the place
 pub record WrongHere (d : MDescription) (tokens : List Tok) (place : ℕ) : Type 0 where
   pub wrong : IsWrongArity d tokens place
   pub front : wrong.at ≡ 0
@@ -97,18 +97,18 @@ wrong_split d b t ts zero (suc i) w e =
     let g = ap length f in
     let h = length-drop i ts in
     let k = tree_long w.tree w.stands.rest in
-    let l = w.stands.end_is in
+    let l = w.stands.last_is in
     absurd (omega arith)
 wrong_split d b t ts (suc q) (suc i) w e =
     let f : drop i ts ≡ tree_then w.tree w.stands.rest = subst (λ (k : ℕ). drop k (t ∷ ts) ≡ tree_then w.tree w.stands.rest) e w.stands.parts in
-    let l = w.stands.end_is in
+    let l = w.stands.last_is in
     inr (
       q,
       refl,
       record {
         at = i;
         tree = w.tree;
-        stands = record { rest = w.stands.rest; parts = f; numbers = w.stands.numbers; ends = w.stands.ends; end_is = omega arith };
+        stands = record { rest = w.stands.rest; parts = f; numbers = w.stands.numbers; ends = w.stands.ends; last_is = omega arith };
         op = w.op;
         terminal = w.terminal;
         named = w.named;

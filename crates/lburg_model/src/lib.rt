@@ -7,8 +7,6 @@ mod pattern;
 mod range;
 mod rule;
 mod terminal;
-#[cfg(test)]
-mod tests;
 mod text_tree;
 mod tree_node;
 

@@ -38,17 +38,21 @@ here_same d tokens p a x e h w = same_tree a w.wrong.tree x w.wrong.stands.rest 
 
 -- ---- one token
 
+-- no tree begins with what is no name
+pub no_name_here : (d : MDescription) (t : Tok) (x : List Tok) (p : ℕ) → ((n : List ℕ) → t ≡ Word n → ⊥) → WrongHere d (t ∷ x) p → ⊥
+no_name_here d t x p h w =
+    let f = front_is w.wrong.tree w.wrong.stands.rest in
+    let e = here_is d (t ∷ x) p w ∙ f.1 in
+    let i : t ≡ Word (root_of w.wrong.tree) = cc in
+    h (root_of w.wrong.tree) i
+
 -- at a token that is no name and opens no parenthesis too many
 pub quiet : (d : MDescription) (b : Before) (t : Tok) (x : List Tok) → ((n : List ℕ) → t ≡ Word n → ⊥) → (t ≡ Mark Open → b.opened < 499) → NoneHere d b (t ∷ x)
 quiet d b t x h k BadTree p g = g
 quiet d b t x h k UnknownOp p g = h g.1.0 (same_Some t (Word g.1.0) g.1.1)
 quiet d b t x h k TooLarge p g = h g.1.0 (same_Some t (Word g.1.0) g.1.1)
 quiet d b t x h k TooHigh p g = let o = k (same_Some t (Mark Open) g.1.0) in let m = g.1.1 in omega arith
-quiet d b t x h k WrongArity p g =
-    let f = front_is g.wrong.tree g.wrong.stands.rest in
-    let e = here_is d (t ∷ x) p g ∙ f.1 in
-    let i : t ≡ Word (root_of g.wrong.tree) = cc in
-    h (root_of g.wrong.tree) i
+quiet d b t x h k WrongArity p g = no_name_here d t x p h g
 
 -- at a name that is known
 pub known : (d : MDescription) (b : Before) (n : List ℕ) (x : List Tok) (op : ℕ) (t : Terminal) → IsNamed d op t n → b.names < 65535 → ((p : ℕ) → WrongHere d (Word n ∷ x) p → ⊥) → NoneHere d b (Word n ∷ x)

@@ -14,8 +14,8 @@ use Rattle.lburg_trees.specs.TailTree.{MTail, Ends, tree_then}
 use Rattle.lburg_trees.specs.Setting.{Before}
 use Rattle.lburg_trees.specs.UnknownOp.{IsNamed}
 use Rattle.lburg_trees.specs.Rows.{Means}
-use Rattle.lburg_trees.specs.Reading.{TreeStops, GoesOn, Fails, NoneBefore, StopsTree, OperandStops, OperandGoesOn, OperandFails, StopsOperand}
-use Rattle.lburg_trees.proofs.Trees.{same_tree, then_append, ends_next, ends_nil}
+use Rattle.lburg_trees.specs.Reading.{IsBehind, TreeStops, GoesOn, Fails, NoneBefore, StopsTree, OperandStops, StopsOperand}
+use Rattle.lburg_trees.proofs.Trees.{same_tree, then_append, ends_next, ends_nil, ends_behind}
 use Rattle.lburg_trees.proofs.Moves.{one, moved, WrongHere, Begins, Fine, split, past, later, ahead}
 use Rattle.lburg_trees.proofs.Fine.{here_is}
 use Rattle.lburg_trees.proofs.Contexts.{Context}
@@ -37,19 +37,16 @@ more_than t u (x ∷ r) more k ends h e =
 pub taken : (t : MTail) (r : List Tok) (k : ℕ) → take (length (tree_then t []) + k) (tree_then t r) ≡ tree_then t (take k r)
 taken t r k = ap (take (length (tree_then t []) + k)) (sym (then_append t [] r)) ∙ take-append-add (tree_then t []) r k ∙ then_append t [] (take k r)
 
-pub ends_later : (d : MDescription) (tokens : List Tok) (place p : ℕ) → GoesOn tokens place → place < length tokens → WrongHere d tokens p → place < p
-ends_later d tokens place p g w h =
-    let t = h.wrong.tree in
-    let r = h.wrong.stands.rest in
-    let is = here_is d tokens p h in
-    let long : length tokens ≡ length (tree_then t []) + length r = ap length (is ∙ sym (then_append t [] r)) ∙ length-append (tree_then t []) r in
-    let end_is = h.wrong.stands.end_is in
-    let f : p ≤ place → ⊥ =
+-- where a part of a line goes on to be a tree, it isn't longer than the tree at the front
+goes_inside : (line : List Tok) (q : ℕ) (kid : MTail) (after : List Tok) → GoesOn line q → q < length line → line ≡ tree_then kid after → Ends kid after → q < length (tree_then kid [])
+goes_inside line q kid after g w e ends =
+    let long : length line ≡ length (tree_then kid []) + length after = ap length (e ∙ sym (then_append kid [] after)) ∙ length-append (tree_then kid []) after in
+    let f : length (tree_then kid []) ≤ q → ⊥ =
     λ le. (
-    let k : ℕ = place - p in
-    let n : place + 1 ≡ length (tree_then t []) + suc k = omega arith in
-    let e : take (place + 1) tokens ≡ tree_then t (take (suc k) r) = ap (λ (z : ℕ). take z tokens) n ∙ ap (take (length (tree_then t []) + suc k)) is ∙ taken t r (suc k) in
-    more_than t g.0 r g.1 k h.wrong.stands.ends (omega arith) (ap (λ (l : List Tok). l ++ g.1) (sym e) ∙ g.3)
+    let k : ℕ = q - length (tree_then kid []) in
+    let n : q + 1 ≡ length (tree_then kid []) + suc k = omega arith in
+    let t : take (q + 1) line ≡ tree_then kid (take (suc k) after) = ap (λ (z : ℕ). take z line) n ∙ ap (take (length (tree_then kid []) + suc k)) e ∙ taken kid after (suc k) in
+    more_than kid g.0 after g.1 k ends (omega arith) (ap (λ (l : List Tok). l ++ g.1) (sym t) ∙ g.3)
     ) in
     omega (arith, f)
 
@@ -91,49 +88,73 @@ none_passed d b behind n pre line k s none w row p lt m =
 
 -- ---- an operand in its tree
 
+-- the operand in a tree of a wrong number of operands, which ends behind it
+pub record Holds (last : Bool) (pre line : List Tok) (place : ℕ) : Type 0 where
+  pub kid : MTail
+  pub after : List Tok
+  pub behind : IsBehind last after
+  pub parts : line ≡ tree_then kid after
+  pub later : suc (length pre + length line) < suc place + length after
+
+pub holds : (d : MDescription) (n : List ℕ) (pre : List Tok) (last : Bool) (line : List Tok) (p : ℕ) → Context n pre last → WrongHere d (Word n ∷ (pre ++ line)) p → Holds last pre line p
+holds d n pre last line p c w =
+    let o = c.opens w.wrong.tree w.wrong.stands.rest line w.wrong.stands.numbers w.wrong.stands.ends (here_is d _ p w) in
+    let long = length-append pre line in
+    let end = w.wrong.stands.last_is in
+    let more = o.5 in
+    record { kid = o.0; after = o.1; behind = o.3; parts = o.4; later = omega arith }
+
+-- what fails inside the operand stands before the last token of its tree
+root_later : (d : MDescription) (n : List ℕ) (pre : List Tok) (last : Bool) (line : List Tok) (q p : ℕ) → Context n pre last → GoesOn line q → q < length line → WrongHere d (Word n ∷ (pre ++ line)) p → suc (length pre + q) < p
+root_later d n pre last line q p c g within w =
+    let h = holds d n pre last line p c w in
+    let inside = goes_inside line q h.kid h.after g within h.parts (ends_behind last h.kid h.after h.behind) in
+    let long : length line ≡ length (tree_then h.kid []) + length h.after = ap length (h.parts ∙ sym (then_append h.kid [] h.after)) ∙ length-append (tree_then h.kid []) h.after in
+    let later = h.later in
+    omega arith
+
 pub lift_stops : (n : List ℕ) (pre : List Tok) (last : Bool) (line rest : List Tok) → Context n pre last → OperandStops last line rest → TreeStops (Word n ∷ (pre ++ line)) rest
 lift_stops n pre last line rest c s =
     let t = s.begun.0 in
-    let w = c.wraps t (Mark Close ∷ []) s.begun.2 (inl refl) in
-    let more = s.begun.1 ++ (Mark Close ∷ w.1) in
+    let w = c.wraps t s.begun.2 in
+    let more = s.begun.1 ++ Mark Close ∷ [] in
     record {
       front = Word n ∷ (pre ++ s.front);
       parts = ap (λ (l : List Tok). Word n ∷ l) (ap (λ (l : List Tok). pre ++ l) s.parts ∙ sym (append_assoc pre s.front rest));
       begun = (
         w.0,
         more,
-        w.2,
-        ap (λ (l : List Tok). Word n ∷ l) (append_assoc pre s.front more ∙ ap (λ (l : List Tok). pre ++ l) (sym (append_assoc s.front s.begun.1 (Mark Close ∷ w.1)) ∙ ap (λ (l : List Tok). l ++ (Mark Close ∷ w.1)) s.begun.3 ∙ then_append t [] (Mark Close ∷ w.1) ∙ sym (then_append t (Mark Close ∷ []) w.1))) ∙ w.3,
+        w.1,
+        ap (λ (l : List Tok). Word n ∷ l) (append_assoc pre s.front more ∙ ap (λ (l : List Tok). pre ++ l) (sym (append_assoc s.front s.begun.1 (Mark Close ∷ [])) ∙ ap (λ (l : List Tok). l ++ Mark Close ∷ []) s.begun.3 ∙ then_append t [] (Mark Close ∷ []))) ∙ w.2,
       );
       stuck = λ whole after more h ends e f.
           (let o = c.opens whole after (s.front ++ more) h ends (ap (λ (l : List Tok). Word n ∷ l) (sym (append_assoc pre s.front more)) ∙ e) in s.stuck o.0 o.1 more o.2 o.3 o.4 f);
     }
 
-lift_goes : (n : List ℕ) (pre : List Tok) (last : Bool) (line : List Tok) (q : ℕ) → Context n pre last → OperandGoesOn last line q → GoesOn (Word n ∷ (pre ++ line)) (suc (length pre + q))
+lift_goes : (n : List ℕ) (pre : List Tok) (last : Bool) (line : List Tok) (q : ℕ) → Context n pre last → GoesOn line q → GoesOn (Word n ∷ (pre ++ line)) (suc (length pre + q))
 lift_goes n pre last line q c g =
-    let w = c.wraps g.0 g.1 g.3 g.4 in
+    let w = c.wraps g.0 g.2 in
+    let more = g.1 ++ Mark Close ∷ [] in
     let e : suc (length pre + q) + 1 ≡ suc (length pre + (q + 1)) = omega arith in
     let t : take (suc (length pre + q) + 1) (Word n ∷ (pre ++ line)) ≡ Word n ∷ (pre ++ take (q + 1) line) =
     ap (λ (k : ℕ). take k (Word n ∷ (pre ++ line))) e ∙ ap (λ (l : List Tok). Word n ∷ l) (take-append-add pre line (q + 1)) in (
       w.0,
-      g.2 ++ w.1,
-      w.2,
-      ap (λ (l : List Tok). l ++ (g.2 ++ w.1)) t ∙ ap (λ (l : List Tok). Word n ∷ l) (append_assoc pre (take (q + 1) line) (g.2 ++ w.1) ∙ ap (λ (l : List Tok). pre ++ l) (sym (append_assoc (take (q + 1) line) g.2 w.1) ∙ ap (λ (l : List Tok). l ++ w.1) g.5)) ∙ w.3,
+      more,
+      w.1,
+      ap (λ (l : List Tok). l ++ more) t ∙ ap (λ (l : List Tok). Word n ∷ l) (append_assoc pre (take (q + 1) line) more ∙ ap (λ (l : List Tok). pre ++ l) (sym (append_assoc (take (q + 1) line) g.1 (Mark Close ∷ [])) ∙ ap (λ (l : List Tok). l ++ Mark Close ∷ []) g.3 ∙ then_append g.0 [] (Mark Close ∷ []))) ∙ w.2,
     )
 
-pub lift_fails : (d : MDescription) (b behind : Before) (n : List ℕ) (pre : List Tok) (last : Bool) (line : List Tok) (row : Row) (q : ℕ) → Context n pre last → Passed d b behind n pre line → OperandFails d behind last row line q → Fails d b row (Word n ∷ (pre ++ line)) (suc (length pre + q))
+pub lift_fails : (d : MDescription) (b behind : Before) (n : List ℕ) (pre : List Tok) (last : Bool) (line : List Tok) (row : Row) (q : ℕ) → Context n pre last → Passed d b behind n pre line → Fails d behind row line q → Fails d b row (Word n ∷ (pre ++ line)) (suc (length pre + q))
 lift_fails d b behind n pre last line row q c s f =
-    let goes = lift_goes n pre last line q c f.goes_on in
     let long = length-append pre line in
     let inside = f.within in
-    let within : suc (length pre + q) < length (Word n ∷ (pre ++ line)) = omega arith in
     record {
-      within = within;
+      within = omega arith;
       means = later d b row (Word n) (pre ++ line) (length pre + q) (ahead d (one b (Word n)) pre line row q (subst (λ (z : Before). Means d z row line q) (sym s.moves) f.means));
-      goes_on = goes;
+      goes_on = lift_goes n pre last line q c f.goes_on;
       least = λ other p m.
           elim (analysed d b behind n pre line other p s m) [
-            | inl g ↦ inl (ends_later d _ (suc (length pre + q)) p goes within g.1)
+            | inl g ↦ inl (root_later d n pre last line q p c f.goes_on f.within g.1)
             | inr h ↦ (
                 let e = h.1 in
                 elim (f.least other h.0 h.2) [

@@ -63,7 +63,7 @@ open_one b (Mark CloseBracket) ts = refl
 open_one b (Bound n) ts = refl
 open_one b Wrong ts = refl
 
--- a tree of a wrong number of operands that stands at the front, and ends at the place
+-- a tree of a wrong number of operands that stands at the front, and whose last token stands at the place
 pub record WrongHere (d : MDescription) (tokens : List Tok) (place : ℕ) : Type 0 where
   pub wrong : IsWrongArity d tokens place
   pub front : wrong.at ≡ 0
@@ -80,7 +80,7 @@ Begins d b TooHigh tokens p = (p ≡ 0) × IsTooHigh b tokens 0
 abbrev pub Later : MDescription → Before → Row → Tok → List Tok → ℕ → Type 0
 Later d b row t ts p = (q : ℕ) × (p ≡ suc q) × Means d (one b t) row ts q
 
-constant_long : (c : Option MNumber) (x : List Tok) → length x ≤ length (constant_then c x)
+pub constant_long : (c : Option MNumber) (x : List Tok) → length x ≤ length (constant_then c x)
 constant_long None x = omega arith
 constant_long (Some n) x = omega arith
 
@@ -101,18 +101,18 @@ wrong_split d b t ts zero (suc i) w e =
     let g = ap length f in
     let h = length-drop i ts in
     let k = tree_long w.tree w.stands.rest in
-    let l = w.stands.end_is in
+    let l = w.stands.last_is in
     absurd (omega arith)
 wrong_split d b t ts (suc q) (suc i) w e =
     let f : drop i ts ≡ tree_then w.tree w.stands.rest = subst (λ (k : ℕ). drop k (t ∷ ts) ≡ tree_then w.tree w.stands.rest) e w.stands.parts in
-    let l = w.stands.end_is in
+    let l = w.stands.last_is in
     inr (
       q,
       refl,
       record {
         at = i;
         tree = w.tree;
-        stands = record { rest = w.stands.rest; parts = f; numbers = w.stands.numbers; ends = w.stands.ends; end_is = omega arith };
+        stands = record { rest = w.stands.rest; parts = f; numbers = w.stands.numbers; ends = w.stands.ends; last_is = omega arith };
         op = w.op;
         terminal = w.terminal;
         named = w.named;
@@ -135,11 +135,11 @@ split d b WrongArity t ts p m = wrong_split d b t ts p m.at m refl
 
 wrong_later : (d : MDescription) (t : Tok) (ts : List Tok) (q : ℕ) → IsWrongArity d ts q → IsWrongArity d (t ∷ ts) (suc q)
 wrong_later d t ts q w =
-    let l = w.stands.end_is in
+    let l = w.stands.last_is in
     record {
       at = suc w.at;
       tree = w.tree;
-      stands = record { rest = w.stands.rest; parts = w.stands.parts; numbers = w.stands.numbers; ends = w.stands.ends; end_is = omega arith };
+      stands = record { rest = w.stands.rest; parts = w.stands.parts; numbers = w.stands.numbers; ends = w.stands.ends; last_is = omega arith };
       op = w.op;
       terminal = w.terminal;
       named = w.named;

@@ -16,11 +16,11 @@ use Rattle.lburg_trees.specs.Setting.{Before, nothing}
 use Rattle.lburg_trees.specs.BadTree.{IsBadTree}
 use Rattle.lburg_trees.specs.Rows.{Means, Stands, row_number}
 use Rattle.lburg_trees.specs.TailText.{IsTree}
-use Rattle.lburg_trees.specs.Reading.{ReadsTree, TreeStops, Fails, NoneBefore, StopsTree, RootFits, RootDiffers, IsLineFault, IsFine, LineStops}
+use Rattle.lburg_trees.specs.Reading.{ReadsTree, TreeStops, Fails, NoneBefore, StopsTree, IsLineFault, IsFine, LineStops}
 use Rattle.lburg_trees.proofs.Trees.{same_tree, then_append, ends_next, ends_nil}
 use Rattle.lburg_trees.proofs.Moves.{tree_long, moved, past}
 use Rattle.lburg_trees.proofs.Fine.{fine_then}
-use Rattle.lburg_trees.proofs.Operands.{compared, tree_means, wrong_root}
+use Rattle.lburg_trees.proofs.Operands.{compared}
 
 -- ---- what follows of a place
 
@@ -167,44 +167,15 @@ tree_fine d tokens t is k WrongArity p s = no_means d tokens t WrongArity p is k
 tree_fine d tokens t is k TooLarge p s = no_means d tokens t TooLarge p is k s
 tree_fine d tokens t is k TooHigh p s = no_means d tokens t TooHigh p is k s
 
-pub whole_tree : (d : MDescription) (tokens rest : List Tok) (t : MTree) → ReadsTree d nothing tokens rest t → rest ≡ [] → RootFits d t → IsTree d tokens t
-whole_tree d tokens rest t r e f =
+pub whole_tree : (d : MDescription) (tokens rest : List Tok) (t : MTree) → ReadsTree d nothing tokens rest t → rest ≡ [] → IsTree d tokens t
+whole_tree d tokens rest t r e =
     let small = r.small in
     let low = r.low in
     record {
       written = r.written;
       numbers = r.numbers;
       tokens_are = r.parts ∙ ap (tree_then r.written) e;
-      means = tree_means d r.written t r.means f;
+      means = r.means;
       small = omega arith;
       low = omega arith;
     }
-
--- ---- the tree is the whole line, and its root has a wrong number of operands
-
-end_rows : (d : MDescription) (tokens : List Tok) (other : Row) (p : ℕ) → p ≡ length tokens → Means d nothing other tokens p → 3 ≤ row_number other
-end_rows d tokens BadTree p e m = absurd m
-end_rows d tokens UnknownOp p e m = let l = slice_get_within tokens p _ m.1 in absurd (omega arith)
-end_rows d tokens WrongArity p e m = omega arith
-end_rows d tokens TooLarge p e m = omega arith
-end_rows d tokens TooHigh p e m = omega arith
-
-end_least : (d : MDescription) (tokens : List Tok) → NoneBefore d nothing tokens (length tokens) → (other : Row) (p : ℕ) → Means d nothing other tokens p → Goes WrongArity (length tokens) other p
-end_least d tokens none other p m =
-    elim (compared (length tokens) p) [
-      | inl l ↦ inl l
-      | inr r ↦ elim r [ inl e ↦ inr (e, end_rows d tokens other p (sym e) m) | inr l ↦ absurd (none other p l m) ]
-    ]
-
-pub wrong_whole : (d : MDescription) (tokens rest : List Tok) (t : MTree) → ReadsTree d nothing tokens rest t → rest ≡ [] → RootDiffers d t → LineStops d tokens (Fault WrongArity (length rest))
-wrong_whole d tokens rest t r e f =
-    let l = ap length e in
-    let k : length tokens - length rest ≡ length tokens = omega arith in
-    let is : IsTreeLine tokens = inr (r.written, r.numbers, r.parts ∙ ap (tree_then r.written) e) in (
-      length tokens,
-      omega arith,
-      record {
-        stands = wrong_root d nothing tokens rest t (length tokens) r f (omega arith);
-        least = all_rows d tokens WrongArity (length tokens) (λ p h. absurd (stops_not IsTreeLine tokens h.0 h.1 is)) (end_least d tokens (subst (λ (z : ℕ). NoneBefore d nothing tokens z) k r.none));
-      },
-    )

@@ -8,10 +8,10 @@ use Rattle.lburg_lines.specs.Tokens.{Tok, Word, Mark}
 use Rattle.lburg_lines.specs.Spelling.{Spells}
 use Rattle.lburg_lines.specs.Numbers.{MNumber, IsNumber, number_token, number_value}
 use Rattle.lburg_model.specs.declared.terminal.Terminal.{Terminal}
-use Rattle.lburg_model.specs.Tree.{MTree, TLeaf, TOne, TTwo, nodes, op_of, kids_of}
+use Rattle.lburg_model.specs.Tree.{MTree, nodes}
 use Rattle.lburg_model.specs.Description.{MDescription, terminal_at}
 use Rattle.lburg_trees.specs.declared.row.Row.{Row}
-use Rattle.lburg_trees.specs.declared.row.Row.TheVariants.{BadTree}
+use Rattle.lburg_trees.specs.declared.row.Row.TheVariants.{BadTree, WrongArity, TooLarge}
 use Rattle.lburg_trees.specs.declared.stop.Stop.{Stop}
 use Rattle.lburg_trees.specs.declared.stop.Stop.TheVariants.{Memory, Fault}
 use Rattle.lburg_trees.specs.declared.tree_fault.TreeFault.{TreeFault}
@@ -22,15 +22,7 @@ use Rattle.lburg_trees.specs.Rows.{Means, Stands, row_number}
 use Rattle.lburg_trees.specs.FirstFault.{told}
 use Rattle.lburg_trees.specs.TailText.{TreeMeans, height}
 
--- the tree means this one, whatever the number of operands at its root
-abbrev pub RootMeans : MDescription → MTail → MTree → Type 0
-RootMeans d (Alone name c) (TLeaf op value) = ((t : Terminal) × IsNamed d op t name) × (value ≡ option_map number_value c)
-RootMeans d (Over name c a) (TOne op value t) = ((k : Terminal) × IsNamed d op k name) × (value ≡ option_map number_value c) × TreeMeans d a t
-RootMeans d (Both name c a b) (TTwo op value t u) = ((k : Terminal) × IsNamed d op k name) × (value ≡ option_map number_value c) × TreeMeans d a t × TreeMeans d b u
-RootMeans d s t = ⊥
-
--- No fault of names and counts stands among the tokens before the place. What stands at the place itself is the number of operands
--- of the tree that ends there.
+-- no fault of names and counts stands among the tokens before the place
 abbrev pub NoneBefore : MDescription → Before → List Tok → ℕ → Type 0
 NoneBefore d before tokens place = (row : Row) (p : ℕ) → p < place → Means d before row tokens p → ⊥
 
@@ -40,7 +32,7 @@ pub record ReadsTree (d : MDescription) (before : Before) (tokens rest : List To
   pub numbers : HasNumbers written
   pub parts : tokens ≡ tree_then written rest
   pub ends : Ends written rest
-  pub means : RootMeans d written tree
+  pub means : TreeMeans d written tree
   pub small : before.names + nodes tree ≤ 65535
   pub low : before.opened + height written ≤ 500
   pub none : NoneBefore d before tokens (length tokens - length rest)
@@ -122,32 +114,39 @@ opened name constant line = Word name ∷ constant_then constant (Mark Open ∷ 
 abbrev pub IsKnown : MDescription → ℕ → Type 0
 IsKnown d op = (t : Terminal) × (terminal_at d op ≡ Some t)
 
--- the root has as many operands as it may have
-pub record RootFits (d : MDescription) (tree : MTree) : Type 0 where
+-- an operator may have so many operands
+pub record CountFits (d : MDescription) (op count : ℕ) : Type 0 where
   pub terminal : Terminal
-  pub known : terminal_at d (op_of tree) ≡ Some terminal
-  pub fits : (terminal.arity ≡ Some (length (kids_of tree))) ⊎ (terminal.arity ≡ None)
+  pub known : terminal_at d op ≡ Some terminal
+  pub fits : (terminal.arity ≡ Some count) ⊎ (terminal.arity ≡ None)
 
--- the root has another number of operands
-pub record RootDiffers (d : MDescription) (tree : MTree) : Type 0 where
+-- it has another number of operands
+pub record CountDiffers (d : MDescription) (op count : ℕ) : Type 0 where
   pub terminal : Terminal
-  pub known : terminal_at d (op_of tree) ≡ Some terminal
+  pub known : terminal_at d op ≡ Some terminal
   pub arity : ℕ
   pub arity_is : terminal.arity ≡ Some arity
-  pub differs : length (kids_of tree) ≢ arity
+  pub differs : count ≢ arity
+
+-- a name before these tokens has neither a constant nor operands
+abbrev pub IsAlone : List Tok → Type 0
+IsAlone rest = (next rest ≢ Some (Mark OpenBracket)) × (next rest ≢ Some (Mark Open))
+
+-- the fault at the name of an operator behind which these tokens stand, where too many names came before: a name that
+-- may not be alone and is goes first
+abbrev pub IsPastMost : MDescription → ℕ → List Tok → Row → Type 0
+IsPastMost d op rest WrongArity = IsAlone rest × CountDiffers d op 0
+IsPastMost d op rest TooLarge = IsAlone rest → CountFits d op 0
+IsPastMost d op rest row = ⊥
 
 -- ---- an operand: behind the last the parenthesis closes, behind another a comma may stand
 
 abbrev pub IsBehind : Bool → List Tok → Type 0
 IsBehind last rest = (next rest ≡ Some (Mark Close)) ⊎ ((last ≡ false) × (next rest ≡ Some (Mark Comma)))
 
-abbrev pub IsEnd : Bool → List Tok → Type 0
-IsEnd last rest = (rest ≡ Mark Close ∷ []) ⊎ ((last ≡ false) × (rest ≡ Mark Comma ∷ []))
-
 -- an operand stands at the front
 pub record ReadsOperand (d : MDescription) (before : Before) (last : Bool) (tokens rest : List Tok) (tree : MTree) : Type 0 where
   pub reads : ReadsTree d before tokens rest tree
-  pub fits : RootFits d tree
   pub behind : IsBehind last rest
 
 -- The line is front and then rest. Some tree begins with front, and no operand goes on behind front as rest does.
@@ -157,22 +156,11 @@ pub record OperandStops (last : Bool) (line rest : List Tok) : Type 0 where
   pub begun : (tree : MTail) × (more : List Tok) × HasNumbers tree × (front ++ more ≡ tree_then tree [])
   pub stuck : (tree : MTail) (after more : List Tok) → HasNumbers tree → IsBehind last after → front ++ more ≡ tree_then tree after → next more ≡ next rest → ⊥
 
--- some operand, with what ends it, begins with the tokens up to the place
-abbrev pub OperandGoesOn : Bool → List Tok → ℕ → Type 0
-OperandGoesOn last tokens place = (tree : MTail) × (after more : List Tok) × HasNumbers tree × IsEnd last after × (take (place + 1) tokens ++ more ≡ tree_then tree after)
-
--- a fault of names and counts at the place goes first
-pub record OperandFails (d : MDescription) (before : Before) (last : Bool) (row : Row) (tokens : List Tok) (place : ℕ) : Type 0 where
-  pub within : place < length tokens
-  pub means : Means d before row tokens place
-  pub goes_on : OperandGoesOn last tokens place
-  pub least : (other : Row) (p : ℕ) → Means d before other tokens p → (place < p) ⊎ ((place ≡ p) × (row_number row ≤ row_number other))
-
 -- why no operand was read, where so many tokens are left
 abbrev pub StopsOperand : MDescription → Before → Bool → List Tok → Stop → Type 0
 StopsOperand d before last tokens Memory = Unit {0}
 StopsOperand d before last tokens (Fault BadTree left) = (rest : List Tok) × (length rest ≡ left) × OperandStops last tokens rest × NoneBefore d before tokens (length tokens - left)
-StopsOperand d before last tokens (Fault row left) = (place : ℕ) × (place + left ≡ length tokens) × OperandFails d before last row tokens place
+StopsOperand d before last tokens (Fault row left) = (place : ℕ) × (place + left ≡ length tokens) × Fails d before row tokens place
 
 -- ---- lines of a tail
 

@@ -5,13 +5,13 @@ ghost use Rattle.lcc_text.specs.Stops.{next};
 ghost use Rattle.lburg_lines.specs.Tokens.{Tok, Mark, views};
 ghost use Rattle.lburg_lines.specs.Numbers.{MNumber};
 ghost use Rattle.lburg_model.specs.declared.terminal.Terminal.{Terminal as Terminals};
-ghost use Rattle.lburg_model.specs.Description.{IsDescription, terminal_names};
-ghost use Rattle.lburg_model.specs.Tree.{nodes, op_of};
+ghost use Rattle.lburg_model.specs.Description.{MDescription as Descriptions, IsDescription, terminal_names};
+ghost use Rattle.lburg_model.specs.Tree.{nodes};
 ghost use Rattle.lburg_trees.specs.Setting.{placed, Before as Settings};
 ghost use Rattle.lburg_trees.specs.UnknownOp.{IsNamed};
 ghost use Rattle.lburg_trees.specs.Reading.{IsFine, LineStops, ReadsTree, StopsTree};
 ghost use Rattle.lburg_trees.specs.Reading.{IsHead, ReadsHead, ReadsConstant, StopsConstant, opened};
-ghost use Rattle.lburg_trees.specs.Reading.{IsKnown, RootFits, RootDiffers, IsBehind, ReadsOperand, StopsOperand};
+ghost use Rattle.lburg_trees.specs.Reading.{IsKnown, CountFits, CountDiffers, IsPastMost, IsBehind, ReadsOperand, StopsOperand};
 ghost use Rattle.lburg_trees.specs.TailText.{IsTree};
 
 use crate::name_table::Names;
@@ -117,6 +117,7 @@ fn operator<'a>(d: &Description, names: &Names<'a>, name: &'a [u8]) -> Option<u1
     requires { bytes_of names.now.set ≡ terminal_names d.now }
     ensures some { IfSome result (λ op. (t : Terminals) × IsNamed d.now op t name.now) }
     ensures none { IfNone result ((op : ℕ) (t : Terminals) → IsNamed d.now op t name.now → ⊥) }
+    ensures is { IsDescription d.now }
 {
     let terminals = d.terminals();
     let guess = names.guess(name);
@@ -126,6 +127,44 @@ fn operator<'a>(d: &Description, names: &Names<'a>, name: &'a [u8]) -> Option<u1
     let place = find(&names.set, name)?;
     prove!(place < terminals.len());
     Some(place as u16 + 1)
+}
+
+/// Whether an operator may have so many operands.
+fn may_have(d: &Description, op: u16, count: usize) -> bool
+    requires { IsKnown d.now op }
+    ensures yes { IsTrue result → CountFits d.now op count }
+    ensures no { result ≡ false → CountDiffers d.now op count }
+{
+    match d.terminals()[op as usize - 1].arity {
+        None => true,
+        Some(arity) => count == arity as usize,
+    }
+}
+
+/// Looks at the number of operands of a tree, behind which these tokens stand.
+fn check_arity(d: &Description, op: u16, count: usize, rest: &[Token]) -> Result<(), Stop>
+    requires { IsKnown d.now op }
+    ensures ok { IfOk result (λ _. CountFits d.now op count) }
+    ensures err { IfErr result (λ s. (s ≡ Stop.Fault Row.WrongArity (length rest.now + 1)) × CountDiffers d.now op count) }
+{
+    if may_have(d, op, count) {
+        Ok(())
+    } else {
+        Err(Stop::Fault(Row::WrongArity, rest.len() + 1))
+    }
+}
+
+/// The fault at an operator's name, behind which these tokens stand, where the line has too many names before it: an
+/// operator that may not be alone and is has a wrong number of operands, and that goes first.
+fn past_most(d: &Description, op: u16, rest: &[Token]) -> Row
+    requires { IsKnown d.now op }
+    ensures { IsPastMost d.now op (views rest.now) result }
+{
+    if is_next(rest, Sign::OpenBracket) || is_next(rest, Sign::Open) || may_have(d, op, 0) {
+        Row::TooLarge
+    } else {
+        Row::WrongArity
+    }
 }
 
 /// The name of a node with its constant.
@@ -138,6 +177,7 @@ fn head_at<'t, 'a>(
     requires { bytes_of names.now.set ≡ terminal_names d.now }
     ensures found { IfOk result (λ h. ReadsHead d.now (placed before.opened before.names) (views tokens.now) (views h.rest.now) h.op h.value) }
     ensures shorter { IfOk result (λ h. length h.rest.now < length tokens.now) }
+    ensures is { IfOk result (λ _. IsDescription d.now) }
     ensures stops { IfErr result (λ s. StopsTree d.now (placed before.opened before.names) (views tokens.now) s) }
 {
     let (name, rest) = match name_at(tokens) {
@@ -148,7 +188,7 @@ fn head_at<'t, 'a>(
         return Err(Stop::Fault(Row::UnknownOp, tokens.len()));
     };
     if before.names >= MOST_NODES {
-        return Err(Stop::Fault(Row::TooLarge, tokens.len()));
+        return Err(Stop::Fault(past_most(d, op, rest), tokens.len()));
     }
     match constant_at(rest) {
         Ok((value, rest)) => Ok(Head { op, value, rest }),
@@ -156,45 +196,16 @@ fn head_at<'t, 'a>(
     }
 }
 
-/// Whether the tree's root may have as many operands as it has.
-fn may_have(d: &Description, tree: &TextTree) -> bool
-    requires { IsKnown d.now (op_of tree.now) }
-    ensures yes { IsTrue result → RootFits d.now tree.now }
-    ensures no { result ≡ false → RootDiffers d.now tree.now }
-    ensures is { IsDescription d.now }
-{
-    match d.terminals()[tree.op() as usize - 1].arity {
-        None => true,
-        Some(arity) => tree.arity() == arity as usize,
-    }
-}
-
-/// Looks at the number of operands of a tree, behind which the line goes on.
-fn check_arity<'t, 'a>(d: &Description, found: &Found<'t, 'a>) -> Result<(), Stop>
-    requires { IsKnown d.now (op_of found.now.tree) }
-    ensures ok { IfOk result (λ _. RootFits d.now found.now.tree) }
-    ensures err { IfErr result (λ s. (s ≡ Stop.Fault Row.WrongArity (length found.now.rest.now)) × RootDiffers d.now found.now.tree) }
-    ensures is { IsDescription d.now }
-{
-    if may_have(d, &found.tree) {
-        Ok(())
-    } else {
-        Err(Stop::Fault(Row::WrongArity, found.rest.len()))
-    }
-}
-
-/// Looks at what stands behind a tree that is an operand, and at the number of its own operands. Behind it the
-/// parenthesis closes or, if it isn't the last, a comma may stand.
-fn check_operand<'t, 'a>(d: &Description, found: &Found<'t, 'a>, last: bool) -> Result<(), Stop>
-    requires { IsKnown d.now (op_of found.now.tree) }
-    ensures found { (before : Settings) (line : List Tok) → ReadsTree d.now before line (views found.now.rest.now) found.now.tree
-        → IfOk result (λ _. ReadsOperand d.now before last line (views found.now.rest.now) found.now.tree) }
-    ensures is { IfOk result (λ _. IsDescription d.now) }
-    ensures stops { (before : Settings) (line : List Tok) → ReadsTree d.now before line (views found.now.rest.now) found.now.tree
-        → IfErr result (λ s. StopsOperand d.now before last line s) }
+/// Looks at what stands behind a tree that is an operand. There the parenthesis closes or, if it isn't the last, a
+/// comma may stand.
+fn check_behind<'t, 'a>(found: &Found<'t, 'a>, last: bool) -> Result<(), Stop>
+    ensures found { (d : Descriptions) (before : Settings) (line : List Tok) → ReadsTree d before line (views found.now.rest.now) found.now.tree
+        → IfOk result (λ _. ReadsOperand d before last line (views found.now.rest.now) found.now.tree) }
+    ensures stops { (d : Descriptions) (before : Settings) (line : List Tok) → ReadsTree d before line (views found.now.rest.now) found.now.tree
+        → IfErr result (λ s. StopsOperand d before last line s) }
 {
     if ends_operand(found.rest, last) {
-        check_arity(d, found)
+        Ok(())
     } else {
         Err(Stop::Fault(Row::BadTree, found.rest.len()))
     }
@@ -219,8 +230,7 @@ pub(crate) fn two_kids(alloc: Global, a: TextTree, b: TextTree) -> Result<Items<
     Ok(kids)
 }
 
-/// The tree that is next. The number of operands at its root is left to the caller, who looks first what
-/// stands behind it.
+/// The tree that is next.
 #[cycle(tree)]
 pub(crate) fn tree_at<'t, 'a>(
     alloc: Global,
@@ -234,15 +244,19 @@ pub(crate) fn tree_at<'t, 'a>(
     ensures found { IfOk result (λ f. ReadsTree d.now (record { opened = before.opened; names = before.names }) (views tokens.now) (views f.rest.now) f.tree) }
     ensures counted { IfOk result (λ f. f.names ≡ before.names + nodes f.tree) }
     ensures shorter { IfOk result (λ f. length f.rest.now < length tokens.now) }
+    ensures is { IfOk result (λ _. IsDescription d.now) }
     ensures stops { IfErr result (λ s. StopsTree d.now (record { opened = before.opened; names = before.names }) (views tokens.now) s) }
 {
     let head = head_at(d, names, before, tokens)?;
     match after_sign(head.rest, Sign::Open) {
-        Err(_) => Ok(Found {
-            tree: TextTree::new(head.op, head.value, Items::new(alloc)),
-            names: before.names + 1,
-            rest: head.rest,
-        }),
+        Err(_) => {
+            check_arity(d, head.op, 0, head.rest)?;
+            Ok(Found {
+                tree: TextTree::new(head.op, head.value, Items::new(alloc)),
+                names: before.names + 1,
+                rest: head.rest,
+            })
+        }
         Ok(rest) => {
             if before.opened >= MOST_OPEN {
                 return Err(Stop::Fault(Row::TooHigh, head.rest.len()));
@@ -269,6 +283,8 @@ fn operands<'t, 'a>(
     requires names { bytes_of names.now.set ≡ terminal_names d.now }
     requires open { before.opened < 499 }
     requires few { before.names < 65535 }
+    requires known { IsKnown d.now head.op }
+    requires is { IsDescription d.now }
     ensures found { (name : List ℕ) (c : Option MNumber)
         → IsHead d.now (placed before.opened before.names) head.entry.op head.entry.value name c
         → IfOk result (λ f. ReadsTree d.now (placed before.opened before.names) (opened name c (views head.entry.rest.now)) (views f.rest.now) f.tree) }
@@ -283,8 +299,9 @@ fn operands<'t, 'a>(
         names: before.names + 1,
     };
     let first = tree_at(alloc, d, names, inside, head.rest)?;
-    check_operand(d, &first, false)?;
+    check_behind(&first, false)?;
     if let Ok(rest) = after_sign(first.rest, Sign::Close) {
+        check_arity(d, head.op, 1, rest)?;
         let kids = one_kid(alloc, first.tree)?;
         return Ok(Found {
             tree: TextTree::new(head.op, head.value, kids),
@@ -298,8 +315,9 @@ fn operands<'t, 'a>(
         names: first.names,
     };
     let second = tree_at(alloc, d, names, inside, rest)?;
-    check_operand(d, &second, true)?;
+    check_behind(&second, true)?;
     let (_, rest) = second.rest.split_at(1);
+    check_arity(d, head.op, 2, rest)?;
     let kids = two_kids(alloc, first.tree, second.tree)?;
     Ok(Found {
         tree: TextTree::new(head.op, head.value, kids),
@@ -332,9 +350,6 @@ pub(crate) fn line_tree<'t, 'a>(
     let found = tree_at(alloc, d, names, nothing, tokens)?;
     match end_of(found.rest) {
         Err(error) => Err(broken(error)),
-        Ok(()) => {
-            check_arity(d, &found)?;
-            Ok(Some((found.tree, found.names)))
-        }
+        Ok(()) => Ok(Some((found.tree, found.names))),
     }
 }

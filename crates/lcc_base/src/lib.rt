@@ -18,8 +18,6 @@ mod sink;
 mod source;
 mod standard;
 mod steps;
-#[cfg(test)]
-mod tests;
 mod which;
 mod whole;
 mod words;

@@ -1,7 +1,7 @@
 ghost use Rattle.std.specs.Prelude.{◌≡◌, ◌≤◌, length, IfOk, OnOk, OnErr, IsErrOf};
 ghost use Rattle.std.specs.Io.KnownBytes.{Consumes, IsAtEnd, Appends};
 ghost use Rattle.lcc_base.specs.Faults.{Rose, HasCause};
-ghost use Rattle.lcc_base.specs.Taken.{TookAtMost, TookMore, TookPrefix};
+ghost use Rattle.lcc_base.specs.Taken.{TookAtMost, TookOneMore, TookPrefix};
 
 use crate::{Bytes, Failed, ReadEnd, Sink, Source};
 use std::alloc::Global;
@@ -13,7 +13,7 @@ const PIECE: usize = 4096;
 /// and the source has left what comes after it.
 ///
 /// The answers exclude one another by what came: at most `limit` bytes came with `Ok`, `Failed`
-/// and `Memory`, and more than `limit` with `TooLong`. A read that fails ends it at once: without
+/// and `Memory`, and one more than `limit` with `TooLong`. A read that fails ends it at once: without
 /// `Failed` no read failed, as the count of faults tells.
 pub fn read_all<S: Source>(alloc: Global, source: &mut S, limit: usize) -> Result<Bytes, ReadEnd>
     ensures all { IfOk result (λ bytes. Consumes (S.left source.old) (S.left source.new) bytes) }
@@ -22,7 +22,7 @@ pub fn read_all<S: Source>(alloc: Global, source: &mut S, limit: usize) -> Resul
 
     ensures failed { IsErrOf result ReadEnd.Failed → TookAtMost (S.left source.old) (S.left source.new) limit }
     ensures fault { IsErrOf result ReadEnd.Failed → Rose (S.faults source.old) (S.faults source.new) }
-    ensures too_long { IsErrOf result ReadEnd.TooLong → TookMore (S.left source.old) (S.left source.new) limit }
+    ensures too_long { IsErrOf result ReadEnd.TooLong → TookOneMore (S.left source.old) (S.left source.new) limit }
     ensures memory { IsErrOf result ReadEnd.Memory → TookAtMost (S.left source.old) (S.left source.new) limit }
     ensures later { S.faults source.old ≤ S.faults source.new }
     ensures unbroken { (IsErrOf result ReadEnd.Failed → ⊥) → S.faults source.new ≡ S.faults source.old }
@@ -30,11 +30,13 @@ pub fn read_all<S: Source>(alloc: Global, source: &mut S, limit: usize) -> Resul
     let mut bytes = Vec::new(alloc);
     let mut piece = [0u8; PIECE];
     loop {
-        let n = source.read(&mut piece)?;
+        let room = limit - bytes.len();
+        let asked = if room < PIECE { room + 1 } else { PIECE };
+        let n = source.read(&mut piece[..asked])?;
         if n == 0 {
             return Ok(Bytes::from(bytes));
         }
-        if n > limit - bytes.len() {
+        if n > room {
             return Err(ReadEnd::TooLong);
         }
         bytes.extend_from_slice(&piece[..n])?;

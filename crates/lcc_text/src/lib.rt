@@ -6,8 +6,6 @@ mod decimal;
 mod line;
 mod names;
 mod run;
-#[cfg(test)]
-mod tests;
 
 pub use class::{ByteClass, Class};
 pub use decimal::decimal_value;

@@ -2,7 +2,7 @@
 use Rattle.std.proofs.Common.{◌≡◌, ℕ, ◌+◌, ◌≤◌, ◌⊎◌, inl, inr, List, ◌++◌, length, refl, sym, ap, subst, ◌∙◌, append-nil, length-append, arith, None, Some}
 use Rattle.std.specs.declared.option.Option.{Option}
 use Rattle.std.specs.Io.KnownBytes.{Appends, Consumes, Keeps, IsAtEnd}
-use Rattle.lcc_base.specs.Taken.{TookMore}
+use Rattle.lcc_base.specs.Taken.{TookOneMore}
 use Rattle.lcc_top.specs.declared.words.Command.{Command}
 use Rattle.lcc_top.specs.declared.outcome.End.{End}
 use Rattle.lcc_top.specs.declared.outcome.Refusal.{Refusal}
@@ -30,7 +30,7 @@ pub read_input : (call : Call) (input bytes : List ℕ) → ReadAll call input �
 read_input call input bytes all is = the_input call.left call.left_after input bytes all.taken all.end is
 
 -- no more came than was left
-pub not_more : (left after : Option (List ℕ)) (bytes : List ℕ) → left ≡ Some bytes → length bytes ≤ 16777216 → TookMore left after 16777216 → ⊥
+pub not_more : (left after : Option (List ℕ)) (bytes : List ℕ) → left ≡ Some bytes → length bytes ≤ 16777216 → TookOneMore left after 16777216 → ⊥
 not_more None after bytes is small more = cc
 not_more (Some xs) None bytes is small more = more.1
 not_more (Some xs) (Some ys) bytes is small more =

@@ -1,5 +1,5 @@
 -- What a call answers to wrong words, to an input that is too long, and to streams that fail.
-use Rattle.std.proofs.Common.{◌≡◌, ℕ, ◌<◌, ◌⊎◌, inl, inr, List, length, refl, ap, subst, arith, Some}
+use Rattle.std.proofs.Common.{◌≡◌, ℕ, ◌<◌, ◌⊎◌, inl, inr, List, length, refl, sym, ap, subst, arith, Some}
 use Rattle.std.specs.Io.KnownBytes.{Keeps}
 use Rattle.lcc_base.specs.Faults.{Rose}
 use Rattle.lcc_top.specs.declared.outcome.End.{End}
@@ -12,7 +12,7 @@ use Rattle.lcc_top.specs.declared.status.Status.{Status}
 use Rattle.lcc_top.specs.declared.status.Status.TheVariants as status
 use Rattle.lcc_top.specs.Outcome.{end_status, refusal_status, status_of}
 use Rattle.lcc_top.specs.Commands.{AreAccepted}
-use Rattle.lcc_top.specs.Call.{Call, ReadAll, IsUnbroken, IsOutputUnbroken, WrongWords, IsCaused, IsFree, NoFault}
+use Rattle.lcc_top.specs.Call.{Call, ReadAll, IsUnbroken, IsOutputUnbroken, TookNothing, WrongWords, IsCaused, IsFree, NoFault}
 use Rattle.lcc_top.proofs.Answered.{read_input}
 
 -- ---- words
@@ -118,3 +118,36 @@ sound_or_fault call outcome.InputTooLong h = inl h.sound
 -- where the output's count of faults rose, a write failed
 pub fault_of_output : (call : Call) (o : Outcome) → IsCaused call o → call.write_faults < call.write_faults_after → status_of o ≡ status.WriteFault
 fault_of_output call o h more = elim (sound_or_fault call o h) [ inl same ↦ absurd (omega (arith, same, more)) | inr is ↦ is ]
+
+-- ---- want of memory
+
+abbrev IsMemory : Status → Type 0
+IsMemory status.Memory = Unit {0}
+IsMemory s = ⊥
+
+no_memory_end : (end : End) → IsMemory (end_status end) → ⊥
+no_memory_end ends.Finished h = h
+no_memory_end (ends.NoCover n) h = h
+no_memory_end (ends.Exited s) h = h
+no_memory_end (ends.Stuck cause pc step) h = h
+no_memory_end (ends.StackOut pc step) h = h
+no_memory_end (ends.OutOfSteps n) h = h
+
+no_memory_refusal : (why : Refusal) → IsMemory (refusal_status why) → ⊥
+no_memory_refusal refusal.BadText h = h
+no_memory_refusal refusal.NoMain h = h
+no_memory_refusal (refusal.Fault n name) h = h
+no_memory_refusal (refusal.Limit n which) h = h
+
+memory_in : (call : Call) (o : Outcome) → IsCaused call o → IsMemory (status_of o) → TookNothing call × IsOutputUnbroken call
+memory_in call (outcome.Done end) h is = absurd (no_memory_end end is)
+memory_in call (outcome.Refused why) h is = absurd (no_memory_refusal why is)
+memory_in call outcome.Usage h is = absurd is
+memory_in call outcome.ReadFault h is = absurd is
+memory_in call outcome.WriteFault h is = absurd is
+memory_in call outcome.Memory h is = (h.nothing, h.sound)
+memory_in call outcome.InputTooLong h is = absurd is
+
+-- where memory was wanted nothing was written
+pub memory_kept : (call : Call) (o : Outcome) → IsCaused call o → status_of o ≡ status.Memory → TookNothing call × IsOutputUnbroken call
+memory_kept call o h e = memory_in call o h (subst IsMemory (sym e) tt)

@@ -11,7 +11,7 @@ use Rattle.first_forest.specs.Small.{few}
 use Rattle.op_forest.specs.Nodes.{nodes}
 use Rattle.forests.specs.Words.{Word, Plain}
 use Rattle.objects.specs.declared.value.Value.TheVariants.{Number}
-use Rattle.op_forest.specs.Traces.{output_of, depth_of}
+use Rattle.lcc_base.specs.Traces.{output_of, depth_of}
 use Rattle.forests.specs.Worlds.{Effect, Went, Exits, Unfinished, Stuck}
 use Rattle.op_forest.specs.Callees.{Body, BuiltIn, Callee, Defined, Provided, Missing}
 use Rattle.op_forest.specs.Units.{body_of, built_in_named, callee_by, callee_of}

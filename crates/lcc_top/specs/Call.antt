@@ -3,7 +3,7 @@ use Rattle.std.specs.Prelude.{ℕ, ◌≡◌, ◌≤◌, ◌⊎◌, List, length
 use Rattle.std.specs.declared.option.Option.{Option}
 use Rattle.std.specs.Io.KnownBytes.{Appends, Consumes, Keeps, IsAtEnd}
 use Rattle.lcc_base.specs.Faults.{Rose}
-use Rattle.lcc_base.specs.Taken.{TookAtMost, TookMore, TookPrefix}
+use Rattle.lcc_base.specs.Taken.{TookAtMost, TookOneMore, TookPrefix}
 use Rattle.lcc_top.specs.declared.words.Command.{Command}
 use Rattle.lcc_top.specs.declared.outcome.End.{End}
 use Rattle.lcc_top.specs.declared.outcome.Refusal.{Refusal}
@@ -100,7 +100,7 @@ pub record ReadFailed (call : Call) : Type 0 where
 -- more bytes came than the limit, without a fault
 pub record TooLong (call : Call) : Type 0 where
   pub accepted : AreAccepted call.words
-  pub took : TookMore call.left call.left_after 16777216
+  pub took : TookOneMore call.left call.left_after 16777216
   pub unbroken : IsUnbroken call
   pub nothing : TookNothing call
   pub sound : IsOutputUnbroken call

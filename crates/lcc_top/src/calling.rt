@@ -87,6 +87,11 @@ pub fn top<S: Source, K: Sink, E: Sink>(
     ensures write_fault { result ≡ Status.WriteFault
         → Rose (K.faults output.old) (K.faults output.new) ⊎ Rose (E.faults report.old) (E.faults report.new) }
 
+    // Where memory was wanted, nothing was written. The run of a loaded program takes none: it is wanted
+    // before the first step, or never.
+    ensures memory { result ≡ Status.Memory
+        → Keeps (K.taken output.old) (K.taken output.new) × (K.faults output.new ≡ K.faults output.old) }
+
     // The other refusals come wherever they have to, unless memory was wanted or a write failed.
     // Words that are no command leave the input as it was.
     ensures wrong_words { (AreAccepted (map string_bytes words.now) → ⊥) → (result ≡ Status.Usage) ⊎ IsFree result }

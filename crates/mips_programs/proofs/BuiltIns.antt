@@ -9,8 +9,8 @@ use Rattle.lcc_base.specs.declared.order.Order.{Order}
 use Rattle.asm_text.specs.Program.{MProgram}
 use Rattle.forests.specs.Words.{Word, Plain, Label, Partly}
 use Rattle.objects.specs.declared.value.Value.TheVariants.{Number, Pointer, Function}
-use Rattle.op_forest.specs.Traces.{Wrote, output_of, open_behind}
-use Rattle.op_forest.specs.Prefixes.{output_append}
+use Rattle.lcc_base.specs.Traces.{Wrote, output_of, open_behind}
+use Rattle.lcc_base.specs.Prefixes.{output_append}
 use Rattle.forests.specs.Worlds.{World, Point}
 use Rattle.op_forest.specs.Callees.{Putchar, Getchar, Exit}
 use Rattle.forests.specs.Functions.{provided, put_character, get_character, exit_with}
@@ -77,7 +77,7 @@ gave_back p order room map outer name u h v w bare entry g =
       above = λ a kept. refl;
       pointer = index_other registers 2 29 v (λ e. differs 29 2 refl e) ∙ without_other (λ d. not (29 == d)) lost h.cpu.registers 29 refl (λ d u e. differs 29 d u e);
       result = index_set registers 2 v (subst (λ (k : ℕ). 2 < k) (sym count) (omega arith));
-      shows = record { printed = g.shown; input = g.input; lies = bare_lies map w.objects (memory_of h.cpu.stack) bare };
+      shows = record { printed = g.shown; input = g.input; lies = bare_lies map w.made w.objects (memory_of h.cpu.stack) bare };
       open_calls = g.open_calls;
       taken = g.taken;
     }

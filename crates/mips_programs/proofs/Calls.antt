@@ -9,7 +9,7 @@ use Rattle.asm_text.specs.Runs.{Run}
 use Rattle.asm_text.specs.RunLaws.{prefix_of}
 use Rattle.forests.specs.Words.{Word, Plain, Label, Partly, unknown}
 use Rattle.objects.specs.declared.value.Value.TheVariants.{Number, Pointer, Function}
-use Rattle.op_forest.specs.Traces.{output_of}
+use Rattle.lcc_base.specs.Traces.{output_of}
 use Rattle.forests.specs.Worlds.{World, Point, Outcome, Finished, Exited, Going, Failed}
 use Rattle.forests.specs.Begun.{BeginsIn, Starts as Goes_on, output_starts, depth_starts}
 use Rattle.vcode.specs.Execution.{State, without}

@@ -10,8 +10,8 @@ use Rattle.asm_lines.specs.declared.operator.BinaryOp.TheVariants as binary
 use Rattle.asm_lines.specs.declared.instruction.Value.TheVariants as operand
 use Rattle.asm_text.specs.Program.{MProgram}
 use Rattle.forests.specs.Words.{unknown}
-use Rattle.op_forest.specs.Traces.{Event, Opened, output_of, opened_by, open_behind, room_of, depth_of}
-use Rattle.op_forest.specs.Prefixes.{output_append}
+use Rattle.lcc_base.specs.Traces.{Event, Opened, output_of, opened_by, open_behind, room_of, depth_of}
+use Rattle.lcc_base.specs.Prefixes.{output_append}
 use Rattle.forests.specs.Worlds.{World, Point, at_world}
 use Rattle.op_forest.specs.Callees.{Body}
 use Rattle.forests.specs.Functions.{entered}
@@ -116,7 +116,7 @@ module _ (p : MProgram) (order : Order) (room : ℕ → ℕ) (map : Map) (outer 
         shows = record {
           printed = entry.shows.printed ∙ sym (output_append w.trace (Opened name ∷ []) ∙ append-nil (output_of w.trace));
           input = entry.shows.input;
-          lies = bare_lies map (entered forest_order name fn w).objects (memory_of after) bare;
+          lies = bare_lies map (entered forest_order name fn w).made (entered forest_order name fn w).objects (memory_of after) bare;
         };
         temps = λ r among_them. and_zero_r _;
         spilled = λ z low. and_zero_r _;

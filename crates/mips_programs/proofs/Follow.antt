@@ -18,7 +18,7 @@ use Rattle.objects.specs.declared.value.Value.TheVariants.{Number, Pointer, Func
 use Rattle.objects.specs.Arithmetic.{unary_word, binary_word}
 use Rattle.objects.specs.Causes.{is_no_number}
 use Rattle.forests.specs.Words.{Word, Plain, Label, Partly}
-use Rattle.op_forest.specs.Traces.{open_behind, room_of}
+use Rattle.lcc_base.specs.Traces.{open_behind, room_of}
 use Rattle.forests.specs.Worlds.{World, Point, Move, Next, To, End, Effect, Went, Exits, Unfinished, Stuck, then_do, goes, Outcome, Failed}
 use Rattle.forests.specs.Actions.{handed, effect_of, gave}
 use Rattle.forests.specs.Bodies.{Setting}

@@ -28,8 +28,9 @@ nowhere : (map : Map) (objects : List Object) (o i a : ℕ) (b : Byte Word) → 
 nowhere map objects o i a b bare x = none_some (map.object x.content.made) x.start (bare x.content.made) x.lies
 
 -- where no object lies in memory, nothing is asked of it
-pub bare_lies : (map : Map) (objects : List Object) (memory : ℕ → Option ℕ) → IsBare map → Lies map objects memory
-bare_lies map objects memory bare = record {
+pub bare_lies : (map : Map) (made : ℕ) (objects : List Object) (memory : ℕ → Option ℕ) → IsBare map → Lies map made objects memory
+bare_lies map made objects memory bare = record {
+  only_made = λ o later. bare o;
   bytes = λ o i a b x. absurd (nowhere map objects o i a b bare x);
   four = λ o i a b x. absurd (nowhere map objects o i a b bare x);
   apart = λ o i p j a b c x y. absurd (nowhere map objects o i a b bare x);
@@ -199,7 +200,7 @@ put_slot order room map f s h z v pc w bare sound low small is a =
     let length_is = a.leaves.room in
     record {
       leaves = put_leaves order f h.cpu.registers bytes k v sound inside a.leaves;
-      shows = record { printed = a.shows.printed; input = a.shows.input; lies = bare_lies map s.point.world.objects (memory_of (with_stack_word order bytes (f.low + 4 * k) v)) bare };
+      shows = record { printed = a.shows.printed; input = a.shows.input; lies = bare_lies map s.point.world.made s.point.world.objects (memory_of (with_stack_word order bytes (f.low + 4 * k) v)) bare };
       temps = a.temps;
       spilled = λ y below. slot_word y below (cases_eq y z);
       handed = handed_kept order map f bytes k v 0 s.point.world.arguments sound length_is inside few a.handed;
@@ -244,7 +245,7 @@ put_argument order room map f s h k v pc w bare sound count low small is a =
     let after = with_stack_word order bytes (f.low + 4 * k) v in
     record {
       leaves = put_leaves order f h.cpu.registers bytes k v sound inside a.leaves;
-      shows = record { printed = a.shows.printed; input = a.shows.input; lies = bare_lies map s.point.world.objects (memory_of after) bare };
+      shows = record { printed = a.shows.printed; input = a.shows.input; lies = bare_lies map s.point.world.made s.point.world.objects (memory_of after) bare };
       temps = a.temps;
       spilled = λ y below. subst (λ (x : ℕ). IsWord map (s.slots (pos y)) x) (sym (frame_word_off order f bytes k (f.layout.arguments + y) v sound length_is inside (within y below) (λ e. high y e low))) (a.spilled y below);
       handed = handed_more map (frame_word order f after) 0 k s.point.world.arguments w (omega arith) (subst (IsWord map w) (sym (frame_word_same order f bytes k v sound length_is inside small)) is) (handed_kept order map f bytes k v 0 s.point.world.arguments sound length_is inside (omega arith) a.handed);

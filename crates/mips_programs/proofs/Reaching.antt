@@ -7,7 +7,7 @@ use Rattle.asm_text.specs.Program.{MProgram}
 use Rattle.asm_text.specs.Runs.{Run, Ended, IsGoing, after, onward, run_from}
 use Rattle.forests.specs.Words.{Word, Plain}
 use Rattle.objects.specs.declared.value.Value.TheVariants.{Number}
-use Rattle.op_forest.specs.Traces.{output_of}
+use Rattle.lcc_base.specs.Traces.{output_of}
 use Rattle.forests.specs.Worlds.{World, Point, Move, Effect, Went, Exits, Unfinished, Stuck}
 use Rattle.vcode.specs.Execution.{first_of}
 use Rattle.vcode.specs.Maps.{Map, IsWord}

@@ -58,7 +58,7 @@ start_entry order room map u statics input stack name main bare at low high = re
   high = omega arith;
   four = refl;
   small = replicated_small 256 stack (omega arith);
-  shows = record { printed = refl; input = refl; lies = bare_lies map _ _ bare };
+  shows = record { printed = refl; input = refl; lies = bare_lies map _ _ _ bare };
   passed = tt;
   kept = λ a k. absurd k;
   deep = omega arith;

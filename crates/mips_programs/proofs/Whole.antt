@@ -7,13 +7,13 @@ use Rattle.lcc_base.specs.declared.order.Order.{Order}
 use Rattle.asm_text.specs.Program.{MInstruction, MProgram}
 use Rattle.op_forest.specs.Nodes.{Node}
 use Rattle.forests.specs.Words.{Word}
-use Rattle.op_forest.specs.Traces.{Opened, Closed, output_of, outer}
+use Rattle.lcc_base.specs.Traces.{Opened, Closed, output_of, outer}
 use Rattle.forests.specs.Worlds.{World, Point, at_world, Effect, Stuck, Outcome, Finished, Exited, Going, Failed}
 use Rattle.forests.specs.Bodies.{Setting, body_run}
 use Rattle.op_forest.specs.Callees.{Body, BuiltIn, Putchar, Getchar, Exit, Callee, Defined, Provided, Missing}
 use Rattle.forests.specs.Functions.{Program as Meaning, entered, left_behind, value_or, answered, setting_of, call_by}
 use Rattle.forests.specs.Begun.{BeginsIn, body_begins, starts_trans}
-use Rattle.op_forest.specs.Prefixes.{output_append}
+use Rattle.lcc_base.specs.Prefixes.{output_append}
 use Rattle.forests.specs.Nested.{calls_at}
 use Rattle.forests.specs.Reached.{nested_begins}
 use Rattle.vcode.specs.Maps.{Map, IsWord}
@@ -96,7 +96,7 @@ module _ (p : MProgram) (order : Order) (room : ℕ → ℕ) where
         shows = record {
           printed = r.shows.printed ∙ sym (append-nil (output_of q.world.trace)) ∙ sym (output_append q.world.trace (Closed ∷ []));
           input = r.shows.input;
-          lies = bare_lies c.later _ _ c.bare;
+          lies = bare_lies c.later _ _ _ c.bare;
         };
         open_calls = open_append [] q.world.trace (Closed ∷ []) ∙ ap outer r.open_calls;
         taken = refl;

@@ -7,7 +7,7 @@ use Rattle.asm_text.specs.Program.{MProgram}
 use Rattle.asm_text.specs.Runs.{Ended, StackOut}
 use Rattle.asm_text.specs.IsPrefix.{IsPrefix}
 use Rattle.forests.specs.Words.{Word}
-use Rattle.op_forest.specs.Traces.{output_of, open_behind, room_of, depth_of}
+use Rattle.lcc_base.specs.Traces.{output_of, open_behind, room_of, depth_of}
 use Rattle.forests.specs.Worlds.{World, Point, Effect, Went, Exits, Unfinished, Stuck, Outcome, Finished, Exited, Going, Failed}
 use Rattle.forests.specs.Begun.{CallsGrow}
 use Rattle.vcode.specs.Execution.{State, first_of}
@@ -30,11 +30,12 @@ abbrev pub Handed : Map → (ℕ → ℕ) → ℕ → List Word → Type 0
 Handed map at k [] = Unit {0}
 Handed map at k (w ∷ ws) = IsWord map w (at k) × Handed map at (suc k) ws
 
--- the machine shows the world: what was printed, the input that is left, and the objects in memory
+-- The machine shows the world: what was printed, the input that is left, and the objects in memory. The map speaks of the
+-- objects that the world has made.
 pub record Shows (map : Map) (w : World) (h : Working) : Type 0 where
   pub printed : h.printed ≡ output_of w.trace
   pub input : h.left ≡ w.input
-  pub lies : Lies map w.objects (memory_of h.cpu.stack)
+  pub lies : Lies map w.made w.objects (memory_of h.cpu.stack)
 
 -- a state of allocated code in a call, and the machine
 pub record Alike (order : Order) (room : ℕ → ℕ) (map : Map) (f : Frame) (s : State) (h : Working) : Type 0 where

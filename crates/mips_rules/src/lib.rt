@@ -18,6 +18,3 @@ pub use mips::Mips;
 pub use mips_description::description;
 pub use mips_rules::{MipsRules, rules};
 pub use part::Part;
-
-#[cfg(test)]
-mod tests;

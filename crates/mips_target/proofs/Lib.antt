@@ -25,4 +25,5 @@ pub mod EmittedLines
 pub mod Placing
 pub mod Bounded
 pub mod UnitBounds
+mod UnitExamples
 pub mod UnitOfMain

@@ -201,6 +201,7 @@ unit_program u lines p generated makes =
     record {
       functions = fs;
       code = code;
+      datums = made.datums;
       labels = labels;
       each = have_entries p made.distinct (IsFunction u) u.functions fs [] [] generated.each code labels;
       known = λ j i name is at. let n = named_in (unit_lines fs) j i name is (ap (λ x. slice_get x j) (sym made.code) ∙ at) in made.known n.0 name n.1;

@@ -1,8 +1,8 @@
 -- The program of a unit is the unit's assembly, within bounds that have room for its functions.
-use Rattle.std.proofs.Common.{ℕ, List, [], ◌∷◌, All, arith}
+use Rattle.std.proofs.Common.{ℕ, ◌≤◌, List, [], ◌∷◌, All, sym, subst, arith}
 use Rattle.std.specs.List.{AllZip}
 use Rattle.std.proofs.lemmas.List.Elements.{All-head, All-tail}
-use Rattle.asm_text.specs.Program.{MProgram}
+use Rattle.asm_text.specs.Program.{MDatum, MProgram, data_size}
 use Rattle.op_forest.specs.declared.lowered.LoweredFunction.{LoweredFunction}
 use Rattle.op_forest.specs.Lowered.{LoweredUnit}
 use Rattle.mips_target.specs.Frame.{frame_size}
@@ -10,7 +10,7 @@ use Rattle.mips_target.specs.Generated.{IsFunction}
 use Rattle.mips_target.specs.Entries.{label_in, HasEntry}
 use Rattle.mips_target.specs.UnitLines.{Coded}
 use Rattle.mips_target.specs.UnitProgram.{IsUnitProgram}
-use Rattle.mips_target.specs.UnitAssembly.{HasBounds, IsFunctionAssembly, IsUnitAssembly}
+use Rattle.mips_target.specs.UnitAssembly.{HasBounds, IsFunctionAssembly, object_bytes, IsUnitAssembly}
 use Rattle.mips_target.proofs.Bounded.{bounded}
 
 module _ (room most : LoweredFunction → ℕ) (u : LoweredUnit) (p : MProgram) where
@@ -48,4 +48,9 @@ module _ (room most : LoweredFunction → ℕ) (u : LoweredUnit) (p : MProgram) 
   each_assembly (f ∷ fs) (c ∷ cs) w z = (function_assembly f c (All-head (HasBounds room most) f fs w) z.0.0 z.0.1, each_assembly fs cs (All-tail (HasBounds room most) f fs w) z.1)
 
   pub assembly : IsUnitProgram u p → All (HasBounds room most) u.functions → IsUnitAssembly room most u p
-  assembly made wide = record { functions = made.functions; code = made.code; each = each_assembly u.functions made.functions wide made.each }
+  assembly made wide = record {
+    functions = made.functions;
+    code = made.code;
+    few_data = subst (λ (ds : List MDatum). data_size ds ≤ object_bytes u.objects) (sym made.datums) (omega arith);
+    each = each_assembly u.functions made.functions wide made.each;
+  }

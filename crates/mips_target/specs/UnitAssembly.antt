@@ -1,12 +1,14 @@
 -- What the assembly of a unit is, without a word on registers, slots or frames: its functions stand one behind the other,
--- each by the best derivations of its forest, and each within its bounds.
-use Rattle.std.specs.Prelude.{◌≡◌, ◌≤◌, ℕ, List, [], map, get_or, sum_by}
+-- each by the best derivations of its forest, and each within its bounds; and its data have at most the bytes of the unit's
+-- objects.
+use Rattle.std.specs.Prelude.{◌≡◌, ◌≤◌, ℕ, ◌+◌, ◌*◌, ◌/◌, List, [], map, get_or, sum_by}
 use Rattle.std.specs.List.{AllZip}
 use Rattle.lburg_model.specs.Derivation.{MDerivation}
 use Rattle.lburg_model.specs.Description.{MDescription}
 use Rattle.reducer.specs.AreBest.{AreBest}
-use Rattle.asm_text.specs.Program.{MProgram}
+use Rattle.asm_text.specs.Program.{MProgram, data_size}
 use Rattle.op_forest.specs.declared.lowered.LoweredFunction.{LoweredFunction}
+use Rattle.op_forest.specs.declared.lowered.LoweredObject.{LoweredObject}
 use Rattle.op_forest.specs.Lowered.{LoweredUnit}
 use Rattle.op_forest.specs.Nodes.{nodes, tree_of}
 use Rattle.mips_rules.specs.Shipped.{IsShipped}
@@ -35,8 +37,17 @@ pub record IsFunctionAssembly (room most : ℕ) (names : List (List ℕ)) (p : M
   pub emits : Emits names c.labels frame derivations f.forest.roots c.items
   pub bounds : KeepsBounds room most p place.entry c.items
 
--- the program is the unit's functions in order
+-- the next multiple of 8
+abbrev pub rounded : ℕ → ℕ
+rounded n = 8 * ((n + 7) / 8)
+
+-- room for these objects, each rounded up
+abbrev pub object_bytes : List LoweredObject → ℕ
+object_bytes objects = sum_by (λ o. rounded o.size) objects
+
+-- the program is the unit's functions in order, and data for its objects
 pub record IsUnitAssembly (room most : LoweredFunction → ℕ) (u : LoweredUnit) (p : MProgram) : Type 0 where
   pub functions : List Coded
   pub code : p.code ≡ codes_of functions
+  pub few_data : data_size p.datums ≤ object_bytes u.objects
   pub each : AllZip (λ f c. IsFunctionAssembly (room f) (most f) u.names p f c) u.functions functions

@@ -10,6 +10,3 @@ mod unit_lines;
 pub use generating::generate;
 pub use layout::Layout;
 pub use ruled::has_rules;
-
-#[cfg(test)]
-mod tests;

@@ -4,7 +4,5 @@
 mod bindings;
 mod bound;
 mod names;
-#[cfg(test)]
-mod tests;
 
 pub use names::Names;

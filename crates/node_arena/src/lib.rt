@@ -4,7 +4,5 @@
 mod arena;
 mod chunks;
 mod elements;
-#[cfg(test)]
-mod tests;
 
 pub use arena::Arena;

@@ -114,6 +114,10 @@ backward = refl
 no_multiple : subtracted objects 4 (Pointer eight 0) (Pointer eight 6) ≡ Err cause.PointerOrder
 no_multiple = refl
 
+-- elements without bytes, as of `struct { int : 0; }`, can't be counted
+no_bytes : subtracted objects 0 (Pointer eight 4) (Pointer eight 4) ≡ Err cause.PointerOrder
+no_bytes = refl
+
 overlap : copied Assignment (record { made = 5; constant = false; bytes = Bits 255 1 ∷ Bits 255 2 ∷ Bits 0 0 ∷ [] } ∷ []) (Pointer (record { place = 0; made = 5; size = 3 }) 0) (Pointer (record { place = 0; made = 5; size = 3 }) 1) 2 1 ≡ Err cause.Overlap
 overlap = refl
 

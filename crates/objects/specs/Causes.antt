@@ -96,9 +96,9 @@ has_no_order (Pointer a x) (Pointer b y) = not (same_object a b)
 has_no_order (Number x) (Number y) = false
 has_no_order v w = true
 
--- PointerOrder: or the difference isn't a multiple of the element
+-- PointerOrder: or the difference isn't a multiple of the element, which one of size 0 never is
 abbrev pub is_no_multiple : ℤ → ℕ → Bool
-is_no_multiple difference element = not (unsigned_abs (int_rem difference (pos element)) == 0)
+is_no_multiple difference element = element == 0 || not (unsigned_abs (int_rem difference (pos element)) == 0)
 
 abbrev pub is_one_past : ObjectName → ℕ → Bool
 is_one_past object offset = offset == object.size

@@ -95,20 +95,18 @@ fn between(p: Value, q: Value) -> i64
 
 /// How many elements of so many bytes these bytes are, modulo 2^32, if they are whole ones.
 fn elements(bytes: i64, element: u32) -> Option<u32>
-    requires { 0 < element }
     ensures { result ≡ (if causes.is_no_multiple bytes element then None else Some (cast_unsigned w32 (int_wrap w32 (int_div bytes (pos element))))) }
 {
     let size = element as i64;
-    if bytes % size != 0 {
+    if element == 0 || bytes % size != 0 {
         return None;
     }
     Some(wrap32(bytes / size).cast_unsigned())
 }
 
-/// How many elements of so many bytes lie between two values. `PointerOrder` where they have no order, or
-/// the bytes between are no multiple of the element. Condition: the element has bytes.
+/// How many elements of so many bytes lie between two values. `PointerOrder` where they have no order, the
+/// element has no bytes, or the bytes between are no multiple of it.
 pub fn subtract_pointers(dead: bool, element: u32, p: Value, q: Value) -> Result<Value, Cause>
-    requires { 0 < element }
     ensures { result ≡ subtracted_if dead element p q }
 {
     if dead {

@@ -141,10 +141,9 @@ impl Storage {
         order_pointers(self.is_dead(p) || self.is_dead(q), p, q)
     }
 
-    /// How many elements of so many bytes lie between two values. `Dead` and `PointerOrder` come in this
-    /// order. Condition: the element has bytes.
+    /// How many elements of so many bytes lie between two values; `PointerOrder` where an element has none.
+    /// `Dead` and `PointerOrder` come in this order.
     pub fn subtract(&self, element: u32, p: Value, q: Value) -> Result<Value, Cause>
-        requires { 0 < element }
         ensures { result ≡ subtracted self.now.objects element p q }
     {
         subtract_pointers(self.is_dead(p) || self.is_dead(q), element, p, q)

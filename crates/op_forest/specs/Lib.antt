@@ -10,8 +10,6 @@ pub mod EachNode
 pub mod Frames
 pub mod Labels
 pub mod Callees
-pub mod Traces
-pub mod Prefixes
 pub mod Lowered
 pub mod Units
 pub mod UnitOfMain

@@ -1,8 +1,9 @@
 ghost use Rattle.std.specs.Prelude.{◌≡◌, ◌++◌, [], IfOk, OnOk, OnErr};
-ghost use Rattle.op_forest.specs.Frames.{IsFrame};
+ghost use Rattle.op_forest.specs.Frames.{IsFrame, lowest, lowest_from};
 
 use lcc_base::{Items, Memory};
 use std::alloc::Global;
+use std::cmp::min;
 use std::marker::Model;
 
 /// A part of a frame: the place of its first byte from the frame's top, and its size, in bytes.
@@ -17,18 +18,20 @@ pub struct Slot {
 #[derive(Debug, Drop)]
 pub struct Frame {
     slots: Vec<Slot>,
+    // Where the lowest slot begins, or the frame's top.
+    lowest: i32,
 }
 
 impl Model for Frame {
     ghost use Rattle.std.specs.Prelude.{List};
     ghost use Rattle.op_forest.specs.declared.frame.Slot.{Slot};
-    ghost use Rattle.op_forest.specs.Frames.{IsFrame};
+    ghost use Rattle.op_forest.specs.Frames.{IsFramed};
 
     ghost Value = { List Slot };
 
     ghost view = { λ f. f.slots.items };
 
-    ghost invariant = { λ f. IsFrame f.slots.items };
+    ghost invariant = { λ f. IsFramed f.slots.items f.lowest };
 }
 
 impl Frame {
@@ -38,6 +41,7 @@ impl Frame {
     {
         Frame {
             slots: Vec::new(alloc),
+            lowest: 0,
         }
     }
 
@@ -46,8 +50,10 @@ impl Frame {
         requires { IsFrame slots }
         ensures { result ≡ slots }
     {
+        let lowest = lowest_from(0, slots.as_slice());
         Frame {
             slots: slots.into_vec(),
+            lowest,
         }
     }
 
@@ -57,10 +63,13 @@ impl Frame {
     {
         let mut slots = Vec::new(alloc);
         slots.extend_from_slice(frame.slots())?;
-        Ok(Frame { slots })
+        Ok(Frame {
+            slots,
+            lowest: frame.lowest,
+        })
     }
 
-    /// Adds slots behind those that are there. `Memory` comes where an allocation is refused; the frame
+    /// Adds slots behind those that are there, in time by their number. `Memory` comes where an allocation is refused; the frame
     /// is as before then.
     pub fn extend(&mut self, slots: &[Slot]) -> Result<(), Memory>
         requires { IsFrame (self.old ++ slots.now) }
@@ -68,6 +77,7 @@ impl Frame {
         ensures err { OnErr result (self.new ≡ self.old) }
     {
         self.slots.extend_from_slice(slots)?;
+        self.lowest = lowest_from(self.lowest, slots);
         Ok(())
     }
 
@@ -78,4 +88,23 @@ impl Frame {
     {
         self.slots.as_slice()
     }
+
+    /// Where the lowest slot begins, or the frame's top. It is kept, so that no slot is looked at.
+    pub fn lowest(&self) -> i32
+        ensures value { result ≡ lowest self.now }
+        ensures is { IsFrame self.now }
+    {
+        self.lowest
+    }
+}
+
+// The least of a place and of those where the slots begin.
+fn lowest_from(place: i32, slots: &[Slot]) -> i32
+    ensures { result ≡ lowest_from place slots.now }
+{
+    let mut lowest = place;
+    for slot in slots {
+        lowest = min(lowest, slot.offset);
+    }
+    lowest
 }

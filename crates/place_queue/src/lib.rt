@@ -4,8 +4,6 @@
 mod heap;
 mod key;
 mod queue;
-#[cfg(test)]
-mod tests;
 
 pub use key::Key;
 pub use queue::Queue;

@@ -4,6 +4,3 @@
 mod plain;
 
 pub use plain::{Found, plain_best};
-
-#[cfg(test)]
-mod tests;

@@ -8,6 +8,3 @@ mod reducer;
 pub use cost::{Cost, best};
 pub use derivations::{best_derivation, best_derivations};
 pub use reducer::{Visitor, reduce};
-
-#[cfg(test)]
-mod tests;

@@ -8,8 +8,6 @@ mod operand;
 mod register_set;
 mod rule_set;
 mod target;
-#[cfg(test)]
-mod tests;
 mod virtual_code;
 
 pub use allocated_code::Code;

@@ -142,8 +142,8 @@ fn linearise_roots<T: Target, R: RuleSet<T>>(
 }
 
 /// The code of a forest by the derivations of its roots, a stretch a root: what the rules add, in
-/// order. From each state it does what the forest means. `Memory` comes where an allocation is
-/// refused.
+/// order. From each state where the forest isn't stuck it does what the forest means. `Memory` comes
+/// where an allocation is refused.
 /// Source: Fraser and Hanson, A Retargetable C Compiler, chapter 14.
 #[tactic(auto, using(crate::proofs::WellFormedRoots::all_quiet))]
 pub fn linearise<T: Target, R: RuleSet<T>>(

@@ -1,4 +1,4 @@
-use Rattle.op_forest.specs.Prefixes.{output_starts, depth_starts}
+use Rattle.lcc_base.specs.Prefixes.{output_starts, depth_starts}
 use Rattle.forests.specs.Begun.{call_begins}
 use Rattle.forests.specs.Further.{call_further}
 use Rattle.forests.proofs.laws.runs_go_further.Goals as goal

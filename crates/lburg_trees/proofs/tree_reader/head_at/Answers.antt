@@ -1,11 +1,11 @@
 use Rattle.std.proofs.Common.{sym, subst, length}
 use Rattle.std.proofs.lemmas.List.{length-map}
 use Rattle.lburg_lines.specs.Tokens.{views, view}
-use Rattle.lburg_trees.specs.declared.row.Row.TheVariants.{UnknownOp, TooLarge}
+use Rattle.lburg_trees.specs.declared.row.Row.TheVariants.{UnknownOp}
 use Rattle.lburg_trees.specs.declared.stop.Stop.{Stop}
 use Rattle.lburg_trees.specs.Reading.{StopsTree}
 use Rattle.lburg_trees.specs.Setting.{placed}
-use Rattle.lburg_trees.proofs.Heads.{no_name, unknown_name, too_large, broken_constant, at_name}
+use Rattle.lburg_trees.proofs.Heads.{no_name, unknown_name, past_most, broken_constant, at_name}
 use Rattle.lburg_trees.proofs.tree_reader.head_at.Goals as goal
 
 pub returns-in-Err-clause-stops : goal.returns-in-Err-clause-stops
@@ -26,7 +26,8 @@ returns-then-before-ge-MOST_NODES-clause-stops c =
     let n = c.in-Ok.found.0.now in
     let rest = views c.in-Ok.found.1.now in
     let t = c.in-Some.ensures.some in
-    at_name c.args.d.now b (views c.args.tokens.now) rest n TooLarge (length c.args.tokens.now) c.in-Ok.ensures.ok (sym (length-map c.args.tokens.now view)) (too_large c.args.d.now b n rest c.in-Some.op t.0 t.1 c.if-before-ge-MOST_NODES.true)
+    at_name c.args.d.now b (views c.args.tokens.now) rest n c.past_most.result (length c.args.tokens.now) c.in-Ok.ensures.ok (sym (length-map c.args.tokens.now view))
+    (past_most c.args.d.now b n rest c.in-Some.op t.0 c.past_most.result c.in-Some.ensures.is.names t.1 c.if-before-ge-MOST_NODES.true c.past_most.ensures)
 
 pub returns-in-Err-constant_at-clause-stops : goal.returns-in-Err-constant_at-clause-stops
 returns-in-Err-constant_at-clause-stops c =

@@ -1,13 +1,10 @@
-use Rattle.std.proofs.Common.{◌≡◌, ℕ, Bool, false, ◌==◌, List, [], ◌∷◌, length, sym, subst}
-use Rattle.std.proofs.lemmas.List.{length-map}
+use Rattle.std.proofs.Common.{◌≡◌, Bool, false, ◌==◌, List, [], ◌∷◌, length, sym, subst}
 use Rattle.std.proofs.lemmas.Result.{err_from_is_err_and}
 use Rattle.lburg_lines.specs.declared.token.Token.{Token}
-use Rattle.lburg_lines.specs.Tokens.{views, view}
-use Rattle.lburg_trees.specs.declared.row.Row.TheVariants.{WrongArity}
+use Rattle.lburg_lines.specs.Tokens.{views}
 use Rattle.lburg_trees.specs.declared.stop.Stop.{Stop}
-use Rattle.lburg_trees.specs.declared.stop.Stop.TheVariants.{Fault}
 use Rattle.lburg_trees.specs.Reading.{LineStops}
-use Rattle.lburg_trees.proofs.Whole.{line_stops, more_behind, whole_tree, tree_fine, wrong_whole}
+use Rattle.lburg_trees.proofs.Whole.{line_stops, more_behind, whole_tree, tree_fine}
 use Rattle.lburg_trees.proofs.tree_reader.line_tree.Goals as goal
 
 some_tokens : (ts : List Token) (b : Bool) → b ≡ false → b ≡ (length ts == 0) → views ts ≡ [] → ⊥
@@ -19,24 +16,13 @@ returns-in_err-found-clause-fault c =
     let p = err_from_is_err_and c.from_residual.result c.from_residual.ensures.1 in
     rw (p.1, p.2) (line_stops c.args.d.now (views c.args.tokens.now) _ (some_tokens c.args.tokens.now c.is_empty.result c.if-is_empty.false c.is_empty.ensures) c.in_err-found.ensures.stops)
 
-pub returns-in_err-check_arity-in-Ok-clause-fault :
-    goal.returns-in_err-check_arity-in-Ok-clause-fault
-returns-in_err-check_arity-in-Ok-clause-fault c =
-    let line = views c.args.tokens.now in
-    let rest = c.in_ok-found.found.rest.now in
-    let e = c.in_err-check_arity-in-Ok.ensures.err in
-    let h = wrong_whole c.args.d.now line (views rest) c.in_ok-found.found.tree c.in_ok-found.ensures.found c.in-Ok.ensures.ok e.1 in
-    let p = err_from_is_err_and c.from_residual-in_err-check_arity-in-Ok.result c.from_residual-in_err-check_arity-in-Ok.ensures.1 in
-    let k = subst (λ (z : ℕ). LineStops c.args.d.now line (Fault WrongArity z)) (length-map rest view) h in
-    rw (p.1, p.2) (subst (λ (s : Stop). LineStops c.args.d.now line s) (sym e.0) k)
-
 pub returns-in-Err-clause-fault : goal.returns-in-Err-clause-fault
 returns-in-Err-clause-fault c =
     let line = views c.args.tokens.now in
     subst (λ (s : Stop). LineStops c.args.d.now line s) (sym (c.broken.ensures _ c.in-Err.ensures.err)) (more_behind c.args.d.now line (views c.in_ok-found.found.rest.now) c.in_ok-found.found.tree c.in_ok-found.ensures.found c.in-Err.ensures.no)
 
-pub returns-in_ok-check_arity-in-Ok-clause-fine : goal.returns-in_ok-check_arity-in-Ok-clause-fine
-returns-in_ok-check_arity-in-Ok-clause-fine c =
+pub returns-in-Ok-clause-fine : goal.returns-in-Ok-clause-fine
+returns-in-Ok-clause-fine c =
     let line = views c.args.tokens.now in
     let t = c.in_ok-found.found.tree in
-    tree_fine c.args.d.now line t c.check_arity.ensures.is (whole_tree c.args.d.now line (views c.in_ok-found.found.rest.now) t c.in_ok-found.ensures.found c.in-Ok.ensures.ok c.in_ok-check_arity-in-Ok.ensures.ok)
+    tree_fine c.args.d.now line t c.in_ok-found.ensures.is (whole_tree c.args.d.now line (views c.in_ok-found.found.rest.now) t c.in_ok-found.ensures.found c.in-Ok.ensures.ok)

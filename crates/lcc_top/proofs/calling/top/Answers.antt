@@ -6,7 +6,7 @@ use Rattle.lcc_top.specs.Call.{IsFree}
 use Rattle.lcc_top.specs.Answers.{IsEndStatus, HasDone, IsTold}
 use Rattle.lcc_top.proofs.Answered.{has_done, done_or_memory, refused_kept, told_or_free}
 use Rattle.lcc_top.proofs.CommandLaws.{TextLaws}
-use Rattle.lcc_top.proofs.Faults.{input_kept, usage, too_long_or_free, fault_told, fault_of_input, fault_of_output}
+use Rattle.lcc_top.proofs.Faults.{input_kept, usage, too_long_or_free, fault_told, fault_of_input, fault_of_output, memory_kept}
 use Rattle.lcc_top.proofs.Headlines.{cover_headline, run_headline, compiler_headline}
 use Rattle.lcc_top.proofs.calling.top.Goals as goal
 
@@ -65,3 +65,6 @@ returns-in-Ok-clause-unbroken g c = λ more. inl (c.status.ensures ∙ fault_of_
 
 pub returns-in-Ok-clause-output_unbroken : goal.returns-in-Ok-clause-output_unbroken
 returns-in-Ok-clause-output_unbroken g c = λ more. c.status.ensures ∙ fault_of_output _ c.run-outcome.result c.run-outcome.ensures.caused more
+
+pub returns-in-Ok-clause-memory : goal.returns-in-Ok-clause-memory
+returns-in-Ok-clause-memory g c = λ is. memory_kept _ c.run-outcome.result c.run-outcome.ensures.caused (sym c.status.ensures ∙ is)
