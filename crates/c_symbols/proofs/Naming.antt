@@ -1,9 +1,8 @@
--- Names in scopes: what a map's entries give, and the last scope that has a name.
-use Rattle.std.proofs.Common.{◌≡◌, ℕ, zero, suc, ◌+◌, ◌<◌, cond, List, [], ◌∷◌, ◌++◌, length, drop, get_or, refl, sym, ap, ◌∙◌}
-use Rattle.std.specs.Prelude.{Option, Some, None, Vec}
+-- Names in scopes: what a map's entries give, a further name, and a further scope.
+use Rattle.std.proofs.Common.{◌≡◌, ℕ, zero, suc, Bool, true, false, cond, List, [], ◌∷◌, ◌++◌, length, refl, sym, ap, ◌∙◌}
+use Rattle.std.specs.Prelude.{Option, Some, None, Vec, slice_get, unwrap_or}
 use Rattle.std.specs.Str.{bytes_eq}
 use Rattle.std.specs.Map.{lookup}
-use Rattle.std.proofs.lemmas.List.{drop_more}
 use Rattle.std.specs.declared.alloc.Global.{Global}
 use Rattle.c_symbols.specs.Scoping.{symbol_named, found, or_else}
 use Rattle.c_symbols.specs.Entries.{names_in}
@@ -16,11 +15,22 @@ pub names_push : (es : List (Vec ℕ Global × ℕ)) (v : Vec ℕ Global) (id : 
 names_push [] v id = refl
 names_push (e ∷ es) v id = ap (λ ns. (e.0.items, e.1) ∷ ns) (names_push es v id)
 
--- a name that a later scope has is that one's
-pub found_behind : (n : ℕ) (ss : List (List (List ℕ × ℕ))) (name : List ℕ) (i : ℕ) → found (drop n ss) name ≡ Some i → found ss name ≡ Some i
-found_behind zero ss name i h = h
-found_behind (suc n) [] name i h = h
-found_behind (suc n) (s ∷ ss) name i h = ap (λ o. or_else o (symbol_named s name)) (found_behind n ss name i h)
+pub names_length : (es : List (Vec ℕ Global × ℕ)) → length (names_in es) ≡ length es
+names_length [] = refl
+names_length (e ∷ es) = ap suc (names_length es)
+
+pub name_at : (es : List (Vec ℕ Global × ℕ)) (i : ℕ) (v : Vec ℕ Global) (id : ℕ) → Some (v, id) ≡ slice_get es i → slice_get (names_in es) i ≡ Some (v.items, id)
+name_at [] i v id h = cc
+name_at (e ∷ es) zero v id h = ap (λ (o : Option (Vec ℕ Global × ℕ)). slice_get (names_in (unwrap_or o e ∷ [])) 0) (sym h)
+name_at (e ∷ es) (suc i) v id h = name_at es i v id h
+
+pub named_push : (ns : List (List ℕ × ℕ)) (y : List ℕ) (id : ℕ) (name : List ℕ) → symbol_named (ns ++ (y, id) ∷ []) name ≡ or_else (symbol_named ns name) (cond (bytes_eq name y) (Some id) None)
+named_push [] y id name = refl
+named_push (n ∷ ns) y id name = ap (cond (bytes_eq name n.0) (Some n.1)) (named_push ns y id name) ∙ by (bytes_eq name n.0)
+  where
+    by : (b : Bool) → cond b (Some n.1) (or_else (symbol_named ns name) (cond (bytes_eq name y) (Some id) None)) ≡ or_else (cond b (Some n.1) (symbol_named ns name)) (cond (bytes_eq name y) (Some id) None)
+    by true = refl
+    by false = refl
 
 pub found_append : (ss : List (List (List ℕ × ℕ))) (s : List (List ℕ × ℕ)) (name : List ℕ) → found (ss ++ s ∷ []) name ≡ or_else (symbol_named s name) (found ss name)
 found_append [] s name = by (symbol_named s name)
@@ -33,10 +43,3 @@ found_append (t ∷ ss) s name = ap (λ o. or_else o (symbol_named t name)) (fou
     by : (o : Option ℕ) → or_else (or_else o (found ss name)) (symbol_named t name) ≡ or_else o (or_else (found ss name) (symbol_named t name))
     by None = refl
     by (Some i) = refl
-
--- a name that a scope has and none behind it
-pub found_at : (n : ℕ) (ss : List (List (List ℕ × ℕ))) (s : List (List ℕ × ℕ)) (name : List ℕ) (i : ℕ) → n < length ss → s ≡ get_or ss n s → found (drop (n + 1) ss) name ≡ None → Some i ≡ symbol_named s name → Some i ≡ found ss name
-found_at n ss s name i l g h e =
-    let d : found (drop n ss) name ≡ or_else (found (drop (n + 1) ss) name) (symbol_named (get_or ss n s) name) = ap (λ x. found x name) (drop_more ss n s l) in
-    let f : found (drop n ss) name ≡ Some i = d ∙ ap (λ o. or_else o (symbol_named (get_or ss n s) name)) h ∙ ap (λ x. symbol_named x name) (sym g) ∙ sym e in
-    sym (found_behind n ss name i f)

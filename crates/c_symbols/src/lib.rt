@@ -2,6 +2,9 @@
 #![tactic(auto)]
 
 mod declare;
+mod hidden;
+mod meanings;
+mod open;
 mod scope;
 mod scopes;
 mod symbol;

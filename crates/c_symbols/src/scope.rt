@@ -1,4 +1,4 @@
-ghost use Rattle.std.specs.Prelude.{◌≡◌, ◌++◌, ◌∷◌, [], None, OnOk, OnErr};
+ghost use Rattle.std.specs.Prelude.{◌≡◌, ◌++◌, ◌∷◌, ◌<◌, [], None, Some, OnOk, OnErr, length, slice_get};
 ghost use Rattle.c_symbols.specs.Scoping.{symbol_named};
 
 use crate::scopes::SymbolId;
@@ -39,6 +39,24 @@ impl Scope {
         ensures { result ≡ symbol_named self.now name.now }
     {
         self.names.get(name).copied()
+    }
+
+    /// How many names there are.
+    pub(crate) fn len(&self) -> usize
+        ensures { result ≡ length self.now }
+    {
+        self.names.len()
+    }
+
+    /// The name that was declared with this many before it, and its symbol.
+    pub(crate) fn entry(&self, place: usize) -> (&[u8], SymbolId)
+        requires { place < length self.now }
+        ensures { slice_get self.now place ≡ Some (result.0.now, result.1) }
+    {
+        match self.names.get_index(place) {
+            Some((name, id)) => (name.as_slice(), *id),
+            None => unreachable!(),
+        }
     }
 
     /// Gives the name this symbol. After an error the scope is as before.

@@ -1,8 +1,11 @@
-ghost use Rattle.std.specs.Prelude.{ℕ, ◌≡◌, ◌≢◌, ◌++◌, ◌∷◌, ◌<◌, [], None, Some, length, slice_get, slice_set, IfOk, IfErr, OnOk, OnErr};
+ghost use Rattle.std.specs.Prelude.{ℕ, ◌≡◌, ◌≢◌, ◌++◌, ◌∷◌, ◌<◌, [], None, Some, length, slice_get, slice_set, IfOk, IfErr, IfSome, OnOk, OnErr};
 ghost use Rattle.c_symbols.specs.declared.declare.Declare.TheVariants.{Memory as NoMemory, Redeclared};
-ghost use Rattle.c_symbols.specs.Scoping.{found, symbol_named};
+ghost use Rattle.c_symbols.specs.Scoping.{AreBelow, IsDeclared, found, symbol_named};
 
 use crate::declare::Declare;
+use crate::hidden::Hidden;
+use crate::meanings::Meanings;
+use crate::open::Open;
 use crate::scope::Scope;
 use crate::symbol::Symbol;
 use lcc_base::Memory;
@@ -19,10 +22,11 @@ pub type SymbolId = usize;
 #[derive(Drop)]
 pub struct Scopes {
     alloc: Global,
-    outer: Vec<Scope>,
-    inner: Scope,
+    outer: Vec<Open>,
+    inner: Open,
     links: Scope,
     symbols: Vec<Symbol>,
+    meanings: Meanings,
 }
 
 impl Model for Scopes {
@@ -30,7 +34,11 @@ impl Model for Scopes {
 
     ghost Value = { Scoping };
 
-    ghost view = { λ s. record { outer = s.outer.items; inner = s.inner; links = s.links; symbols = s.symbols.items } };
+    ghost use Rattle.c_symbols.specs.Hiding.{AreKept, scoping};
+
+    ghost view = { λ s. scoping s.outer.items s.inner s.links s.symbols.items };
+
+    ghost invariant = { λ s. AreKept s.meanings s.outer.items s.inner s.links s.symbols.items };
 }
 
 impl Scopes {
@@ -44,9 +52,10 @@ impl Scopes {
         Ok(Scopes {
             alloc,
             outer: Vec::new(alloc),
-            inner: Scope::new(alloc),
+            inner: Open::new(alloc),
             links: Scope::new(alloc),
             symbols: Vec::new(alloc),
+            meanings: Meanings::new(alloc),
         })
     }
 
@@ -77,18 +86,24 @@ impl Scopes {
     pub fn close(&mut self) -> Scope
         requires { self.old.outer ≢ [] }
         ensures names { result ≡ self.old.inner }
+        ensures within { AreBelow (length self.new.symbols) result }
         ensures scopes { self.old.outer ≡ self.new.outer ++ self.new.inner ∷ [] }
         ensures links { self.new.links ≡ self.old.links }
         ensures symbols { self.new.symbols ≡ self.old.symbols }
     {
         match self.outer.pop() {
-            Some(scope) => std::mem::replace(&mut self.inner, scope),
+            Some(around) => {
+                let Open { names, hidden } = std::mem::replace(&mut self.inner, around);
+                self.meanings.restore(hidden.as_slice());
+                names
+            }
             None => unreachable!(),
         }
     }
 
     /// Opens a scope with the names of one that was closed. After an error the scopes are as before.
     pub fn reopen(&mut self, names: Scope) -> Result<(), Memory>
+        requires { AreBelow (length self.old.symbols) names }
         ensures outer { OnOk result (self.new.outer ≡ self.old.outer ++ self.old.inner ∷ []) }
         ensures inner { OnOk result (self.new.inner ≡ names) }
         ensures links { OnOk result (self.new.links ≡ self.old.links) }
@@ -96,14 +111,11 @@ impl Scopes {
         ensures err { OnErr result (self.new ≡ self.old) }
     {
         self.outer.reserve(1)?;
-        let scope = std::mem::replace(&mut self.inner, names);
-        match self.outer.push(scope) {
-            Ok(()) => Ok(()),
-            Err(failed) => {
-                self.inner = failed.value;
-                Err(Memory)
-            }
-        }
+        let hidden = self.meanings.hide_all(&names)?;
+        self.meanings.bind(&names, hidden.as_slice());
+        let around = std::mem::replace(&mut self.inner, Open { names, hidden });
+        self.outer.push_reserved(around);
+        Ok(())
     }
 
     /// Declares the name in the innermost scope. Redeclared comes exactly where that scope has the name,
@@ -118,7 +130,19 @@ impl Scopes {
         ensures redeclared { IfErr result (λ e. e ≢ NoMemory → (old : ℕ) × (e ≡ Redeclared old) × (symbol_named self.old.inner name.now ≡ Some old)) }
         ensures err { OnErr result (self.new ≡ self.old) }
     {
-        declare_in(self.alloc, &mut self.inner, &mut self.symbols, name, symbol)
+        let Ok(hidden) = self.meanings.hide(name) else {
+            return Err(Declare::Memory);
+        };
+        let id = declare_open(
+            self.alloc,
+            &mut self.inner,
+            &mut self.symbols,
+            hidden,
+            name,
+            symbol,
+        )?;
+        self.meanings.set(hidden.place, Some(id));
+        Ok(id)
     }
 
     /// Gives a name with linkage the symbol that stands for what all its declarations name (C89
@@ -140,9 +164,18 @@ impl Scopes {
     /// The symbol of a name with linkage, in whichever scopes it was declared. None exactly where `link`
     /// gave it none.
     pub fn linked(&self, name: &[u8]) -> Option<SymbolId>
-        ensures { result ≡ symbol_named self.now.links name.now }
+        ensures means { result ≡ symbol_named self.now.links name.now }
+        ensures within { IfSome result (λ id. id < length self.now.symbols) }
     {
         self.links.find(name)
+    }
+
+    /// Each name has one of the symbols that were declared.
+    pub fn names_are_declared(&self)
+        ensures { IsDeclared self.now }
+    {
+        // A field is named, so that what the scopes keep is known here.
+        let _alloc = &self.alloc;
     }
 
     /// How many scopes stand around the innermost: 0 at file scope.
@@ -161,19 +194,18 @@ impl Scopes {
 
     /// The symbol of the name in the innermost scope. None exactly where that scope doesn't have it.
     pub fn find_here(&self, name: &[u8]) -> Option<SymbolId>
-        ensures { result ≡ symbol_named self.now.inner name.now }
+        ensures means { result ≡ symbol_named self.now.inner name.now }
+        ensures within { IfSome result (λ id. id < length self.now.symbols) }
     {
-        self.inner.find(name)
+        self.inner.names.find(name)
     }
 
     /// The symbol of the innermost declaration of the name. None exactly where no scope has it.
     pub fn find(&self, name: &[u8]) -> Option<SymbolId>
-        ensures { result ≡ found (self.now.outer ++ self.now.inner ∷ []) name.now }
+        ensures means { result ≡ found (self.now.outer ++ self.now.inner ∷ []) name.now }
+        ensures within { IfSome result (λ id. id < length self.now.symbols) }
     {
-        match self.inner.find(name) {
-            Some(id) => Some(id),
-            None => find_around(self.outer.as_slice(), name),
-        }
+        self.meanings.find(name)
     }
 
     /// The symbol that was declared with this place, or that `replace` put there last.
@@ -196,18 +228,31 @@ impl Scopes {
     }
 }
 
-/// The symbol of the name in the last of the scopes that has it.
-fn find_around(scopes: &[Scope], name: &[u8]) -> Option<SymbolId>
-    ensures { result ≡ found scopes.now name.now }
+/// Declares the name in a scope that is open, where it hides this.
+fn declare_open(
+    alloc: Global,
+    scope: &mut Open,
+    symbols: &mut Vec<Symbol>,
+    hidden: Hidden,
+    name: &[u8],
+    symbol: Symbol,
+) -> Result<SymbolId, Declare>
+    ensures id { IfOk result (λ id. id ≡ length symbols.old.items) }
+    ensures new_name { OnOk result (symbol_named scope.old.names name.now ≡ None) }
+    ensures names { IfOk result (λ id. scope.new.names ≡ scope.old.names ++ (name.now, id) ∷ []) }
+    ensures hidden { OnOk result (scope.new.hidden.items ≡ scope.old.hidden.items ++ hidden ∷ []) }
+    ensures symbols { OnOk result (symbols.new.items ≡ symbols.old.items ++ symbol ∷ []) }
+    ensures redeclared { IfErr result (λ e. e ≢ NoMemory → (old : ℕ) × (e ≡ Redeclared old) × (symbol_named scope.old.names name.now ≡ Some old)) }
+    ensures names_stay { OnErr result (scope.new.names ≡ scope.old.names) }
+    ensures hidden_stays { OnErr result (scope.new.hidden.items ≡ scope.old.hidden.items) }
+    ensures symbols_stay { OnErr result (symbols.new.items ≡ symbols.old.items) }
 {
-    let mut n = scopes.len();
-    while n > 0 {
-        n -= 1;
-        if let Some(id) = scopes[n].find(name) {
-            return Some(id);
-        }
+    if scope.hidden.reserve(1).is_err() {
+        return Err(Declare::Memory);
     }
-    None
+    let id = declare_in(alloc, &mut scope.names, symbols, name, symbol)?;
+    scope.hidden.push_reserved(hidden);
+    Ok(id)
 }
 
 /// Declares the name in this scope.

@@ -174,7 +174,7 @@ numbers_apart t a b l g m q e n k h = by (is_tagged (form_at t b)) refl
         ap (nat_eq (number_at t a)) (sym d) ∙ number_test t a b l g m p ∙ places_apart a b n
     by false p = absurd (let c : None ≡ Some k = sym (ap (λ (z : Bool). if z then Some (number_at t b) else None) p) ∙ given in cc)
 
-abbrev is_int_type : CType → Bool
+abbrev pub is_int_type : CType → Bool
 is_int_type (Plain q k) = is_int k
 is_int_type (Array of n) = false
 
@@ -238,7 +238,7 @@ int_formed ts n (form.Enumeration ms) u q = refl
 int_formed ts n (form.Qualified of p) u q = absurd (true≢false q)
 
 -- int has its place
-int_place : (basics : List TypeForm) (es : List (FormKey × Formed)) (ds : List (ℕ × Definition)) (t : Table) → Keeps basics es ds (table_of basics es ds) → table_of basics es ds ≡ t → (b : ℕ) → b < length t.forms → is_qualified (form_at t b) ≡ false → is_int_type (type_at t b) ≡ nat_eq b 6
+pub int_place : (basics : List TypeForm) (es : List (FormKey × Formed)) (ds : List (ℕ × Definition)) (t : Table) → Keeps basics es ds (table_of basics es ds) → table_of basics es ds ≡ t → (b : ℕ) → b < length t.forms → is_qualified (form_at t b) ≡ false → is_int_type (type_at t b) ≡ nat_eq b 6
 int_place basics es ds t k v b m q = by (nat_lt b 10) refl
   where
     by : (z : Bool) → nat_lt b 10 ≡ z → is_int_type (type_at t b) ≡ nat_eq b 6

@@ -1,6 +1,6 @@
 -- A structure or union that gets its members: what its table keeps then.
 use Rattle.std.proofs.Common.{◌≡◌, inl, inr, ℕ, ◌+◌, ◌<◌, ◌≤◌, Bool, true, false, List, [], ◌∷◌, ◌++◌, length, map, refl, sym, ap, ◌∙◌, subst, arith}
-use Rattle.std.specs.Prelude.{Some, None, Option, IfSome, is_some, nat_eq, nat_lt, ◌||◌, if◌then◌else◌}
+use Rattle.std.specs.Prelude.{Some, None, Option, IfSome, is_some, nat_eq, nat_lt, ◌&&◌, ◌||◌, if◌then◌else◌}
 use Rattle.std.specs.Map.{lookup}
 use Rattle.std.specs.Option.{option_map}
 use Rattle.std.proofs.lemmas.Bool.Decides.{nat_tests}
@@ -21,6 +21,7 @@ use Rattle.c_types.specs.Members.{member_in, named, named_places, places_in}
 use Rattle.c_types.specs.Constness.{const_known, some_const}
 use Rattle.c_types.specs.Table.{Table, Completed, Extends, IsOpen, AreMembersBelow, ArePlacesBelow, all_placed, are_objects, excess, fields_at, form_at, is_above, is_union, member_seen, member_types, members_among, members_refusal, number_at, places_of, tag_of, tags, types}
 use Rattle.c_types.specs.Definitions.{AreComplete}
+use Rattle.c_types.specs.BitFields.{are_fields, have_fields}
 use Rattle.c_types.specs.Keeps.{Keeps, IsDefinition, completed_in, forms_in, place_named}
 use Rattle.c_types.specs.Facts.{IsLaid}
 use Rattle.c_types.proofs.Insides.{length-forms, table_of}
@@ -158,8 +159,8 @@ module _ (basics : List TypeForm) (es : List (FormKey × Formed)) (ds : List (�
         constant = const_now ∙ sym s;
       }
 
-  pub keeps_completed : Keeps basics es ds before_it → IsOpen before_it id → members_refusal before_it id d.members ≡ None → IsDefinition (with before_it it) id d → Keeps basics es (ds ++ (id, d) ∷ []) (table_of basics es (ds ++ (id, d) ∷ []))
-  keeps_completed k o r x =
+  pub keeps_completed : Keeps basics es ds before_it → IsOpen before_it id → members_refusal before_it id d.members ≡ None → are_fields (member_types (types before_it) d.members) ≡ true → IsDefinition (with before_it it) id d → Keeps basics es (ds ++ (id, d) ∷ []) (table_of basics es (ds ++ (id, d) ∷ []))
+  keeps_completed k o r b x =
       let s = stays_completed k o in
       let l : length (basics ++ forms_in es) ≡ 10 + length es = length-forms basics es k.basic in
       subst (λ (t : Table). Keeps basics es (ds ++ (id, d) ∷ []) t) (sym table_with)
@@ -174,6 +175,7 @@ module _ (basics : List TypeForm) (es : List (FormKey × Formed)) (ds : List (�
           | inr j ↦ subst (λ (y : ℕ × Definition). IsDefinition (with before_it it) y.0 y.1) (sym j.1) x
         ];
         complete = subst AreComplete (sym (tags_completed before_it it)) (ap (λ (e : Extent). is_some e.size) (unknown k o), objects_of before_it id d.members r, k.complete);
+        fields = ap have_fields (tags_completed before_it it) ∙ ap (λ z. z && have_fields (tags before_it)) b ∙ k.fields;
       })
 
   pub extends_completed : Keeps basics es ds before_it → IsOpen before_it id → Extends before_it (with before_it it)

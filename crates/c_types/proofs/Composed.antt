@@ -1,19 +1,24 @@
 -- Composite types one by one: what their parts give, in a table that grows.
-use Rattle.std.proofs.Common.{◌≡◌, inl, inr, ℕ, zero, suc, ◌+◌, ◌<◌, ◌≤◌, Bool, false, List, [], ◌∷◌, ◌++◌, length, drop, get_or, refl, sym, ap, ◌∙◌, true≢false, append_assoc, drop_of_length-le, arith}
-use Rattle.std.specs.Prelude.{◌⊎◌, All, Contains, Some, None, Option, bit_or, is_some, if◌then◌else◌, Result, Ok, Err, IfOk, OnOk}
+use Rattle.std.proofs.Common.{◌≡◌, inl, inr, ℕ, zero, suc, ◌+◌, ◌<◌, ◌≤◌, Bool, true, false, List, [], ◌∷◌, ◌++◌, length, drop, get_or, refl, sym, ap, ◌∙◌, true≢false, append_assoc, drop_of_length-le, arith}
+use Rattle.std.specs.Prelude.{◌⊎◌, All, Contains, Some, None, Option, ◌&&◌, bit_or, is_some, if◌then◌else◌, Result, Ok, Err, IfOk, OnOk}
 use Rattle.std.proofs.lemmas.List.Elements.{All-contains, All-weaker}
 use Rattle.std.proofs.lemmas.List.{drop_more, length-append}
 use Rattle.c_types.specs.declared.type_form.TypeForm.{TypeForm}
+use Rattle.c_types.specs.declared.type_form.TypeForm.TheVariants as form
+use Rattle.c_types.specs.declared.type_form.Enumerator.{Enumerator}
 use Rattle.c_types.specs.declared.type_fault.TypeFault.{TypeFault}
 use Rattle.c_types.specs.declared.extent.Extent.{Extent}
 use Rattle.c_types.specs.CType.{CType, Plain, Array, Kind, Simple, Pointer, Function, Structure, Union, Enumeration, Parameters, Open, Listed, CTypes, NoType, And, qualify, unqualified, parameters_weight}
+use Rattle.c_types.specs.Compatible.{is_int}
 use Rattle.c_types.specs.Composite.{composite, kinds_composite, parameters_composite, all_composite, known_length}
 use Rattle.c_types.specs.Layout.{Tag}
-use Rattle.c_types.specs.Readings.{is_array, is_function, is_pointer}
-use Rattle.c_types.specs.Table.{Table, Completed, Adds, AreBelow, AreSomeBelow, Extends, Grows, counted, is_tagged, parameters_in, tag_of, tagged, tags, tags_of, type_at, type_in, types, types_in}
+use Rattle.c_types.specs.Readings.{is_array, is_enumeration, is_function, is_pointer}
+use Rattle.c_types.specs.Table.{Table, Completed, Adds, AreBelow, AreSomeBelow, Extends, Grows, counted, formed, is_qualified, is_tagged, parameters_in, tag_of, tagged, tags, tags_of, type_at, type_in, types, types_in}
 use Rattle.c_types.specs.Extending.{extends_longer}
 use Rattle.c_types.specs.Facts.{AreMade, IsMade, first_composite}
 use Rattle.c_types.specs.Qualifying.{qualify_none}
+use Rattle.c_types.proofs.Alike.{and_true}
+use Rattle.c_types.proofs.Bare.{IsBare, is_int_type}
 use Rattle.c_types.proofs.Below.{below_more, some_below_more}
 use Rattle.c_types.proofs.Pairs.{still_all}
 use Rattle.c_types.proofs.Placed.{extends_itself}
@@ -213,18 +218,60 @@ function_first s u r ps e n = e ∙ sym (ap (λ z. composite z u) e ∙ by u n)
     by (Plain q (Enumeration m)) n = refl
     by (Array of m) n = refl
 
-other_plain : (q : ℕ) (k : Kind) (u : CType) → is_pointer (Plain q k) ≡ false → is_function (Plain q k) ≡ false → composite (Plain q k) u ≡ Plain q k
-other_plain q k (Array of m) n f = refl
-other_plain q (Simple b) (Plain r l) n f = refl
-other_plain q (Pointer to) (Plain r l) n f = absurd (true≢false n)
-other_plain q (Function x ps) (Plain r l) n f = absurd (true≢false f)
-other_plain q (Structure m) (Plain r l) n f = refl
-other_plain q (Union m) (Plain r l) n f = refl
-other_plain q (Enumeration m) (Plain r l) n f = refl
+-- int beside an enumeration
+abbrev pub meets_enumeration : CType → CType → Bool
+meets_enumeration s u = is_int_type s && is_enumeration u
 
-pub other_first : (s u : CType) → is_array s ≡ false → is_pointer s ≡ false → is_function s ≡ false → s ≡ composite s u
-other_first (Plain q k) u a n f = sym (other_plain q k u n f)
-other_first (Array of m) u a n f = absurd (true≢false a)
+other_plain : (q : ℕ) (k : Kind) (u : CType) → is_pointer (Plain q k) ≡ false → is_function (Plain q k) ≡ false → meets_enumeration (Plain q k) u ≡ false → composite (Plain q k) u ≡ Plain q k
+other_plain q k (Array of m) n f h = refl
+other_plain q (Simple b) (Plain r (Simple x)) n f h = refl
+other_plain q (Simple b) (Plain r (Pointer to)) n f h = refl
+other_plain q (Simple b) (Plain r (Function x ps)) n f h = refl
+other_plain q (Simple b) (Plain r (Structure m)) n f h = refl
+other_plain q (Simple b) (Plain r (Union m)) n f h = refl
+other_plain q (Simple b) (Plain r (Enumeration m)) n f h = ap (λ z. Plain q (if z then Enumeration m else Simple b)) (sym (and_true (is_int (Simple b))) ∙ h)
+other_plain q (Pointer to) (Plain r l) n f h = absurd (true≢false n)
+other_plain q (Function x ps) (Plain r l) n f h = absurd (true≢false f)
+other_plain q (Structure m) (Plain r l) n f h = refl
+other_plain q (Union m) (Plain r l) n f h = refl
+other_plain q (Enumeration m) (Plain r l) n f h = refl
+
+pub other_first : (s u : CType) → is_array s ≡ false → is_pointer s ≡ false → is_function s ≡ false → meets_enumeration s u ≡ false → s ≡ composite s u
+other_first (Plain q k) u a n f h = sym (other_plain q k u n f h)
+other_first (Array of m) u a n f h = absurd (true≢false a)
+
+-- what isn't the form of an enumeration
+pub no_enumeration : (ts : List CType) (n : ℕ) (f : TypeForm) → is_qualified f ≡ false → ((ms : List Enumerator) → f ≡ form.Enumeration ms → ⊥) → is_enumeration (formed ts n f) ≡ false
+no_enumeration ts n form.Void q h = refl
+no_enumeration ts n form.Char q h = refl
+no_enumeration ts n form.SignedChar q h = refl
+no_enumeration ts n form.UnsignedChar q h = refl
+no_enumeration ts n form.Short q h = refl
+no_enumeration ts n form.UnsignedShort q h = refl
+no_enumeration ts n form.Int q h = refl
+no_enumeration ts n form.Unsigned q h = refl
+no_enumeration ts n form.Long q h = refl
+no_enumeration ts n form.UnsignedLong q h = refl
+no_enumeration ts n (form.Pointer to) q h = refl
+no_enumeration ts n (form.Array of m) q h = refl
+no_enumeration ts n (form.Function r ps m) q h = refl
+no_enumeration ts n form.Structure q h = refl
+no_enumeration ts n form.Union q h = refl
+no_enumeration ts n (form.Enumeration ms) q h = absurd (h ms refl)
+no_enumeration ts n (form.Qualified of p) q h = absurd (true≢false q)
+
+-- an enumeration beside int
+int_composite : (s : CType) (n : ℕ) → is_int_type s ≡ true → IsBare s → composite s (Plain 0 (Enumeration n)) ≡ Plain 0 (Enumeration n)
+int_composite (Plain q (Simple b)) n h e = ap (λ z. Plain z (if is_int (Simple b) then Enumeration n else Simple b)) e ∙ ap (λ z. Plain 0 (if z then Enumeration n else Simple b)) h
+int_composite (Plain q (Pointer to)) n h e = absurd (true≢false (sym h))
+int_composite (Plain q (Function r ps)) n h e = absurd (true≢false (sym h))
+int_composite (Plain q (Structure m)) n h e = absurd (true≢false (sym h))
+int_composite (Plain q (Union m)) n h e = absurd (true≢false (sym h))
+int_composite (Plain q (Enumeration m)) n h e = absurd (true≢false (sym h))
+int_composite (Array of m) n h e = absurd (true≢false (sym h))
+
+pub enumeration_first : (s u : CType) (n : ℕ) → is_int_type s ≡ true → IsBare s → u ≡ Plain 0 (Enumeration n) → u ≡ composite s u
+enumeration_first s u n h b e = e ∙ sym (ap (composite s) e ∙ int_composite s n h b)
 
 -- ---- parameters
 

@@ -7,12 +7,13 @@ use Rattle.std.proofs.lemmas.Option.{slice_get-get_or}
 use Rattle.c_types.specs.declared.type_form.TypeForm.{TypeForm}
 use Rattle.c_types.specs.declared.type_form.TypeForm.TheVariants as form
 use Rattle.c_types.specs.CType.{CType, Plain, Array, qualify}
-use Rattle.c_types.specs.Constness.{const_known, has_const, has_const_by, kind_has_const}
+use Rattle.c_types.specs.Constness.{const_known, has_const, has_const_by, is_const, kind_has_const}
 use Rattle.c_types.specs.Layout.{Tag}
 use Rattle.c_types.specs.Readings.{is_array}
 use Rattle.c_types.specs.Table.{Table, IsOver, form_at, formed, is_open_form, is_qualified, members_among, number_at, tags, type_at, types}
 use Rattle.c_types.specs.Keeps.{IsDefinition}
 use Rattle.c_types.specs.declared.definition.Definition.{Definition}
+use Rattle.c_types.proofs.Bare.{IsBare}
 use Rattle.c_types.proofs.Defined.{AreOpen, apart, open_tagged}
 use Rattle.c_types.proofs.Insides.{type_by_form}
 use Rattle.c_types.proofs.Known.{IsApart}
@@ -45,6 +46,14 @@ or_false : (a c : Bool) → ((a || false) || c) ≡ (a || c)
 or_false true c = refl
 or_false false c = refl
 
+or_right : (a : Bool) → (a || true) ≡ true
+or_right true = refl
+or_right false = refl
+
+or_none : (a : Bool) → (a || false) ≡ a
+or_none true = refl
+or_none false = refl
+
 pub const_qualified : (k : ℕ → Bool) (q : ℕ) (t : CType) → (bit_and q 1 == 1) ≡ true → has_const_by k (qualify q t) ≡ true
 const_qualified k q (Plain p kind) h = ap (λ b. b || kind_has_const k kind) (const_or p q ∙ ap (λ b. (bit_and p 1 == 1) || b) h) ∙ or_true (bit_and p 1 == 1) (kind_has_const k kind)
 const_qualified k q (Array of n) h = const_qualified k q of h
@@ -52,6 +61,19 @@ const_qualified k q (Array of n) h = const_qualified k q of h
 pub const_unqualified : (k : ℕ → Bool) (q : ℕ) (t : CType) → (bit_and q 1 == 1) ≡ false → has_const_by k (qualify q t) ≡ has_const_by k t
 const_unqualified k q (Plain p kind) h = ap (λ b. b || kind_has_const k kind) (const_or p q ∙ ap (λ b. (bit_and p 1 == 1) || b) h) ∙ or_false (bit_and p 1 == 1) (kind_has_const k kind)
 const_unqualified k q (Array of n) h = const_unqualified k q of h
+
+-- the type's own const, or its element's
+pub own_const : (q : ℕ) (t : CType) → (bit_and q 1 == 1) ≡ true → is_const (qualify q t) ≡ true
+own_const q (Plain p kind) h = const_or p q ∙ ap (λ b. (bit_and p 1 == 1) || b) h ∙ or_right (bit_and p 1 == 1)
+own_const q (Array of n) h = own_const q of h
+
+pub own_unqualified : (q : ℕ) (t : CType) → (bit_and q 1 == 1) ≡ false → is_const (qualify q t) ≡ is_const t
+own_unqualified q (Plain p kind) h = const_or p q ∙ ap (λ b. (bit_and p 1 == 1) || b) h ∙ or_none (bit_and p 1 == 1)
+own_unqualified q (Array of n) h = own_unqualified q of h
+
+pub none_const : (t : CType) → IsBare t → is_array t ≡ false → is_const t ≡ false
+none_const (Plain p kind) e a = ap (λ q. bit_and q 1 == 1) e
+none_const (Array of n) e a = absurd (true≢false a)
 
 -- no definition has the number
 pub const_apart : (tags : List Tag) (n : ℕ) → IsApart n tags → const_known tags n ≡ false

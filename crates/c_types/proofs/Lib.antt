@@ -1,6 +1,7 @@
 pub mod Alike
 pub mod Bare
 pub mod Below
+pub mod BitFields
 pub mod Composed
 pub mod Completing
 pub mod Const
@@ -12,7 +13,9 @@ pub mod Keys
 pub mod Known
 pub mod Laid
 pub mod Limits
+pub mod Mutual
 pub mod Named
+pub mod Narrower
 pub mod Noting
 pub mod Opening
 pub mod Pairs

@@ -1,10 +1,10 @@
 -- A composite passes no limit that its two types keep.
-use Rattle.std.proofs.Common.{◌≡◌, ℕ, zero, suc, ◌+◌, ◌-◌, ◌<◌, ◌≤◌, Bool, true, false, List, [], ◌∷◌, ◌++◌, drop, get_or, length, max, refl, sym, ap, ◌∙◌, subst, true≢false, arith}
+use Rattle.std.proofs.Common.{◌≡◌, ℕ, zero, suc, ◌+◌, ◌-◌, ◌<◌, ◌≤◌, Bool, true, false, List, [], ◌∷◌, drop, get_or, length, max, refl, sym, ap, ◌∙◌, subst, true≢false, arith}
 use Rattle.std.specs.Prelude.{IfSome, None, Option, Some, is_some, nat_eq, nat_le, nat_lt, if◌then◌else◌}
 use Rattle.std.specs.Option.{option_map}
 use Rattle.std.specs.Map.{lookup}
 use Rattle.std.proofs.lemmas.Bool.Decides.{nat_tests}
-use Rattle.std.proofs.lemmas.List.{drop_more, length-append}
+use Rattle.std.proofs.lemmas.List.{drop_more}
 use Rattle.std.proofs.lemmas.Option.{slice_get-get_or}
 use Rattle.c_types.specs.declared.definition.Definition.{Definition}
 use Rattle.c_types.specs.declared.extent.Extent.{Extent}
@@ -15,7 +15,7 @@ use Rattle.c_types.specs.declared.type_form.TypeForm.TheVariants as form
 use Rattle.c_types.specs.declared.type_table.Formed.{Formed}
 use Rattle.c_types.specs.Bounds.{IsBounded}
 use Rattle.c_types.specs.CType.{Basic, Void, Char, SignedChar, UnsignedChar, Short, UnsignedShort, Int, Unsigned, Long, UnsignedLong, CType, Plain, Array, Kind, Simple, Pointer, Function, Structure, Union, Enumeration, Parameters, Open, Listed, CTypes, NoType, And, basic, depth, greatest_depth, kind_depth, kind_of, parameters_depth, qualify, unqualified}
-use Rattle.c_types.specs.Compatible.{all_compatible, basic_place, compatible, kind_compatible, kinds_compatible, lengths_fit, parameters_compatible, same_flag}
+use Rattle.c_types.specs.Compatible.{all_compatible, basic_place, compatible, is_int, kind_compatible, kinds_compatible, lengths_fit, parameters_compatible, same_flag}
 use Rattle.c_types.specs.Composite.{all_composite, composite, kinds_composite, known_length, parameters_composite}
 use Rattle.c_types.specs.Facts.{AreListsCompatible, IsOfObjects, IsWithin, first_compatible}
 use Rattle.c_types.specs.Keeps.{IsFact, IsSettled, Keeps}
@@ -33,6 +33,10 @@ use Rattle.c_types.proofs.Placed.{some_entry}
 
 -- ---- depth
 
+int_depth : (b : Bool) (x : Basic) (n : ℕ) → kind_depth (if b then Enumeration n else Simple x) ≡ 1
+int_depth true x n = refl
+int_depth false x n = refl
+
 mutual
   pub depth_composite : (s u : CType) → depth (composite s u) ≤ max (depth s) (depth u)
   depth_composite (Plain p a) (Plain q b) = kinds_depth a b
@@ -41,7 +45,12 @@ mutual
   depth_composite (Array a n) (Array b m) = let h = depth_composite a b in omega (arith, h)
 
   kinds_depth : (a b : Kind) → kind_depth (kinds_composite a b) ≤ max (kind_depth a) (kind_depth b)
-  kinds_depth (Simple x) b = omega arith
+  kinds_depth (Simple x) (Enumeration n) = let e = int_depth (is_int (Simple x)) x n in omega (arith, e)
+  kinds_depth (Simple x) (Simple y) = omega arith
+  kinds_depth (Simple x) (Pointer b) = omega arith
+  kinds_depth (Simple x) (Function r ps) = omega arith
+  kinds_depth (Simple x) (Structure n) = omega arith
+  kinds_depth (Simple x) (Union n) = omega arith
   kinds_depth (Structure n) b = omega arith
   kinds_depth (Union n) b = omega arith
   kinds_depth (Enumeration n) b = omega arith
@@ -92,8 +101,25 @@ by_place Unsigned = refl
 by_place Long = refl
 by_place UnsignedLong = refl
 
+int_extent : (k : ℕ → Extent) (x : Basic) (n : ℕ) → kind_extent k (kinds_composite (Simple x) (Enumeration n)) ≡ basic_extent x
+int_extent k Void n = refl
+int_extent k Char n = refl
+int_extent k SignedChar n = refl
+int_extent k UnsignedChar n = refl
+int_extent k Short n = refl
+int_extent k UnsignedShort n = refl
+int_extent k Int n = refl
+int_extent k Unsigned n = refl
+int_extent k Long n = refl
+int_extent k UnsignedLong n = refl
+
 kinds_extent : (k : ℕ → Extent) (a b : Kind) → kind_extent k (kinds_composite a b) ≡ kind_extent k a
-kinds_extent k (Simple x) b = refl
+kinds_extent k (Simple x) (Simple y) = refl
+kinds_extent k (Simple x) (Pointer b) = refl
+kinds_extent k (Simple x) (Function r ps) = refl
+kinds_extent k (Simple x) (Structure n) = refl
+kinds_extent k (Simple x) (Union n) = refl
+kinds_extent k (Simple x) (Enumeration n) = int_extent k x n
 kinds_extent k (Structure n) b = refl
 kinds_extent k (Union n) b = refl
 kinds_extent k (Enumeration n) b = refl

@@ -19,6 +19,7 @@ use Rattle.c_types.specs.CType.{CType, Void, basic, qualify, depth}
 use Rattle.c_types.specs.Layout.{known, extent_by}
 use Rattle.c_types.specs.Table.{Table, Extends, basic_forms, form_at, type_at, type_in, types, types_of, formed, tagged, tags, is_qualified, is_open_form, is_tagged, number_at, IsNew, IsOver}
 use Rattle.c_types.specs.Definitions.{AreComplete}
+use Rattle.c_types.specs.BitFields.{have_fields}
 use Rattle.c_types.specs.Keeps.{Keeps, IsFact, IsKeyOf, IsSettled, forms_in, completed_in, is_formed}
 use Rattle.c_types.specs.Facts.{IsFactOf, type_of}
 use Rattle.c_types.specs.Qualifying.{qualify_none}
@@ -126,6 +127,7 @@ module _ (basics : List TypeForm) (es : List (FormKey × Formed)) (ds : List (�
         ];
         defined = λ i e g. definition_stays before_it (more before_it x.1.form) e.0 e.1 s (k.defined i e g);
         complete = subst AreComplete (sym (tags_kept before_it x.1.form ds refl k.defined)) k.complete;
+        fields = ap have_fields (tags_kept before_it x.1.form ds refl k.defined) ∙ k.fields;
       })
 
   pub extends_push : Keeps basics es ds before_it → Extends before_it (more before_it x.1.form)

@@ -20,6 +20,7 @@ use Rattle.c_types.specs.Layout.{extent_by, known, no_object}
 use Rattle.c_types.specs.Members.{member_in, places_in}
 use Rattle.c_types.specs.Constness.{const_known}
 use Rattle.c_types.specs.Definitions.{AreComplete}
+use Rattle.c_types.specs.BitFields.{have_fields}
 use Rattle.c_types.specs.Table.{Table, Completed, basic_forms, type_at, types, form_at, number_at, tags, extent_at, fields_at, is_qualified, is_open_form, is_union, places_of, member_seen, IsOver, AreMembersBelow, ArePlacesBelow, are_objects}
 
 -- the form isn't that of a basic type
@@ -100,3 +101,4 @@ pub record Keeps (basics : List TypeForm) (entries : List (FormKey × Formed)) (
   pub facts : (i : ℕ) (e : FormKey × Formed) → slice_get entries i ≡ Some e → IsFact t (10 + i) e.1.facts
   pub defined : (i : ℕ) (e : ℕ × Definition) → slice_get definitions i ≡ Some e → IsDefinition t e.0 e.1
   pub complete : AreComplete (tags t)
+  pub fields : have_fields (tags t) ≡ true

@@ -4,6 +4,7 @@ pub mod Compatible
 pub mod Composite
 pub mod Conversions
 pub mod Layout
+pub mod BitFields
 pub mod Table
 pub mod Readings
 pub mod Definitions

@@ -4,9 +4,10 @@ ghost use Rattle.c_types.specs.CType.{Array as ArrayTree, Function, Plain, depth
 ghost use Rattle.c_types.specs.Compatible.{all_compatible, compatible, kind_compatible};
 ghost use Rattle.c_types.specs.Composite.{all_composite, composite, known_length, parameters_composite};
 ghost use Rattle.c_types.specs.Facts.{AreListsCompatible, AreMade, ArePartsBelow, first_compatible, first_composite, function_of, items_of, more_of};
-ghost use Rattle.c_types.specs.Readings.{is_array, is_function};
+ghost use Rattle.c_types.specs.Readings.{is_array, is_function, is_pointer};
 ghost use Rattle.c_types.specs.Table.{AreBelow, AreSomeBelow, Grows, IsOver, excess_of, form_at, form_refusal, formed, is_qualified, is_tagged, parameters_in, tagged, tags, type_at, types, types_in};
 
+use crate::conversions::INT;
 use crate::form_key::copied;
 use crate::notes::Composites;
 use crate::qualifiers::Qualifiers;
@@ -171,8 +172,32 @@ impl TypeTable {
                     Some(other) => self.functions_composite(of, other, made),
                     None => Ok(x),
                 },
-                None => Ok(x),
+                None => Ok(self.simple_composite(x, y)),
             },
+        }
+    }
+
+    /// The composite of the types at two places, which aren't qualified, and the first of which is no
+    /// array, pointer or function: an enumeration beside int, else the first.
+    fn simple_composite(&self, x: TypeId, y: TypeId) -> TypeId
+        requires x { x < length self.now.forms }
+        requires y { y < length self.now.forms }
+        requires plain { is_qualified (form_at self.now x) ≡ false }
+        requires bare { is_qualified (form_at self.now y) ≡ false }
+        requires array { is_array (type_at self.now x) ≡ false }
+        requires pointer { is_pointer (type_at self.now x) ≡ false }
+        requires function { is_function (type_at self.now x) ≡ false }
+        ensures means { type_at self.now result ≡ composite (type_at self.now x) (type_at self.now y) }
+        ensures within { result < length self.now.forms }
+    {
+        // A field is named, so that what the table keeps is known here.
+        let _basic = &self.basic;
+        if x != INT {
+            return x;
+        }
+        match self.form(y) {
+            TypeForm::Enumeration { .. } => y,
+            _ => x,
         }
     }
 

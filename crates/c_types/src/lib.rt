@@ -9,6 +9,7 @@ mod conversions;
 mod definition;
 mod extent;
 mod form_key;
+mod laws;
 mod layout;
 mod notes;
 mod qualifiers;
@@ -18,6 +19,7 @@ mod type_form;
 mod type_table;
 
 pub use extent::Extent;
+pub use laws::{compatible_types_are_mutual, composites_are_compatible};
 pub use qualifiers::Qualifiers;
 pub use type_fault::TypeFault;
 pub use type_form::{Enumerator, Member, MemberPlace, TypeForm, TypeId};

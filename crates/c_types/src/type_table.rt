@@ -2,11 +2,12 @@ ghost use Rattle.std.specs.Prelude.{◌≡◌, ◌≢◌, ◌<◌, ◌≤◌, �
 ghost use Rattle.c_types.specs.declared.type_fault.TypeFault.TheVariants as fault;
 ghost use Rattle.c_types.specs.declared.type_form.TypeForm.TheVariants as form;
 ghost use Rattle.c_types.specs.declared.extent.Extent.{Extent as ExtentValue};
+ghost use Rattle.c_types.specs.BitFields.{are_fields};
 ghost use Rattle.c_types.specs.Bounds.{IsBounded};
 ghost use Rattle.c_types.specs.CType.{qualify, depth, greatest_depth, parameters_depth};
 ghost use Rattle.c_types.specs.Layout.{extent_by, known, no_object, object_align, structure_extent};
 ghost use Rattle.c_types.specs.Members.{is_defined, member_of, member_places};
-ghost use Rattle.c_types.specs.Table.{Adds, AreBelow, AreMembersBelow, ArePlacesBelow, AreSomeBelow, Extends, Grows, IsOpen, IsOver, IsRefusal, are_objects, basic_forms, extent_at, fields_at, form_at, form_refusal, formed, is_above, is_open_form, is_qualified, is_tagged, is_union, list_or_none, member_seen, members_at, members_refusal, number_at, parameters_in, place_of_member, tag_of, tagged, tags, type_at, type_in, types, types_in, types_of};
+ghost use Rattle.c_types.specs.Table.{Adds, AreBelow, AreMembersBelow, ArePlacesBelow, AreSomeBelow, Extends, Grows, IsOpen, IsOver, IsRefusal, are_objects, basic_forms, extent_at, fields_at, form_at, form_refusal, formed, is_above, is_open_form, is_qualified, is_tagged, is_union, list_or_none, member_seen, member_types, members_at, members_refusal, number_at, parameters_in, place_of_member, tag_of, tagged, tags, type_at, type_in, types, types_in, types_of};
 ghost use Rattle.c_types.specs.Definitions.{AreComplete, IsToldIn};
 ghost use Rattle.c_types.specs.Keeps.{IsFact, IsKeyOf, is_formed};
 ghost use Rattle.c_types.specs.Facts.{AreBounded, IsFactOf, IsLaid, IsWithin};
@@ -527,12 +528,15 @@ impl TypeTable {
         is_open_form(self.form(id)) && !self.definitions.contains_key(&id)
     }
 
-    /// Gives a structure or union its members. Incomplete comes exactly where a member's type is
-    /// incomplete or a function; TooLarge exactly where the size is above 16,777,216; TooDeep exactly
-    /// where neither is so and the nesting is above 500. After an error the table is as before.
+    /// Gives a structure or union its members. A width stands only on int or unsigned int, perhaps
+    /// qualified; it is at most 32, and 0 only without a name (C89 3.5.2.1). Incomplete comes exactly
+    /// where a member's type is incomplete or a function; TooLarge exactly where the size is above
+    /// 16,777,216; TooDeep exactly where neither is so and the nesting is above 500. After an error the
+    /// table is as before.
     pub fn complete(&mut self, id: TypeId, members: Items<Member>) -> Result<(), TypeFault>
         requires id { IsOpen self.old id }
         requires members { AreMembersBelow (length self.old.forms) members }
+        requires fields { are_fields (member_types (types self.old) members) ≡ true }
         ensures accepted { OnOk result (members_refusal self.old id members ≡ None) }
         ensures refused { IfErr result (IsRefusal (members_refusal self.old id members)) }
         ensures completed { OnOk result (self.new ≡ record { forms = self.old.forms; completed = self.old.completed ++ record { place = id; members = members } ∷ [] }) }

@@ -1,20 +1,16 @@
-use Rattle.std.proofs.Common.{◌≡◌, ◌++◌, ◌∷◌, [], sym, ap, subst, ◌∙◌}
-use Rattle.std.specs.Prelude.{Some}
-use Rattle.c_symbols.specs.Scoping.{Scoping, found, or_else}
-use Rattle.c_symbols.proofs.Naming.{found_append}
+use Rattle.std.proofs.Common.{◌≡◌, ◌++◌, ◌∷◌, ◌<◌, [], ℕ, length, sym, subst, ◌∙◌}
+use Rattle.std.specs.Prelude.{IfSome, Option}
+use Rattle.c_symbols.specs.Scoping.{IsDeclared, Scoping, found}
+use Rattle.c_symbols.proofs.Within.{declared_found}
 use Rattle.c_symbols.proofs.scopes.Scopes.find.Goals as goal
 
-pub returns-in-Some : goal.returns-in-Some
-returns-in-Some c =
-    let i = c.self.inside in
-    let name = c.args.name.now in
-    subst (λ (t : Scoping). Some c.in-Some.id ≡ found (t.outer ++ t.inner ∷ []) name) c.self.view_is
-    (sym (found_append i.outer.items i.inner name ∙ ap (λ o. or_else o (found i.outer.items name)) (sym c.in-Some.ensures)))
+means : (c : goal.After-find) → c.find.result ≡ found (c.args.self.now.outer ++ c.args.self.now.inner ∷ []) c.args.name.now
+means c = subst (λ (t : Scoping). c.find.result ≡ found (t.outer ++ t.inner ∷ []) c.args.name.now) c.self.view_is (c.find.ensures ∙ c.self.invariant.newest c.args.name.now)
 
-pub returns-in-None : goal.returns-in-None
-returns-in-None c =
-    let i = c.self.inside in
-    let name = c.args.name.now in
-    subst (λ (t : Scoping). c.find_around.result ≡ found (t.outer ++ t.inner ∷ []) name) c.self.view_is
-    (c.find_around.ensures ∙ ap (λ ss. found ss name) c.as_slice.ensures.value
-    ∙ sym (found_append i.outer.items i.inner name ∙ ap (λ o. or_else o (found i.outer.items name)) (sym c.in-None.ensures)))
+pub returns-clause-means : goal.returns-clause-means
+returns-clause-means c = means c
+
+pub returns-clause-within : goal.returns-clause-within
+returns-clause-within c =
+    let t = c.args.self.now in
+    subst (λ (o : Option ℕ). IfSome o (λ k. k < length t.symbols)) (sym (means c)) (declared_found t c.args.name.now (subst IsDeclared c.self.view_is c.self.invariant.declared))

@@ -1,9 +1,10 @@
-use Rattle.std.proofs.Common.{◌≡◌, ◌∷◌, ◌++◌, [], List, ℕ, length, sym, ap, subst, ◌∙◌}
+use Rattle.std.proofs.Common.{◌≡◌, ◌∷◌, ◌++◌, [], List, ℕ, length, true, sym, ap, subst, ◌∙◌}
 use Rattle.std.specs.Prelude.{None}
 use Rattle.indexmap.proofs.CallerLemmas.{insert_entry-new}
 use Rattle.c_types.specs.declared.definition.Definition.{Definition}
 use Rattle.c_types.specs.declared.type_form.Member.{Member}
 use Rattle.c_types.specs.Table.{Table, Completed, AreMembersBelow, Extends, IsOpen, fields_at, form_at, is_union, member_types, members_refusal, tags, types}
+use Rattle.c_types.specs.BitFields.{are_fields}
 use Rattle.c_types.specs.Constness.{const_known, some_const}
 use Rattle.c_types.specs.Keeps.{Keeps, IsDefinition}
 use Rattle.c_types.specs.Facts.{IsLaid}
@@ -55,7 +56,8 @@ pub invariant_of-self-2 : goal.invariant_of-self-2
 invariant_of-self-2 c =
     let i = c.self.inside in
     subst (λ (ds : List (ℕ × Definition)). Keeps i.basic i.formed.entries ds (table_of i.basic i.formed.entries ds)) (sym (entries c))
-    (keeps_completed i.basic i.formed.entries i.definitions.entries c.args.id (definition c) c.self.invariant (open_before c) (accepted c) (defined c))
+    (keeps_completed i.basic i.formed.entries i.definitions.entries c.args.id (definition c) c.self.invariant (open_before c) (accepted c)
+    (subst (λ (t : Table). are_fields (member_types (types t) c.args.members) ≡ true) (sym c.self.view_is) c.requires.fields) (defined c))
 
 pub returns-clause-accepted : goal.returns-clause-accepted
 returns-clause-accepted c = subst (λ (xs : List Member). members_refusal c.args.self.now c.args.id xs ≡ None) c.as_slice-list.ensures c.in_ok-laying.ensures.accepted

@@ -1,0 +1,8 @@
+use crate::scopes::SymbolId;
+
+/// What a name meant before a declaration, by the name's place among the meanings.
+#[derive(Clone, Copy, Debug)]
+pub(crate) struct Hidden {
+    pub(crate) place: usize,
+    pub(crate) before: Option<SymbolId>,
+}
