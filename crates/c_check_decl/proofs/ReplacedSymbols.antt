@@ -1,6 +1,6 @@
 -- What is known when a symbol that was declared gets another type or value.
-use Rattle.std.proofs.Common.{◌≡◌, ℕ, ℤ, ◌<◌, ◌≤◌, length, refl, ap, ◌∙◌}
-use Rattle.std.specs.Prelude.{Bool, Option, Some, slice_get, slice_set}
+use Rattle.std.proofs.Common.{◌≡◌, ℕ, ℤ, ◌<◌, length, refl, ap, ◌∙◌}
+use Rattle.std.specs.Prelude.{Bool, None, Option, Some, slice_get, slice_set}
 use Rattle.c_symbols.specs.declared.symbol.Symbol.{Symbol}
 use Rattle.c_symbols.specs.Scoping.{Scoping}
 use Rattle.c_types.specs.Composite.{composite}
@@ -12,7 +12,7 @@ use Rattle.c_meaning.specs.State.{Known, State, place_of, replaced}
 use Rattle.c_check_expr.specs.Keeps.{Keeps}
 use Rattle.c_check_expr.specs.Kept.{keeps_later, keeps_on}
 use Rattle.c_check_expr.specs.Known.{AreSymbolsIn, known_of, state_of}
-use Rattle.c_check_expr.specs.KnownSymbols.{known_nowhere, known_there, state-replace, symbols_in-set}
+use Rattle.c_check_expr.specs.KnownSymbols.{known_there, state-replace, symbols_in-set}
 use Rattle.c_check_expr.specs.SymbolsStay.{state_stays}
 use Rattle.c_values.specs.Stays.{extends_itself}
 
@@ -65,8 +65,8 @@ noted_there s n t o id initialised y value e h d r = rw (e, known_there (types t
 pub count_there : (s : Scoping) (t : Table) (id : ℕ) (y : Symbol) → place_of (state_of s t) count_name ≡ Some id → slice_get s.symbols id ≡ Some y → local_count (state_of s t) ≡ nat_of y.value 0
 count_there s t id y e h = rw (e, known_there (types t) s.symbols id y h) refl
 
-pub count_nowhere : (s : Scoping) (t : Table) (id : ℕ) → place_of (state_of s t) count_name ≡ Some id → length s.symbols ≤ id → local_count (state_of s t) ≡ 0
-count_nowhere s t id e h = rw (e, known_nowhere (types t) s.symbols id h) refl
+pub count_nowhere : (s : Scoping) (t : Table) → place_of (state_of s t) count_name ≡ None → local_count (state_of s t) ≡ 0
+count_nowhere s t e = rw e refl
 
 pub counted_there : (s n : Scoping) (t : Table) (count id : ℕ) (y new : Symbol) → place_of (state_of s t) count_name ≡ Some id → slice_get s.symbols id ≡ Some y → known_of (types t) new ≡ count_known y.level count →
     Replaces s n id new → state_of n t ≡ with_count (state_of s t) count

@@ -31,8 +31,8 @@ pub(crate) fn local_count(scopes: &Scopes) -> u64
     ensures { (t : Table) → result ≡ locals_so_far (state_of scopes.now t) }
 {
     match scopes.find(COUNT_NAME) {
-        Some(id) if id < scopes.count() => magnitude(scopes.symbol(id).value),
-        _ => 0,
+        Some(id) => magnitude(scopes.symbol(id).value),
+        None => 0,
     }
 }
 
@@ -83,10 +83,6 @@ pub(crate) fn set_count(scopes: &mut Scopes, types: &TypeTable, n: u64) -> Resul
         let level = level(scopes)?;
         return declare_new(scopes, types, COUNT_NAME, count_symbol(types, level, n)?);
     };
-    if id >= scopes.count() {
-        // Names stand with symbols that were declared.
-        return Err(Memory);
-    }
     let level = scopes.symbol(id).level;
     scopes.replace(id, count_symbol(types, level, n)?);
     Ok(())

@@ -1,5 +1,5 @@
 //! What a declaration declares, part by part.
-ghost use Rattle.std.specs.Prelude.{◌≡◌, ◌++◌, length, IfOk};
+ghost use Rattle.std.specs.Prelude.{◌≡◌, ◌++◌, IfOk};
 ghost use Rattle.c_types.specs.Table.{Table};
 ghost use Rattle.c_meaning.specs.Declarations.{nothing as no_parts, together as both_parts};
 ghost use Rattle.c_check_decl.specs.Declares.{AreDeclaredIn, declares_in};

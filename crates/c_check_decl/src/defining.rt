@@ -1,6 +1,6 @@
 //! What is known of a name behind its initialiser: its completed type, and whether it is defined (C89 3.5.7, 3.7.2).
 ghost use Rattle.std.specs.Prelude.{◌≡◌, ◌<◌, length, OnOk};
-ghost use Rattle.c_types.specs.Table.{Grows, Table, type_at};
+ghost use Rattle.c_types.specs.Table.{Grows, type_at};
 ghost use Rattle.c_meaning.specs.Declarations.{definition as definition_of, is_definition_of as counts_as_definition, is_extern as externs, noted, recomposed, retyped, with_linked_whole, with_whole};
 ghost use Rattle.c_check_expr.specs.Keeps.{Keeps};
 ghost use Rattle.c_check_expr.specs.Known.{AreSymbolsIn, state_of};

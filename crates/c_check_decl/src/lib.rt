@@ -20,5 +20,6 @@ mod walk;
 mod whole;
 mod whole_faults;
 
+pub use c_initialisers::{Filled, fill};
 pub use declares::Declares;
 pub use public::check_declaration;

@@ -1,5 +1,5 @@
 //! What a declared name declares once its initialiser is checked (C89 3.5, 3.5.7, 3.7.2).
-ghost use Rattle.std.specs.Prelude.{◌≡◌, ◌<◌, ℕ, length, map, Option, IfOk};
+ghost use Rattle.std.specs.Prelude.{◌≡◌, ◌<◌, ℕ, length, map, Option, IfOk, IfSome};
 ghost use Rattle.c_ast.specs.SeenUnits.{boxed_initialiser_seen};
 ghost use Rattle.c_ast.specs.Trees.{InitialiserTree};
 ghost use Rattle.c_ast.specs.UnitViews.{option_of};
@@ -38,14 +38,13 @@ pub(crate) struct Spot {
 }
 
 /// The line of the first declaration of what a symbol stands for.
-fn first_line(scopes: &Scopes, line: u32, id: Option<SymbolId>) -> Result<u32, Memory>
-    ensures { (t : Table) → IfOk result (λ l. l ≡ line_of_symbol (state_of scopes.now t) line id) }
+fn first_line(scopes: &Scopes, line: u32, id: Option<SymbolId>) -> u32
+    requires { IfSome id (λ i. i < length scopes.now.symbols) }
+    ensures { (t : Table) → result ≡ line_of_symbol (state_of scopes.now t) line id }
 {
     match id {
-        Some(id) if id < scopes.count() => Ok(scopes.symbol(id).line),
-        // Names stand with symbols that were declared.
-        Some(_) => Err(Memory),
-        None => Ok(line),
+        Some(id) => scopes.symbol(id).line,
+        None => line,
     }
 }
 
@@ -77,7 +76,7 @@ fn object(
         name: Bytes::copied(alloc, n.name.as_slice())?,
         of: n.of,
         line,
-        constant: types.has_const(n.of),
+        constant: types.is_const(n.of),
         places: places_of(alloc, filled),
     })?;
     Ok(all)
@@ -144,7 +143,7 @@ fn declares(
         if filled.is_none() {
             return Ok(nothing(alloc));
         }
-        let line = first_line(scopes, spot.line, scopes.linked(n.name.as_slice()))?;
+        let line = first_line(scopes, spot.line, scopes.linked(n.name.as_slice()));
         object(alloc, types, line, n, filled)
     } else if is_typedef(n.class) || kinds::is_function(types, n.of) {
         Ok(nothing(alloc))

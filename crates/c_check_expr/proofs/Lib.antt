@@ -25,6 +25,7 @@ mod TableLimits
 mod TagNodes
 mod TagStates
 mod Telling
+mod TypedFields
 mod TypeNodes
 mod WalkDeclarators
 mod WalkExprs

@@ -1,5 +1,5 @@
 -- What is known behind the declaration of a name with linkage, and of a call that declares its name.
-use Rattle.std.proofs.Common.{◌≡◌, ℕ, ℤ, pos, Bool, true, false, List, [], refl, ap, ◌∙◌}
+use Rattle.std.proofs.Common.{◌≡◌, ℕ, ℤ, pos, Bool, true, false, List, refl, ap, ◌∙◌}
 use Rattle.std.specs.Prelude.{Option, Some, None, not}
 use Rattle.c_symbols.specs.declared.symbol.Storage.TheVariants as storage
 use Rattle.c_symbols.specs.declared.symbol.Symbol.{Symbol}

@@ -1,6 +1,6 @@
 -- Walks over specifiers, members, enumerators and declarators: what each is made of.
 use Rattle.std.proofs.Common.{◌≡◌, ℕ, ◌<◌, Bool, true, Option, List, [], length, map, sym, ap, ◌∙◌, subst}
-use Rattle.std.specs.Prelude.{Result, Ok, Err, IsErrAnd, pos}
+use Rattle.std.specs.Prelude.{ℤ, Result, Ok, Err, IsErrAnd, pos}
 use Rattle.c_ast.specs.declared.expr.Member.{Member as MemberSyntax, out-Member}
 use Rattle.c_ast.specs.declared.expr.Specifier.{Specifier, out-Specifier}
 use Rattle.c_ast.specs.declared.expr.SpecifierForm.{SpecifierForm}
@@ -17,7 +17,7 @@ use Rattle.c_types.specs.Table.{AreMembersBelow, Table, type_at}
 use Rattle.c_meaning.specs.Nodes.{Typing}
 use Rattle.c_meaning.specs.Nodes as node
 use Rattle.c_meaning.specs.State.{State, place_of}
-use Rattle.c_meaning.specs.TypeRows.{enumerated, number_of, opened}
+use Rattle.c_meaning.specs.TypeRows.{awaited, enumerated, number_of, opened}
 use Rattle.c_meaning.specs.Typing.{Outcome, Fine, at_record, at_tag, declared, then_do, typed_enumerators, typed_fields, typed_members, typed_part, typed_specifiers}
 use Rattle.c_meaning.specs.Typing as typing
 use Rattle.c_values.specs.declared.check_fault.CheckFault.{CheckFault}
@@ -111,21 +111,35 @@ line_goes {s = s} {m = m} {u = u} {a = a} {b = b} {c = c} {v = v} {r = r} before
 
 -- ---- enumerations
 
-pub enumeration_stops : {s u : Scoping} {a b : Table} {e : CheckFault} (line : ℕ) (tag : Option (List ℕ)) (es : EnumeratorTrees) (r : Result Part CheckFault) → IsErrAnd r (λ d. d ≡ e) → Walks next_number IsAnyNumber (enumerators_in s a (pos 0) es) s a u b (Err e) → Walks part_seen IsPartIn (part_in s a (tree.Enumeration line tag es true)) s a u b r
-unfolding part_in enumerators_in
-enumeration_stops {s = s} {a = a} line tag es r h w = first_stops part_seen IsPartIn (typed_enumerators (state_of s a) (pos 0) es) (λ m z. at_tag m line (node.Enumeration tag) (enumerated m line tag)) r h w
+module _ (line : ℕ) (tag : Option (List ℕ)) (es : EnumeratorTrees) (s m : Scoping) (a b : Table) (begun : state_of m b ≡ awaited (state_of s a) line tag) (kept : Keeps s a m b) where
+  abbrev ends : State → ℤ → Outcome node.Part
+  ends t next = at_tag t line (node.Enumeration tag) (enumerated t line tag)
 
-pub enumeration_stops_behind : {s m u : Scoping} {a b c : Table} {v : EnumeratorList} (e : CheckFault) (line : ℕ) (tag : Option (List ℕ)) (es : EnumeratorTrees) (r : Result Part CheckFault) → IsErrAnd r (λ d. d ≡ e) → Walks next_number IsAnyNumber (enumerators_in s a (pos 0) es) s a m b (Ok v)
-    → Tells e (at_tag (state_of m b) line (node.Enumeration tag) (enumerated (state_of m b) line tag)) → Keeps m b u c → Walks part_seen IsPartIn (part_in s a (tree.Enumeration line tag es true)) s a u c r
-unfolding part_in enumerators_in
-enumeration_stops_behind {s = s} {m = m} {u = u} {a = a} {b = b} {c = c} {v = v} e line tag es r h w f k =
-    whole_stops {s = s} {u = u} {a = a} {b = c} (tree.Enumeration line tag es true) e r h (subst (λ o. Tells e o) (sym (ap (λ o. then_do o (λ m z. at_tag m line (node.Enumeration tag) (enumerated m line tag))) w.ok)) f) (keeps_on s m u a b c w.keeps k)
+  pub enumeration_stops : {u : Scoping} {c : Table} {e : CheckFault} (r : Result Part CheckFault) → IsErrAnd r (λ d. d ≡ e) → Walks next_number IsAnyNumber (enumerators_in m b (pos 0) es) m b u c (Err e) → Walks part_seen IsPartIn (part_in s a (tree.Enumeration line tag es true)) s a u c r
+  unfolding part_in enumerators_in
+  enumeration_stops {u = u} {c = c} {e = e} r h w =
+      passed {view = part_seen} {IsWithin = IsPartIn} {o = typed_part (state_of s a) (tree.Enumeration line tag es true)} {s = s} {u = u} {a = a} {b = c} {e = e} r h
+      (record {
+        ok = tt;
+        err = tells_first e (typed_enumerators (awaited (state_of s a) line tag) (pos 0) es) ends (subst (λ x. Tells e (typed_enumerators x (pos 0) es)) begun w.err);
+        within = tt;
+        keeps = keeps_on s m u a b c kept w.keeps;
+      })
 
-pub enumeration_goes : {s m u : Scoping} {a b c : Table} {v : EnumeratorList} (line : ℕ) (tag : Option (List ℕ)) (es : EnumeratorTrees) (id : ℕ) → Walks next_number IsAnyNumber (enumerators_in s a (pos 0) es) s a m b (Ok v)
-    → at_tag (state_of m b) line (node.Enumeration tag) (enumerated (state_of m b) line tag) ≡ Fine (state_of u c) (node.Whole (type_at c id)) → id < length c.forms → Keeps m b u c → Walks part_seen IsPartIn (part_in s a (tree.Enumeration line tag es true)) s a u c (Ok (part.Whole id))
-unfolding part_in enumerators_in
-enumeration_goes {s = s} {m = m} {u = u} {a = a} {b = b} {c = c} {v = v} line tag es id w f l k =
-    whole_goes {s = s} {u = u} {a = a} {b = c} (tree.Enumeration line tag es true) id (ap (λ o. then_do o (λ m z. at_tag m line (node.Enumeration tag) (enumerated m line tag))) w.ok ∙ f) l (keeps_on s m u a b c w.keeps k)
+  enumerators_fine : {u : Scoping} {c : Table} {v : EnumeratorList} → Walks next_number IsAnyNumber (enumerators_in m b (pos 0) es) m b u c (Ok v) → typed_part (state_of s a) (tree.Enumeration line tag es true) ≡ at_tag (state_of u c) line (node.Enumeration tag) (enumerated (state_of u c) line tag)
+  unfolding enumerators_in
+  enumerators_fine {u = u} {c = c} {v = v} w = ap (λ o. then_do o ends) (subst (λ x. typed_enumerators x (pos 0) es ≡ Fine (state_of u c) v.next) begun w.ok)
+
+  pub enumeration_stops_behind : {u z : Scoping} {c d : Table} {v : EnumeratorList} (e : CheckFault) (r : Result Part CheckFault) → IsErrAnd r (λ x. x ≡ e) → Walks next_number IsAnyNumber (enumerators_in m b (pos 0) es) m b u c (Ok v)
+      → Tells e (at_tag (state_of u c) line (node.Enumeration tag) (enumerated (state_of u c) line tag)) → Keeps u c z d → Walks part_seen IsPartIn (part_in s a (tree.Enumeration line tag es true)) s a z d r
+  unfolding part_in
+  enumeration_stops_behind {u = u} {z = z} {c = c} {d = d} {v = v} e r h w f g =
+      whole_stops {s = s} {u = z} {a = a} {b = d} (tree.Enumeration line tag es true) e r h (subst (λ o. Tells e o) (sym (enumerators_fine w)) f) (keeps_on s u z a c d (keeps_on s m u a b c kept w.keeps) g)
+
+  pub enumeration_goes : {u z : Scoping} {c d : Table} {v : EnumeratorList} (id : ℕ) → Walks next_number IsAnyNumber (enumerators_in m b (pos 0) es) m b u c (Ok v)
+      → at_tag (state_of u c) line (node.Enumeration tag) (enumerated (state_of u c) line tag) ≡ Fine (state_of z d) (node.Whole (type_at d id)) → id < length d.forms → Keeps u c z d → Walks part_seen IsPartIn (part_in s a (tree.Enumeration line tag es true)) s a z d (Ok (part.Whole id))
+  enumeration_goes {u = u} {z = z} {c = c} {d = d} {v = v} id w f l g =
+      whole_goes {s = s} {u = z} {a = a} {b = d} (tree.Enumeration line tag es true) id (enumerators_fine w ∙ f) l (keeps_on s u z a c d (keeps_on s m u a b c kept w.keeps) g)
 
 -- ---- typedef names
 

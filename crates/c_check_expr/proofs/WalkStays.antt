@@ -1,5 +1,5 @@
 -- What a walk has seen over an earlier table is seen over the later one.
-use Rattle.std.proofs.Common.{◌≡◌, ℕ, ◌<◌, Option, Some, None, List, [], ◌∷◌, ◌++◌, length, map, refl, ◌∙◌, arith}
+use Rattle.std.proofs.Common.{◌≡◌, ℕ, ◌<◌, Option, Some, None, List, [], ◌∷◌, ◌++◌, length, map, refl}
 use Rattle.c_types.specs.declared.type_form.Member.{Member}
 use Rattle.c_types.specs.Table.{Table, Extends, AreMembersBelow, member_types, type_at, types}
 use Rattle.c_meaning.specs.CoreTrees.{AreIn, CoreOf, IsIn, all_seen, cores_of, seen}

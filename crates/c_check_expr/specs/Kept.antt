@@ -1,5 +1,5 @@
 -- What a walk keeps: the scopes around, and the table, whose places stay.
-use Rattle.std.proofs.Common.{◌≡◌, ℕ, ◌<◌, length, refl, ◌∙◌, arith}
+use Rattle.std.proofs.Common.{ℕ, ◌<◌, length, refl, ◌∙◌, arith}
 use Rattle.c_symbols.specs.Scoping.{Scoping}
 use Rattle.c_types.specs.Table.{Table, Extends, Grows}
 use Rattle.c_check_expr.specs.Keeps.{Keeps}

@@ -43,10 +43,6 @@ pub(crate) fn name(
     let Some(id) = scopes.find(name) else {
         return Err(CheckFault::Constraint { number: 28, line });
     };
-    // Names stand with symbols that were declared.
-    if id >= scopes.count() {
-        return Err(CheckFault::Memory);
-    }
     types.types_are_within_limits();
     let symbol = scopes.symbol(id);
     match meaning(symbol, id) {
@@ -170,8 +166,6 @@ fn linked(
     ensures symbols { AreSymbolsIn (length types.now.forms) scopes.new.symbols }
 {
     match scopes.linked(name) {
-        // Names stand with symbols that were declared.
-        Some(id) if id >= scopes.count() => Err(CheckFault::Memory),
         Some(id) => {
             if types.compatible(scopes.symbol(id).of, of) {
                 Ok(id)

@@ -1,13 +1,14 @@
 //! Nodes of structures, unions and enumerations, and what their tags mean (C89 3.5.2.1 to 3.5.2.3).
 ghost use Rattle.std.specs.Prelude.{ℕ, ◌≡◌, ◌≢◌, ◌<◌, pos, true, false, List, Some, None, is_some, length, IfSome, IfNone, IfOk, IfErr, OnOk};
 ghost use Rattle.c_symbols.specs.Scoping.{Scoping, symbol_named};
+ghost use Rattle.c_types.specs.BitFields.{are_fields};
 ghost use Rattle.c_types.specs.CType.{CType};
 ghost use Rattle.c_types.specs.Layout.{MemberType};
 ghost use Rattle.c_types.specs.Table.{AreMembersBelow, Extends, Table, formed, is_tagged, member_types, tagged as count, tags, type_at, types as table_types};
 ghost use Rattle.c_meaning.specs.Nodes as node;
 ghost use Rattle.c_meaning.specs.State.{counted, declared, known_at, replaced};
 ghost use Rattle.c_meaning.specs.TypeConstraints.{is_enumeration as enumerates, is_of_kind as is_of, misuses_tag};
-ghost use Rattle.c_meaning.specs.TypeRows.{enumerated, enumeration_type, named, number_of, opened, record_type, tag_key as key_of, tagged};
+ghost use Rattle.c_meaning.specs.TypeRows.{awaited, enumerated, enumeration_type, named, number_of, opened, record_type, tag_key as key_of, tagged};
 ghost use Rattle.c_meaning.specs.Typing.{Fine, at_record, at_tag};
 ghost use Rattle.c_values.specs.declared.check_fault.CheckFault.TheVariants.{Constraint, Memory as NoMemory};
 ghost use Rattle.c_check_expr.specs.AtNode.{Tells};
@@ -196,6 +197,35 @@ pub(crate) fn enumeration_tag(
     }
 }
 
+/// Puts the tag of an enumeration in force before its list: where the innermost scope doesn't have it,
+/// it means a whole type without enumerators there.
+pub(crate) fn open_enumeration(
+    alloc: Global,
+    scopes: &mut Scopes,
+    types: &mut TypeTable,
+    line: u32,
+    tag: &Option<Bytes>,
+) -> Result<(), Memory>
+    requires { AreSymbolsIn (length types.old.forms) scopes.old.symbols }
+    ensures state { OnOk result (state_of scopes.new types.new ≡ awaited (state_of scopes.old types.old) line tag.now) }
+    ensures keeps { Keeps scopes.old types.old scopes.new types.new }
+{
+    let Some(tag) = tag else {
+        return Ok(());
+    };
+    let key = tag_key(alloc, tag.as_slice())?;
+    match scopes.find_here(&key) {
+        None => {
+            let form = TypeForm::Enumeration {
+                members: Items::new(alloc),
+            };
+            new_tag(scopes, types, line, &key, form, None)?;
+            Ok(())
+        }
+        Some(_) => Ok(()),
+    }
+}
+
 /// An enumeration with its enumerators, whose tag the innermost scope has.
 fn listed(
     scopes: &mut Scopes,
@@ -331,6 +361,7 @@ fn complete(
 ) -> Result<TypeId, CheckFault>
     requires begun { begun.id < length types.old.forms }
     requires members { AreMembersBelow (length types.old.forms) members }
+    requires fields { are_fields (member_types (table_types types.old) members) ≡ true }
     ensures means { IfOk result (λ whole. type_at types.new whole ≡ record_type begun.kind (number_of (type_at types.old begun.id))) }
     ensures within { IfOk result (λ whole. whole < length types.new.forms) }
     ensures forms { OnOk result (types.new.forms ≡ types.old.forms) }
@@ -374,6 +405,7 @@ pub(crate) fn complete_record(
     requires symbols { AreSymbolsIn (length types.old.forms) scopes.old.symbols }
     requires begun { begun.id < length types.old.forms }
     requires members { AreMembersBelow (length types.old.forms) members }
+    requires fields { are_fields (member_types (table_types types.old) members) ≡ true }
     ensures ok { IfOk result (λ whole. at_record (state_of scopes.old types.old) begun.line begun.kind tag.now (number_of (type_at types.old begun.id)) (member_types (table_types types.old) members) ≡ Fine (state_of scopes.new types.new) (node.Whole (type_at types.new whole))) }
     ensures err { IfErr result (λ e. Tells e (at_record (state_of scopes.old types.old) begun.line begun.kind tag.now (number_of (type_at types.old begun.id)) (member_types (table_types types.old) members))) }
     ensures within { IfOk result (λ whole. whole < length types.new.forms) }

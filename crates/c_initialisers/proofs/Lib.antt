@@ -11,7 +11,6 @@ mod Finished
 mod WaitingLists
 mod ValueLimits
 mod Stores
-mod Characters
 mod WholeNodes
 mod Stacks
 mod Complete

@@ -35,8 +35,8 @@ onto_unless before None s x = refl
 
 pub value_found : (s : State) (static : Bool) (line : ℕ) (before : Stored) (c : CoreTree) (f : Found) → taken s.tags c before.left ≡ Some f → value_onto s static line before c ≡ value_in s static line f.at c (stored before.places f.left before.excess)
 value_found s static line before c f e =
-    rw e (onto_unless before (init_fault s line (inner_node static (Value (Some f.at) c))) s (stored (filled_by f.at c) f.left false)
-    ∙ ap (λ b. unless (init_fault s line (inner_node static (Value (Some f.at) c))) s (stored (before.places ++ filled_by f.at c) f.left b)) (or_false before.excess))
+    rw e (onto_unless before (init_fault s line (inner_node static (Value (Some f.at) c))) s (stored (filled_by f.at c ∷ []) f.left false)
+    ∙ ap (λ b. unless (init_fault s line (inner_node static (Value (Some f.at) c))) s (stored (before.places ++ filled_by f.at c ∷ []) f.left b)) (or_false before.excess))
 
 none_fault : (s : State) (static : Bool) (line : ℕ) (c : CoreTree) → init_fault s line (inner_node static (Value None c)) ≡ None
 unfolding init_fault

@@ -1,11 +1,11 @@
 -- Stacks of what waits, whose last entry is the next.
-use Rattle.std.proofs.Common.{◌≡◌, ℕ, ◌+◌, ◌<◌, List, [], ◌∷◌, ◌++◌, length, take, get_or, refl, ap, ◌∙◌, add-one}
+use Rattle.std.proofs.Common.{◌≡◌, ℕ, ◌+◌, ◌<◌, List, [], ◌∷◌, ◌++◌, length, take, get_or, refl, sym, ap, ◌∙◌, add-one, arith, eqb-true}
 use Rattle.std.proofs.Math.Seq.{take-suc}
-use Rattle.std.specs.Prelude.{◌==◌, false}
+use Rattle.std.specs.Prelude.{◌==◌, true, false}
 use Rattle.c_types.specs.CType.{CType}
 use Rattle.c_types.specs.Table.{Table}
 use Rattle.c_meaning.specs.Filling.{Waiting, elements_begun}
-use Rattle.c_meaning.specs.Initialising.{stored_elements}
+use Rattle.c_meaning.specs.Initialising.{elements_stored, stored_elements}
 use Rattle.c_meaning.specs.StmtTrees.{FilledOf}
 use Rattle.c_initialisers.specs.Waiting.{entry_in, waiting_in}
 use Rattle.c_initialisers.specs.declared.waits.Waits.{Waits}
@@ -26,3 +26,8 @@ elements_of (y ∷ xs) x ps = refl
 pub begun_counts : (t : Table) (ws : List Waits) (ps : List (FilledOf CType)) → false ≡ (length ws == 0) → stored_elements (waiting_in t ws) ps ≡ elements_begun (waiting_in t ws)
 begun_counts t [] ps h = absurd (cc)
 begun_counts t (w ∷ ws) ps h = elements_of (waiting_in t ws) (entry_in t w) ps
+
+-- where none waits, the first place that is stored counts
+pub none_counts : (t : Table) (ws : List Waits) (ps : List (FilledOf CType)) → true ≡ (length ws == 0) → stored_elements (waiting_in t ws) ps ≡ elements_stored ps
+none_counts t [] ps h = refl
+none_counts t (w ∷ ws) ps h = absurd (let e = eqb-true (length (w ∷ ws)) 0 (sym h) in omega (arith, e))

@@ -5,8 +5,8 @@ use Rattle.c_types.specs.Layout.{Tag, extent}
 use Rattle.c_types.specs.Members.{MemberAt}
 use Rattle.c_types.specs.Table.{Grows, Table, is_above, tags, type_at}
 use Rattle.c_meaning.specs.CoreTrees.{CoreOf, IsIn, seen}
-use Rattle.c_meaning.specs.Filling.{filled_by, place_of}
-use Rattle.c_meaning.specs.Initialising.{Filled as FilledTrees, Items, Stored as StoredTrees, Value, at_init, completed_types, filled, init_constraints, list_of, sized, stored_elements, text_elements}
+use Rattle.c_meaning.specs.Filling.{filled_by, place_of, sized}
+use Rattle.c_meaning.specs.Initialising.{Filled as FilledTrees, Items, Stored as StoredTrees, Value, at_init, completed_types, filled, init_constraints, list_of, stored_elements, text_elements}
 use Rattle.c_meaning.specs.NodeConstraints.{first_of, passed_by}
 use Rattle.c_meaning.specs.State.{State}
 use Rattle.c_meaning.specs.StmtTrees.{FilledOf}
@@ -40,7 +40,7 @@ module _ (a : Table) (of : ℕ) (z : Standing) (line : ℕ) (c : CoreTree) (t : 
   completed = completed_types whole size
 
   abbrev result : FilledTrees
-  result = filled size (filled_by (place_of whole 0) c)
+  result = filled size (filled_by (place_of whole 0) c ∷ [])
 
   fit_is : z.is_unfit ≡ false → whole_value t line (object_of a of z) z.is_unfit c ≡ at_init t line (node_of z (Value (Some (place_of whole 0)) c) completed) result
   fit_is h = rw h refl

@@ -2,7 +2,6 @@ pub mod Addresses
 pub mod Waiting
 pub mod Storing
 pub mod StoresStay
-pub mod Fitting
 pub mod FilledPlaces
 pub mod Listed
 pub mod Opening

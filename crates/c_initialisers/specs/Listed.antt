@@ -1,5 +1,5 @@
 -- What typing makes of the items of a list behind others, as contracts of the walk speak of it.
-use Rattle.std.specs.Prelude.{ℕ, Bool, Some, ◌++◌}
+use Rattle.std.specs.Prelude.{ℕ, Bool, Some, [], ◌∷◌, ◌++◌}
 use Rattle.c_ast.specs.Trees.{InitialiserTree, InitialiserTrees}
 use Rattle.c_symbols.specs.Scoping.{Scoping}
 use Rattle.c_types.specs.Members.{MemberAt}
@@ -28,4 +28,4 @@ value_onto s static line before c = onto before (at_init s line (value_node stat
 
 -- an expression over its place, behind others that are stored
 abbrev pub value_in : State → Bool → ℕ → MemberAt → CoreTree → Stored → Outcome Stored
-value_in s static line at c others = at_init s line (inner_node static (Value (Some at) c)) (stored (others.places ++ filled_by at c) others.left others.excess)
+value_in s static line at c others = at_init s line (inner_node static (Value (Some at) c)) (stored (others.places ++ filled_by at c ∷ []) others.left others.excess)

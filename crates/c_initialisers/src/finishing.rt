@@ -22,7 +22,7 @@ pub(crate) fn finish(alloc: Global, places: Vec<Stored>) -> Result<Items<FilledP
 }
 
 /// The places, the last one first. Their memory grows as that of the stored ones is given back, since a
-/// string can fill as many places as an object has bytes.
+/// list can fill as many places as its source has items.
 fn finished_backwards(alloc: Global, mut places: Vec<Stored>) -> Result<Vec<FilledPlace>, Memory>
     ensures same { IfOk result (λ ps. (t : Table) → map (filled_place_in t) (reverse ps.items) ≡ map (stored_in t) places.items) }
     ensures within { IfOk result (λ ps. (n : ℕ) → AreStoredIn n places.items → ArePlacesIn n (reverse ps.items)) }

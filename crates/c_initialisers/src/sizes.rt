@@ -1,20 +1,21 @@
 //! Which objects can be initialised, and the size that an initialiser gives an array of unknown size (C89
 //! 3.5.7).
-ghost use Rattle.std.specs.Prelude.{◌≡◌, ◌<◌, ◌∷◌, [], List, Some, None, length, map, true, false, IfErr, IfNone, IfOk, IfSome, OnOk};
+ghost use Rattle.std.specs.Prelude.{◌≡◌, ◌<◌, ◌+◌, ◌∷◌, [], List, Some, None, length, map, true, false, IfErr, IfNone, IfOk, IfSome, OnOk};
 ghost use Rattle.c_types.specs.CType.{Array};
+ghost use Rattle.c_types.specs.Layout.{size_or_zero};
 ghost use Rattle.c_types.specs.Table.{Grows, Table, tags, type_at};
 ghost use Rattle.c_meaning.specs.CoreTrees.{IsIn, seen};
-ghost use Rattle.c_meaning.specs.Filling.{Waiting, elements_begun as begun_in};
-ghost use Rattle.c_meaning.specs.Initialising.{can_be_initialised as initialisable, completed_types, has_unknown_size, sized, stored_elements as elements_stored, text_elements as elements_of_text};
+ghost use Rattle.c_meaning.specs.Filling.{Waiting, count_of, elements_begun as begun_in, sized};
+ghost use Rattle.c_meaning.specs.Initialising.{can_be_initialised as initialisable, completed_types, elements_stored as elements_of_first, has_unknown_size, stored_elements as elements_stored, text_elements as elements_of_text};
 ghost use Rattle.c_meaning.specs.NodeConstraints.{passed_by};
 ghost use Rattle.c_meaning.specs.Types.{has_size as of_objects};
 ghost use Rattle.c_values.specs.Valued.{qualified_in};
 ghost use Rattle.c_check_expr.specs.Completed.{IsPassed};
-ghost use Rattle.c_initialisers.specs.Storing.{stored_in};
+ghost use Rattle.c_initialisers.specs.Storing.{AreStoredIn, stored_in};
 ghost use Rattle.c_initialisers.specs.Waiting.{entry_in, waiting_in};
 
 use crate::kinds;
-use crate::stored::Filling;
+use crate::stored::{Filling, Stored};
 use crate::waits::Waits;
 use c_meaning::{CoreExpr, CoreKind};
 use c_types::{TypeForm, TypeId, TypeTable};
@@ -45,15 +46,40 @@ fn element_of_unknown(types: &TypeTable, of: TypeId) -> Option<QualifiedType>
     }
 }
 
-/// How many elements an array of unknown size gets from a list. No source has as many as a number of 32
-/// bits counts.
-pub(crate) fn stored_elements(types: &TypeTable, filling: &Filling) -> Result<u32, Memory>
-    ensures { IfOk result (λ n. n ≡ elements_stored (waiting_in types.now filling.now.waits.items) (map (stored_in types.now) filling.now.places.items)) }
+/// How many elements an array of unknown size gets from a list: as many as were begun, or those that the
+/// string fills with which the list begins.
+pub(crate) fn stored_elements(types: &TypeTable, filling: &Filling) -> u32
+    requires { AreStoredIn (length types.now.forms) filling.now.places.items }
+    ensures { result ≡ elements_stored (waiting_in types.now filling.now.waits.items) (map (stored_in types.now) filling.now.places.items) }
 {
-    if filling.waits.is_empty() {
-        return u32::try_from(filling.places.len()).map_err(|_| Memory);
+    let waits = filling.waits.as_slice();
+    if waits.is_empty() {
+        first_elements(types, filling.places.as_slice())
+    } else {
+        elements_begun(waits)
     }
-    Ok(elements_begun(filling.waits.as_slice()))
+}
+
+/// How many elements the first of these places has, if it is an array.
+fn first_elements(types: &TypeTable, places: &[Stored]) -> u32
+    requires { AreStoredIn (length types.now.forms) places.now }
+    ensures { result ≡ elements_of_first (map (stored_in types.now) places.now) }
+{
+    match places {
+        [first, ..] => elements(types, first.of),
+        [] => 0,
+    }
+}
+
+/// How many elements the type has: none where their number is unknown, or where it is no array.
+fn elements(types: &TypeTable, of: TypeId) -> u32
+    requires { of < length types.now.forms }
+    ensures { result ≡ size_or_zero (count_of (type_at types.now of)) }
+{
+    match kinds::array_of(types, plain(of)) {
+        Some((_, Some(count))) => count,
+        _ => 0,
+    }
 }
 
 /// How many elements were begun of the array of unknown size that waits last.
@@ -97,6 +123,24 @@ pub(crate) fn text_elements(types: &TypeTable, of: TypeId, c: &CoreExpr) -> Resu
         }
         _ => Ok(0),
     }
+}
+
+/// The array that a string of these bytes fills, with room for the null behind them where its size is
+/// unknown. The string's own array has as many characters, and is within the limits.
+pub(crate) fn text_array(
+    types: &mut TypeTable,
+    line: u32,
+    of: QualifiedType,
+    bytes: &[u8],
+) -> Result<TypeId, Memory>
+    requires { of.of < length types.old.forms }
+    ensures means { IfOk result (λ id. type_at types.new id ≡ sized (qualified_in types.old of) (length bytes.now + 1)) }
+    ensures within { IfOk result (λ id. id < length types.new.forms) }
+    ensures grows { Grows types.old types.new }
+{
+    let count = u32::try_from(bytes.len() + 1).map_err(|_| Memory)?;
+    let of = types.qualified(of.of, of.qualifiers)?;
+    sized_type(types, line, of, count).map_err(|_| Memory)
 }
 
 /// The type with so many elements, where it is an array of unknown size; else the type itself. A limit that

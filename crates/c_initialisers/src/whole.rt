@@ -105,7 +105,7 @@ fn close(
     if let Some(number) = list_broken(standing, inner.excess, false) {
         return Err(CheckFault::Constraint { number, line });
     }
-    let count = stored_elements(types, &inner)?;
+    let count = stored_elements(types, &inner);
     let sized = sized_type(types, line, of, count)?;
     Ok(Filled {
         of: sized,

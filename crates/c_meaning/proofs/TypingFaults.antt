@@ -8,7 +8,7 @@ use Rattle.c_types.specs.Layout.{MemberType}
 use Rattle.c_meaning.specs.State.{State, place_of, entered}
 use Rattle.c_meaning.specs.Values.{CoreTrees}
 use Rattle.c_meaning.specs.Values as values
-use Rattle.c_meaning.specs.TypeRows.{opened}
+use Rattle.c_meaning.specs.TypeRows.{opened, awaited}
 use Rattle.c_meaning.specs.Typing.{Outcome, stands_alone, callee, callee_named, typed, all_typed, maybe_typed, typed_name, typed_shape, typed_specifiers, typed_parts, typed_part, typed_members, typed_member, typed_fields, typed_field, typed_enumerators, typed_enumerator, typed_declarator, typed_core, typed_suffixes, typed_suffix, typed_parameters, typed_parameter, typed_parameter_shape, typed_declared}
 use Rattle.c_meaning.specs.Postorder.{Place, callee_nodes, callee_places, nodes, all_nodes, maybe_nodes, name_nodes, shape_nodes, specifiers_nodes, parts_nodes, part_nodes, members_nodes, member_nodes, fields_nodes, field_nodes, enumerators_nodes, enumerator_nodes, declarator_nodes, core_nodes, suffixes_nodes, suffix_nodes, parameters_nodes, parameter_nodes, parameter_shape_nodes, declared_nodes}
 use Rattle.c_meaning.specs.Laws.{IsFirst}
@@ -75,7 +75,7 @@ mutual
   part_first s (tree.NamedType l x) = refl
   part_first s (tree.RecordTag l k tag) = at_first _ _ _ _ _
   part_first s (tree.EnumerationTag l tag) = at_first _ _ _ _ _
-  part_first s (tree.Enumeration l tag es comma) = visit_first _ _ _ _ (enumerators_first s (pos 0) es) (λ s next. at_first _ _ _ _ _)
+  part_first s (tree.Enumeration l tag es comma) = visit_first _ _ _ _ (enumerators_first (awaited s l tag) (pos 0) es) (λ s next. at_first _ _ _ _ _)
   part_first s (tree.Record l k tag ms) = visit_first _ _ _ _ (members_first (opened s l k tag).state [] ms) (λ t members. at_first _ _ _ _ _)
 
   -- the members behind others

@@ -7,7 +7,7 @@ use Rattle.c_types.specs.Layout.{MemberType}
 use Rattle.c_meaning.specs.State.{State, place_of, entered}
 use Rattle.c_meaning.specs.Values.{CoreTrees}
 use Rattle.c_meaning.specs.Values as values
-use Rattle.c_meaning.specs.TypeRows.{opened}
+use Rattle.c_meaning.specs.TypeRows.{opened, awaited}
 use Rattle.c_meaning.specs.Typing.{Outcome, stands_alone, callee, callee_named, typed, all_typed, maybe_typed, typed_name, typed_shape, typed_specifiers, typed_parts, typed_part, typed_members, typed_member, typed_fields, typed_field, typed_enumerators, typed_enumerator, typed_declarator, typed_core, typed_suffixes, typed_suffix, typed_parameters, typed_parameter, typed_parameter_shape, typed_declared}
 use Rattle.c_meaning.specs.TypingRelation.{TypesCallee, IsCallee, Types, TypesAll, TypesMaybe, TypesName, TypesShape, TypesSpecifiers, TypesParts, TypesPart, TypesMembers, TypesMember, TypesFields, TypesField, TypesEnumerators, TypesEnumerator, TypesDeclarator, TypesCore, TypesSuffixes, TypesSuffix, TypesParameters, TypesParameter, TypesParameterShape, TypesDeclared}
 use Rattle.c_meaning.specs.Laws.{IsTyping}
@@ -74,7 +74,7 @@ mutual
   part_rows s (tree.NamedType l x) = is_typing
   part_rows s (tree.RecordTag l k tag) = at_typing
   part_rows s (tree.EnumerationTag l tag) = at_typing
-  part_rows s (tree.Enumeration l tag es comma) = then_typing (enumerators_rows s (pos 0) es) (λ s next. at_typing)
+  part_rows s (tree.Enumeration l tag es comma) = then_typing (enumerators_rows (awaited s l tag) (pos 0) es) (λ s next. at_typing)
   part_rows s (tree.Record l k tag ms) = then_typing (members_rows (opened s l k tag).state [] ms) (λ t members. at_typing)
 
   -- the members behind others

@@ -1,10 +1,10 @@
 -- Examples of the constraints on declarations.
-use Rattle.std.specs.Prelude.{◌≡◌, refl, codes, false, Some, None, [], ◌∷◌, ◌++◌}
+use Rattle.std.specs.Prelude.{◌≡◌, refl, ℕ, codes, false, Some, None, List, [], ◌∷◌, ◌++◌}
 use Rattle.c_ast.specs.declared.specifier.BasicType.TheVariants as word
 use Rattle.c_ast.specs.declared.specifier.Qualifier.TheVariants as qualifier
 use Rattle.c_ast.specs.declared.specifier.RecordKind.TheVariants as record_kind
 use Rattle.c_ast.specs.declared.specifier.Storage.TheVariants as class
-use Rattle.c_ast.specs.Trees.{Variable, SizedExpr, SizedType, TypeNamed, NoDeclarator, Specified, Stored, Qualified, Basic, Record, RecordTag, Enumeration, EnumerationTag, Members, NoMembers, MoreMembers, Field, NoFields, Fields, Enumerator, NoEnumerators, Enumerators, NoExpr, ADeclarator, ByExpr}
+use Rattle.c_ast.specs.Trees.{Variable, SizedExpr, SizedType, TypeNamed, NoDeclarator, Specified, Stored, Qualified, Basic, Record, RecordTag, Enumeration, EnumerationTag, Members, NoMembers, MoreMembers, Field, NoFields, Fields, Enumerator, NoEnumerators, Enumerators, NoExpr, AnExpr, ADeclarator, ByExpr, SpecifierTree, DeclarationTree}
 use Rattle.c_meaning.specs.Constants.{fold}
 use Rattle.c_meaning.specs.Constraints.{Breaks, fault_at}
 use Rattle.c_meaning.specs.Laws.{fault_of}
@@ -226,7 +226,48 @@ other_linkage_and_type : file_fault (of (with_class class.Static) (name k) ++ ag
 unfolding fold fault_at init_fault decl_fault
 other_linkage_and_type = refl
 
+-- ---- 8: the tag of an enumeration is in force before its list
+
+-- enum tag {name = sizeof(t)};
+abbrev sized : List ℕ → List ℕ → SpecifierTree → List DeclarationTree
+sized tag x t = one (Enumeration 1 (Some tag) (Enumerators (Enumerator 1 x (AnExpr (SizedType 1 (TypeNamed 1 (Specified 1 (parts (t ∷ []))) NoDeclarator)))) NoEnumerators) false ∷ []) []
+
+-- enum s {k = sizeof(enum s)}; in the function, where s is the tag of a structure outside
+enumeration_in_its_own_list : block_fault (sized (codes "s") k (EnumerationTag 1 (codes "s"))) ≡ None
+unfolding fold fault_at init_fault decl_fault
+enumeration_in_its_own_list = refl
+
+-- enum s {k = sizeof(struct s)};
+structure_hidden_by_an_enumeration : block_fault (sized (codes "s") k (structure (codes "s"))) ≡ Some (Breaks 8 1)
+unfolding fold fault_at init_fault decl_fault
+structure_hidden_by_an_enumeration = refl
+
+-- enum t *k; enum t {m = sizeof(enum t)};
+enumeration_behind_its_tag : file_fault (of (EnumerationTag 1 (codes "t") ∷ []) (pointer k) ++ sized (codes "t") (codes "m") (EnumerationTag 1 (codes "t"))) ≡ None
+unfolding fold fault_at init_fault decl_fault
+enumeration_behind_its_tag = refl
+
+-- enum t {k = sizeof(enum t {m})};
+enumeration_twice_in_one_another : file_fault (sized (codes "t") k (Enumeration 1 (Some (codes "t")) (Enumerators (Enumerator 1 (codes "m") NoExpr) NoEnumerators) false)) ≡ Some (Breaks 8 1)
+unfolding fold fault_at init_fault decl_fault
+enumeration_twice_in_one_another = refl
+
+-- enum e {k = sizeof(enum e)}; where the list of e has stood
+enumeration_twice : file_fault (sized (codes "e") k (EnumerationTag 1 (codes "e"))) ≡ Some (Breaks 8 1)
+unfolding fold fault_at init_fault decl_fault
+enumeration_twice = refl
+
 -- ---- 6: other types
+
+-- int k; enum e k; enum {a} k;
+two_enumerations_behind_int : file_fault (of (of_int ∷ []) (name k) ++ (of (EnumerationTag 1 (codes "e") ∷ []) (name k) ++ again (Enumeration 1 None (Enumerators (Enumerator 1 (codes "a") NoExpr) NoEnumerators) false ∷ []) (name k))) ≡ Some (Breaks 6 2)
+unfolding fold fault_at init_fault decl_fault
+two_enumerations_behind_int = refl
+
+-- int k; enum e k; int k;
+enumeration_between_ints : file_fault (of (of_int ∷ []) (name k) ++ (of (EnumerationTag 1 (codes "e") ∷ []) (name k) ++ again (of_int ∷ []) (name k))) ≡ None
+unfolding fold fault_at init_fault decl_fault
+enumeration_between_ints = refl
 
 -- const int f();
 function_of_other_result : file_fault (of (Qualified 1 qualifier.Const ∷ of_int ∷ []) (function (codes "f"))) ≡ Some (Breaks 6 1)

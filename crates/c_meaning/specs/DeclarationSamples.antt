@@ -158,7 +158,7 @@ abbrev pub defined_behind : List ℕ → Outcome Declares → Option ℤ
 defined_behind x (Bad f) = None
 defined_behind x (Fine s what) = value_of (known_of s (symbol_named s.links x))
 
--- the names of the objects that they define, and the line and type of the first one
+-- the objects that they define, with their names and lines, and whether they are constant
 abbrev pub objects_in : Outcome Declares → List ObjectTree
 objects_in (Fine s what) = what.objects
 objects_in (Bad f) = []
@@ -170,6 +170,10 @@ names_of (o ∷ os) = o.name ∷ names_of os
 abbrev pub lines_of : List ObjectTree → List ℕ
 lines_of [] = []
 lines_of (o ∷ os) = o.line ∷ lines_of os
+
+abbrev pub constants_of : List ObjectTree → List Bool
+constants_of [] = []
+constants_of (o ∷ os) = o.constant ∷ constants_of os
 
 abbrev pub locals_in : Outcome Declares → List CType
 locals_in (Fine s what) = what.locals

@@ -8,7 +8,7 @@ use Rattle.c_ast.specs.Trees.{InitialiserTree, ByExpr, Braced}
 use Rattle.c_symbols.specs.Scoping.{symbol_named}
 use Rattle.c_types.specs.CType.{CType}
 use Rattle.c_types.specs.Compatible.{compatible}
-use Rattle.c_types.specs.Constness.{has_const}
+use Rattle.c_types.specs.Constness.{is_const}
 use Rattle.c_meaning.specs.StmtTrees.{FilledOf, StmtOf, Initialise}
 use Rattle.c_meaning.specs.Units.{ObjectTree}
 use Rattle.c_meaning.specs.State.{State, place_here, known_at, replaced}
@@ -168,7 +168,7 @@ places_of (Some f) = f.places
 abbrev pub object : State → ℕ → Naming → Option Filled → Declares
 object s line n f =
     record {
-      objects = record { name = n.name; of = n.of; line = line; constant = has_const s.tags n.of; places = places_of f } ∷ [];
+      objects = record { name = n.name; of = n.of; line = line; constant = is_const n.of; places = places_of f } ∷ [];
       locals = [];
       fills = [];
     }

@@ -15,7 +15,7 @@ use Rattle.c_meaning.specs.Samples.{sample, outside, int}
 use Rattle.c_meaning.specs.Samples as samples
 use Rattle.c_meaning.specs.Initialising.{init_fault}
 use Rattle.c_meaning.specs.Declarations.{decl_fault}
-use Rattle.c_meaning.specs.DeclarationSamples.{below, of_int, with_class, name, array, open_array, function, k, n, items, list, plain, set, one, of, is, again, set_again, structure, all_typed, block, file_fault, nested, around, known_behind, type_behind, defined_behind, objects_in, names_of, lines_of, locals_in, begun_in}
+use Rattle.c_meaning.specs.DeclarationSamples.{below, of_int, with_class, name, array, open_array, function, k, n, items, list, plain, set, one, of, is, again, set_again, structure, all_typed, block, file_fault, nested, around, known_behind, type_behind, defined_behind, objects_in, names_of, lines_of, constants_of, locals_in, begun_in}
 
 -- ---- names
 
@@ -116,6 +116,21 @@ constant_object : objects_in (all_typed outside (is (Qualified 1 qualifier.Const
 unfolding fold fault_at init_fault decl_fault
 constant_object = refl
 
+-- const int k[1] = {1};
+constant_array : constants_of (objects_in (all_typed outside (is (Qualified 1 qualifier.Const ∷ of_int ∷ []) (array k 1) (list (n 1 ∷ []))))) ≡ true ∷ []
+unfolding fold fault_at init_fault decl_fault
+constant_array = refl
+
+-- const struct fixed k = {1};
+constant_structure : constants_of (objects_in (all_typed outside (is (Qualified 1 qualifier.Const ∷ structure (codes "fixed") ∷ []) (name k) (list (n 1 ∷ []))))) ≡ true ∷ []
+unfolding fold fault_at init_fault decl_fault
+constant_structure = refl
+
+-- struct fixed k = {1}; whose member is const
+structure_of_a_constant_member : constants_of (objects_in (all_typed outside (is (structure (codes "fixed") ∷ []) (name k) (list (n 1 ∷ []))))) ≡ false ∷ []
+unfolding fold fault_at init_fault decl_fault
+structure_of_a_constant_member = refl
+
 -- int k = 1;
 object_that_may_change : objects_in (all_typed outside (is (of_int ∷ []) (name k) (n 1))) ≡ record { name = k; of = int; line = 1; constant = false; places = record { of = int; offset = 0; first = 0; width = 0; value = Core (kind.Number 1) int 1 none } ∷ [] } ∷ []
 unfolding fold fault_at init_fault decl_fault
@@ -169,7 +184,7 @@ unfolding fold fault_at init_fault decl_fault
 structure_begins = refl
 
 -- char k[6] = "ab";
-string_begins : begun_in (all_typed block (is (Basic 1 word.Char ∷ []) (array k 6) (ByExpr 1 (Literal 1 (codes "ab" ∷ []))))) ≡ record { local = 2; zero = true; places = 3 } ∷ []
+string_begins : begun_in (all_typed block (is (Basic 1 word.Char ∷ []) (array k 6) (ByExpr 1 (Literal 1 (codes "ab" ∷ []))))) ≡ record { local = 2; zero = true; places = 1 } ∷ []
 unfolding fold fault_at init_fault decl_fault
 string_begins = refl
 

@@ -2,14 +2,14 @@
 -- braces takes the next of them, and an expression the first place in them that it can fill: where it fills no whole
 -- aggregate, that aggregate's parts stand in its stead.
 -- Source: C89 3.5.7.
-use Rattle.std.specs.Prelude.{ℕ, zero, suc, ◌+◌, ◌*◌, ◌==◌, ◌&&◌, ◌||◌, not, Bool, true, false, Option, Some, None, List, [], ◌∷◌, ◌++◌, map, is_none, if◌then◌else◌}
+use Rattle.std.specs.Prelude.{ℕ, zero, suc, ◌+◌, ◌*◌, ◌==◌, ◌&&◌, ◌||◌, not, Bool, true, false, Option, Some, None, List, [], ◌∷◌, ◌++◌, length, map, is_none, if◌then◌else◌}
 use Rattle.c_ast.specs.Trees.{ExprTree, Literal, Enclosed, ByExpr, InitialiserTrees, Initialisers}
 use Rattle.c_meaning.specs.declared.core_expr.CoreKind.{CoreKind}
 use Rattle.c_meaning.specs.declared.core_expr.CoreKind.TheVariants as kind
-use Rattle.c_types.specs.CType.{Char, SignedChar, UnsignedChar, CType, Plain, Array, Kind, Simple, Structure, Union, basic}
+use Rattle.c_types.specs.CType.{Char, SignedChar, UnsignedChar, CType, Plain, Array, Kind, Simple, Structure, Union}
 use Rattle.c_types.specs.Layout.{Tag, size_or_zero, extent}
 use Rattle.c_types.specs.Members.{MemberAt, tag_places}
-use Rattle.c_meaning.specs.CoreTrees.{Core, what_of, type_of, line_of, none}
+use Rattle.c_meaning.specs.CoreTrees.{what_of, type_of}
 use Rattle.c_meaning.specs.StmtTrees.{FilledOf}
 use Rattle.c_meaning.specs.Types.{is_scalar, is_record, alike}
 use Rattle.c_meaning.specs.Values.{CoreTree, value, passed_to}
@@ -199,33 +199,41 @@ text_of k = []
 abbrev pub stored : MemberAt → CoreTree → FilledOf CType
 stored at v = record { of = at.of; offset = at.offset; first = at.first; width = at.width; value = v }
 
-abbrev pub element_type : CType → CType
-element_type (Array of count) = of
-element_type (Plain q k) = Plain q k
-
-abbrev pub character : CType → ℕ → ℕ → ℕ → FilledOf CType
-character of line offset byte = stored (place_of of offset) (passed_to of (Core (kind.Number byte) (basic Char) line none))
-
--- the bytes of a string, and the null behind them where there is room for it
-abbrev pub characters : CType → ℕ → ℕ → List ℕ → Option ℕ → List (FilledOf CType)
-characters of line offset bytes (Some zero) = []
-characters of line offset [] count = character of line offset 0 ∷ []
-characters of line offset (b ∷ bytes) (Some (suc n)) = character of line offset b ∷ characters of line (offset + 1) bytes (Some n)
-characters of line offset (b ∷ bytes) None = character of line offset b ∷ characters of line (offset + 1) bytes None
-
 abbrev pub count_of : CType → Option ℕ
 count_of (Array of count) = count
 count_of (Plain q k) = Some 0
 
--- by an expression that fills a place
-abbrev pub filled_by : MemberAt → CoreTree → List (FilledOf CType)
-filled_by at c =
-    if is_text_over at.of c then characters (element_type at.of) (line_of c) at.offset (text_of (what_of c)) (count_of at.of)
-    else stored at (passed_to at.of (value c)) ∷ []
+-- an array of unknown size gets as many elements
+abbrev pub sized : CType → ℕ → CType
+sized (Array of None) n = Array of (Some n)
+sized t n = t
+
+-- the bytes of an array of so many characters that a string fills: the string's, of which the null has a place only where there
+-- is room for it, and then zeros
+abbrev pub characters : ℕ → List ℕ → List ℕ
+characters zero bytes = []
+characters (suc n) [] = 0 ∷ characters n []
+characters (suc n) (b ∷ bytes) = b ∷ characters n bytes
+
+-- A string fills an array of characters as a whole: the value is the literal. Where the array's size is unknown it has room for
+-- the string's bytes and its null.
+abbrev pub stored_text : MemberAt → CoreTree → FilledOf CType
+stored_text at c =
+    record {
+      of = sized at.of (length (text_of (what_of c)) + 1);
+      offset = at.offset;
+      first = 0;
+      width = 0;
+      value = c;
+    }
+
+-- what an expression stores in the place that it fills
+abbrev pub filled_by : MemberAt → CoreTree → FilledOf CType
+filled_by at c = if is_text_over at.of c then stored_text at c else stored at (passed_to at.of (value c))
 
 abbrev pub filled_in : Option Found → CoreTree → List (FilledOf CType)
 filled_in None c = []
-filled_in (Some f) c = filled_by f.at c
+filled_in (Some f) c = filled_by f.at c ∷ []
 
 -- ---- arrays of unknown size
 

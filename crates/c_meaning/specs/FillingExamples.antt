@@ -23,7 +23,9 @@ use Rattle.c_meaning.specs.Types.{pointer_to}
 use Rattle.c_meaning.specs.Scalars.{conversion_to}
 use Rattle.c_meaning.specs.Values.{CoreTree}
 use Rattle.c_meaning.specs.Samples.{sample, int, const, struct_s, struct_open, union_u, function, field}
+use Rattle.c_meaning.specs.Rows.{literal}
 use Rattle.c_meaning.specs.Linkage.{with_name}
+use Rattle.c_meaning.specs.Filling.{characters}
 use Rattle.c_meaning.specs.Initialising.{Filled, typed_initialiser, init_fault}
 
 -- ---- initialisers, of line 1 where no line is given
@@ -119,6 +121,14 @@ bits offset width value = record { offset = offset; first = 0; width = width; va
 -- behind other bits of the unit
 abbrev later_bits : ℕ → ℕ → ℕ → ℕ → Shown
 later_bits offset first width value = record { offset = offset; first = first; width = width; value = Some (pos value) }
+
+-- what is stored, and a string in an array of this type at an offset
+abbrev filled : Outcome Filled → List (FilledOf CType)
+filled (Fine s f) = f.places
+filled (Bad f) = []
+
+abbrev string : ℕ → CType → List ℕ → FilledOf CType
+string offset of bytes = record { of = of; offset = offset; first = 0; width = 0; value = literal 1 bytes }
 
 abbrev completed : Outcome Filled → CType
 completed (Fine s f) = f.of
@@ -312,12 +322,12 @@ structure_by_another = refl
 -- ---- characters
 
 -- char c[4] = "abc";
-string_with_its_null : places (automatic (Array (basic Char) (Some 4)) (text (codes "abc"))) ≡ at 0 97 ∷ at 1 98 ∷ at 2 99 ∷ at 3 0 ∷ []
+string_with_its_null : filled (automatic (Array (basic Char) (Some 4)) (text (codes "abc"))) ≡ string 0 (Array (basic Char) (Some 4)) (codes "abc") ∷ []
 unfolding fold fault_at init_fault
 string_with_its_null = refl
 
 -- char c[3] = "abc";
-string_without_its_null : places (automatic (Array (basic Char) (Some 3)) (text (codes "abc"))) ≡ at 0 97 ∷ at 1 98 ∷ at 2 99 ∷ []
+string_without_its_null : filled (automatic (Array (basic Char) (Some 3)) (text (codes "abc"))) ≡ string 0 (Array (basic Char) (Some 3)) (codes "abc") ∷ []
 unfolding fold fault_at init_fault
 string_without_its_null = refl
 
@@ -327,17 +337,17 @@ unfolding fold fault_at init_fault
 string_too_long = refl
 
 -- char c[6] = "ab";
-string_with_room : places (automatic (Array (basic Char) (Some 6)) (text (codes "ab"))) ≡ at 0 97 ∷ at 1 98 ∷ at 2 0 ∷ []
+string_with_room : filled (automatic (Array (basic Char) (Some 6)) (text (codes "ab"))) ≡ string 0 (Array (basic Char) (Some 6)) (codes "ab") ∷ []
 unfolding fold fault_at init_fault
 string_with_room = refl
 
 -- char c[4] = {"abc"};
-string_in_braces : places (automatic (Array (basic Char) (Some 4)) (list (text (codes "abc") ∷ []))) ≡ at 0 97 ∷ at 1 98 ∷ at 2 99 ∷ at 3 0 ∷ []
+string_in_braces : filled (automatic (Array (basic Char) (Some 4)) (list (text (codes "abc") ∷ []))) ≡ string 0 (Array (basic Char) (Some 4)) (codes "abc") ∷ []
 unfolding fold fault_at init_fault
 string_in_braces = refl
 
 -- char c[4] = {("abc")};
-string_in_both_kinds_of_parentheses : places (automatic (Array (basic Char) (Some 4)) (list (ByExpr 1 (Enclosed 1 (Literal 1 (codes "abc" ∷ []))) ∷ []))) ≡ at 0 97 ∷ at 1 98 ∷ at 2 99 ∷ at 3 0 ∷ []
+string_in_both_kinds_of_parentheses : filled (automatic (Array (basic Char) (Some 4)) (list (ByExpr 1 (Enclosed 1 (Literal 1 (codes "abc" ∷ []))) ∷ []))) ≡ string 0 (Array (basic Char) (Some 4)) (codes "abc") ∷ []
 unfolding fold fault_at init_fault
 string_in_both_kinds_of_parentheses = refl
 
@@ -347,22 +357,22 @@ unfolding fold fault_at init_fault
 one_behind_a_string_in_braces = refl
 
 -- char c[2][3] = {"ab", "c"};
-string_among_strings : places (automatic (Array (Array (basic Char) (Some 3)) (Some 2)) (list (text (codes "ab") ∷ text (codes "c") ∷ []))) ≡ at 0 97 ∷ at 1 98 ∷ at 2 0 ∷ at 3 99 ∷ at 4 0 ∷ []
+string_among_strings : filled (automatic (Array (Array (basic Char) (Some 3)) (Some 2)) (list (text (codes "ab") ∷ text (codes "c") ∷ []))) ≡ string 0 (Array (basic Char) (Some 3)) (codes "ab") ∷ string 3 (Array (basic Char) (Some 3)) (codes "c") ∷ []
 unfolding fold fault_at init_fault
 string_among_strings = refl
 
 -- signed char c[2] = "ab";
-string_over_signed_characters : places (automatic (Array (basic SignedChar) (Some 2)) (text (codes "ab"))) ≡ at 0 97 ∷ at 1 98 ∷ []
+string_over_signed_characters : filled (automatic (Array (basic SignedChar) (Some 2)) (text (codes "ab"))) ≡ string 0 (Array (basic SignedChar) (Some 2)) (codes "ab") ∷ []
 unfolding fold fault_at init_fault
 string_over_signed_characters = refl
 
 -- unsigned char c[1] = "a";
-string_over_unsigned_characters : values (automatic (Array (basic UnsignedChar) (Some 1)) (text (codes "a"))) ≡ Core (kind.Convert (conversion_to (basic UnsignedChar))) (basic UnsignedChar) 1 (one (Core (kind.Number 97) (basic Char) 1 none)) ∷ []
+string_over_unsigned_characters : filled (automatic (Array (basic UnsignedChar) (Some 1)) (text (codes "a"))) ≡ string 0 (Array (basic UnsignedChar) (Some 1)) (codes "a") ∷ []
 unfolding fold fault_at init_fault
 string_over_unsigned_characters = refl
 
 -- const char c[2] = "ab";
-string_over_constant_characters : places (automatic (Array (const (basic Char)) (Some 2)) (text (codes "ab"))) ≡ at 0 97 ∷ at 1 98 ∷ []
+string_over_constant_characters : filled (automatic (Array (const (basic Char)) (Some 2)) (text (codes "ab"))) ≡ string 0 (Array (const (basic Char)) (Some 2)) (codes "ab") ∷ []
 unfolding fold fault_at init_fault
 string_over_constant_characters = refl
 
@@ -391,10 +401,20 @@ character_behind_one_in_braces : places (automatic (Array (basic Char) (Some 2))
 unfolding fold fault_at init_fault
 character_behind_one_in_braces = refl
 
+-- the bytes that a string gives to an array
+bytes_with_a_null : characters 4 (codes "abc") ≡ 97 ∷ 98 ∷ 99 ∷ 0 ∷ []
+bytes_with_a_null = refl
+
+bytes_without_a_null : characters 3 (codes "abc") ≡ 97 ∷ 98 ∷ 99 ∷ []
+bytes_without_a_null = refl
+
+bytes_and_zeros : characters 5 (codes "ab") ≡ 97 ∷ 98 ∷ 0 ∷ 0 ∷ 0 ∷ []
+bytes_and_zeros = refl
+
 -- ---- arrays of unknown size
 
 -- char c[] = "ab";
-string_of_unknown_size : places (automatic (Array (basic Char) None) (text (codes "ab"))) ≡ at 0 97 ∷ at 1 98 ∷ at 2 0 ∷ []
+string_of_unknown_size : filled (automatic (Array (basic Char) None) (text (codes "ab"))) ≡ string 0 (Array (basic Char) (Some 3)) (codes "ab") ∷ []
 unfolding fold fault_at init_fault
 string_of_unknown_size = refl
 
@@ -417,6 +437,11 @@ rows_in_braces = refl
 string_counts_its_null : completed (automatic (Array (basic Char) None) (text (codes "ab"))) ≡ Array (basic Char) (Some 3)
 unfolding fold fault_at init_fault
 string_counts_its_null = refl
+
+-- char c[] = {"ab"};
+string_in_braces_of_unknown_size : filled (automatic (Array (basic Char) None) (list (text (codes "ab") ∷ []))) ≡ string 0 (Array (basic Char) (Some 3)) (codes "ab") ∷ []
+unfolding fold fault_at init_fault
+string_in_braces_of_unknown_size = refl
 
 -- char c[] = {"ab"};
 string_in_braces_counts_its_null : completed (automatic (Array (basic Char) None) (list (text (codes "ab") ∷ []))) ≡ Array (basic Char) (Some 3)

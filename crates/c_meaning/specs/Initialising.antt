@@ -3,7 +3,7 @@
 use Rattle.std.specs.Prelude.{ℕ, ◌+◌, ◌&&◌, ◌||◌, not, nat_lt, Bool, true, false, Option, Some, None, List, [], ◌∷◌, ◌++◌, length, if◌then◌else◌}
 use Rattle.c_ast.specs.Trees.{InitialiserTree, ByExpr, Braced, InitialiserTrees, NoInitialisers, Initialisers}
 use Rattle.c_types.specs.CType.{CType, Array}
-use Rattle.c_types.specs.Layout.{Tag}
+use Rattle.c_types.specs.Layout.{Tag, size_or_zero}
 use Rattle.c_types.specs.Members.{MemberAt}
 use Rattle.c_meaning.specs.CoreTrees.{what_of}
 use Rattle.c_meaning.specs.StmtTrees.{FilledOf}
@@ -15,7 +15,7 @@ use Rattle.c_meaning.specs.Constraints.{Fault, broken_or}
 use Rattle.c_meaning.specs.Typing.{Outcome, Fine, then_do, typed, unless}
 use Rattle.c_meaning.specs.NodeConstraints.{ConstraintOn, on, first_of, passed_by}
 use Rattle.c_meaning.specs.AddressConstants.{is_static_value}
-use Rattle.c_meaning.specs.Filling.{Waiting, Found, found, place_of, fills, is_text_over, taken, next, begun_in, left_behind, is_excess, text_of, count_of, filled_in, elements_begun}
+use Rattle.c_meaning.specs.Filling.{Waiting, Found, found, place_of, fills, is_text_over, taken, next, begun_in, left_behind, is_excess, text_of, count_of, sized, filled_in, elements_begun}
 
 -- ---- nodes
 
@@ -135,16 +135,16 @@ place_in None = None
 place_in (Some f) = Some f.at
 
 -- an array of unknown size gets as many elements as its list began, or as a string has bytes with its null
-abbrev pub sized : CType → ℕ → CType
-sized (Array of None) n = Array of (Some n)
-sized t n = t
-
 abbrev pub text_elements : CType → CoreTree → ℕ
 text_elements of c = if is_text_over of c then length (text_of (what_of c)) + 1 else 0
 
 -- the array of a list that begins with a string has its size from that
+abbrev pub elements_stored : List (FilledOf CType) → ℕ
+elements_stored [] = 0
+elements_stored (p ∷ ps) = size_or_zero (count_of p.of)
+
 abbrev pub stored_elements : List Waiting → List (FilledOf CType) → ℕ
-stored_elements [] ps = length ps
+stored_elements [] ps = elements_stored ps
 stored_elements ws ps = elements_begun ws
 
 abbrev pub completed_types : CType → CType → List CType

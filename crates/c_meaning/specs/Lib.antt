@@ -17,9 +17,11 @@ pub mod TypingRelation
 pub mod Postorder
 pub mod StmtTrees
 pub mod Fits
-pub mod Units
 pub mod AddressConstants
 pub mod Filling
+pub mod StaticValues
+pub mod BlockLocals
+pub mod Units
 pub mod NodeConstraints
 pub mod Initialising
 pub mod Linkage
@@ -34,6 +36,8 @@ pub mod OperandExamples
 pub mod TypeExamples
 pub mod RowExamples
 pub mod ConstantExamples
+pub mod FitExamples
+pub mod UnitExamples
 pub mod TypingExamples
 pub mod AddressExamples
 pub mod FillingExamples

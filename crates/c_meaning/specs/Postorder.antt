@@ -8,7 +8,7 @@ use Rattle.c_types.specs.Layout.{MemberType}
 use Rattle.c_meaning.specs.State.{State, place_of, entered}
 use Rattle.c_meaning.specs.Nodes.{Node, Expression, Typing, ExprNode, TypeNode, Part, Step}
 use Rattle.c_meaning.specs.Nodes as node
-use Rattle.c_meaning.specs.TypeRows.{opened, number_of}
+use Rattle.c_meaning.specs.TypeRows.{opened, number_of, awaited}
 use Rattle.c_meaning.specs.Constraints.{Fault, fault_at}
 use Rattle.c_meaning.specs.Typing.{Outcome, Fine, Bad, typed, all_typed, maybe_typed, typed_name, typed_shape, typed_specifiers, typed_parts, typed_part, typed_members, typed_member, typed_field, typed_enumerators, typed_enumerator, typed_declarator, typed_core, typed_suffixes, typed_suffix, typed_parameters, typed_parameter, typed_parameter_shape, callee, stands_alone}
 
@@ -96,7 +96,7 @@ abbrev mutual
   part_nodes s (tree.NamedType l x) = []
   part_nodes s (tree.RecordTag l k tag) = type_place s l (node.RecordTag k tag)
   part_nodes s (tree.EnumerationTag l tag) = type_place s l (node.EnumerationTag tag)
-  part_nodes s (tree.Enumeration l tag es comma) = visit (enumerators_nodes s (pos 0) es) (typed_enumerators s (pos 0) es) (λ s next. type_place s l (node.Enumeration tag))
+  part_nodes s (tree.Enumeration l tag es comma) = visit (enumerators_nodes (awaited s l tag) (pos 0) es) (typed_enumerators (awaited s l tag) (pos 0) es) (λ s next. type_place s l (node.Enumeration tag))
   part_nodes s (tree.Record l k tag ms) = visit (members_nodes (opened s l k tag).state [] ms) (typed_members (opened s l k tag).state [] ms) (λ t members. type_place t l (node.Record k tag (number_of (opened s l k tag).of) members))
 
   -- the members behind others

@@ -144,6 +144,16 @@ named_at s line tag of None = with_tag s line tag of None
 abbrev pub named : State → ℕ → List ℕ → CType → Tagged
 named s line tag of = named_at s line tag of (place_of s (tag_key tag))
 
+-- What is known where the list of an enumeration begins: its tag is in force there. Where the innermost scope doesn't have it,
+-- it means a whole type without enumerators until the list's end.
+abbrev pub awaited_at : State → ℕ → List ℕ → Option ℕ → State
+awaited_at s line tag (Some id) = s
+awaited_at s line tag None = (with_tag s line tag (enumeration_type s.count) None).state
+
+abbrev pub awaited : State → ℕ → Option (List ℕ) → State
+awaited s line None = s
+awaited s line (Some tag) = awaited_at s line tag (place_here s (tag_key tag))
+
 -- An enumeration whose list has stood: a new type, which replaces what the tag means in the innermost scope.
 abbrev pub enumerated_at : State → ℕ → List ℕ → Option ℕ → Tagged
 enumerated_at s line tag None = with_tag s line tag (enumeration_type s.count) (Some (pos 0))

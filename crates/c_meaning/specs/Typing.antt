@@ -13,7 +13,7 @@ use Rattle.c_meaning.specs.Values as values
 use Rattle.c_meaning.specs.Nodes.{Node, Expression, Typing, ExprNode, TypeNode, Part, Step}
 use Rattle.c_meaning.specs.Nodes as node
 use Rattle.c_meaning.specs.Rows.{row}
-use Rattle.c_meaning.specs.TypeRows.{Tagged, specified, opened, number_of, completed, record_type, named, enumerated, enumeration_type, enumerator_value, with_enumerator, member, formed, pointer_steps, adjusted, none_if_void, with_parameter}
+use Rattle.c_meaning.specs.TypeRows.{Tagged, specified, opened, number_of, completed, record_type, named, awaited, enumerated, enumeration_type, enumerator_value, with_enumerator, member, formed, pointer_steps, adjusted, none_if_void, with_parameter}
 use Rattle.c_meaning.specs.TypeRows as rows
 use Rattle.c_meaning.specs.Constraints.{Fault, fault_at}
 
@@ -137,7 +137,7 @@ abbrev mutual
   typed_part s (tree.NamedType l x) = Fine s (node.Whole (named_type s (place_of s x)))
   typed_part s (tree.RecordTag l k tag) = at_tag s l (node.RecordTag k tag) (named s l tag (record_type k s.count))
   typed_part s (tree.EnumerationTag l tag) = at_tag s l (node.EnumerationTag tag) (named s l tag (enumeration_type s.count))
-  typed_part s (tree.Enumeration l tag es comma) = then_do (typed_enumerators s (pos 0) es) (λ s next. at_tag s l (node.Enumeration tag) (enumerated s l tag))
+  typed_part s (tree.Enumeration l tag es comma) = then_do (typed_enumerators (awaited s l tag) (pos 0) es) (λ s next. at_tag s l (node.Enumeration tag) (enumerated s l tag))
   typed_part s (tree.Record l k tag ms) = then_do (typed_members (opened s l k tag).state [] ms) (λ t members. at_record t l k tag (number_of (opened s l k tag).of) members)
 
   -- the members behind others

@@ -14,7 +14,7 @@ use Rattle.c_meaning.specs.Values as values
 use Rattle.c_meaning.specs.Nodes.{Node, Expression, Typing, ExprNode, TypeNode, Part, Step}
 use Rattle.c_meaning.specs.Nodes as node
 use Rattle.c_meaning.specs.Rows.{row}
-use Rattle.c_meaning.specs.TypeRows.{Tagged, specified, opened, number_of, completed, record_type, named, enumerated, enumeration_type, enumerator_value, with_enumerator, member, formed, pointer_steps, adjusted, none_if_void, with_parameter}
+use Rattle.c_meaning.specs.TypeRows.{Tagged, specified, opened, number_of, completed, record_type, named, awaited, enumerated, enumeration_type, enumerator_value, with_enumerator, member, formed, pointer_steps, adjusted, none_if_void, with_parameter}
 use Rattle.c_meaning.specs.TypeRows as rows
 use Rattle.c_meaning.specs.Constraints.{fault_at}
 use Rattle.c_meaning.specs.Typing.{Declared, Shaped, declared, shaped, stands_alone, named_type}
@@ -101,7 +101,7 @@ abbrev mutual
   TypesPart s (tree.NamedType l x) = Is s (node.Whole (named_type s (place_of s x)))
   TypesPart s (tree.RecordTag l k tag) = IsTag s l (node.RecordTag k tag) (named s l tag (record_type k s.count))
   TypesPart s (tree.EnumerationTag l tag) = IsTag s l (node.EnumerationTag tag) (named s l tag (enumeration_type s.count))
-  TypesPart s (tree.Enumeration l tag es comma) = Then (TypesEnumerators s (pos 0) es) (λ s next. IsTag s l (node.Enumeration tag) (enumerated s l tag))
+  TypesPart s (tree.Enumeration l tag es comma) = Then (TypesEnumerators (awaited s l tag) (pos 0) es) (λ s next. IsTag s l (node.Enumeration tag) (enumerated s l tag))
   TypesPart s (tree.Record l k tag ms) = Then (TypesMembers (opened s l k tag).state [] ms) (λ t members. IsRecord t l k tag (number_of (opened s l k tag).of) members)
 
   -- the members behind others

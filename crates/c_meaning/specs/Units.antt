@@ -1,22 +1,30 @@
--- A checked unit, and what it keeps: what it names is there, its expressions and statements have the operands and types of
--- typing's rows, each label stands once, and it isn't too large to be numbered.
-use Rattle.std.specs.Prelude.{◌≡◌, ◌≤◌, ◌<◌, ℕ, ◌+◌, ◌==◌, ◌||◌, ◌&&◌, not, Bool, true, false, Option, Some, None, List, [], ◌∷◌, ◌++◌, length, map, slice_get, IfSome, if◌then◌else◌}
-use Rattle.c_types.specs.CType.{CType, Array, Char, basic, unqualified}
-use Rattle.c_types.specs.Compatible.{compatible}
+-- A checked unit, and what it keeps: what it names is there under names of their own, its expressions, statements and initialisers
+-- have the operands and types of typing's rows, each label stands once and each local in one block, and it isn't too large to be
+-- numbered.
+-- Source: C89 2.1.2.2, 3.5.7, 3.6, 3.7.
+use Rattle.std.specs.Prelude.{◌≡◌, ◌≤◌, ◌<◌, ℕ, codes, ◌+◌, ◌==◌, ◌||◌, ◌&&◌, not, Bool, true, false, Option, Some, None, List, [], ◌∷◌, ◌++◌, length, map, take, slice_get, IfSome, if◌then◌else◌}
+use Rattle.std.specs.Str.{bytes_eq}
+use Rattle.c_types.specs.CType.{CType, Plain, Array, Char, Int, Parameters, Open, Listed, CTypes, NoType, And, basic, unqualified}
+use Rattle.c_types.specs.Compatible.{compatible, all_compatible}
 use Rattle.c_types.specs.Layout.{Tag, extent}
-use Rattle.c_types.specs.Constness.{has_const}
+use Rattle.c_types.specs.Members.{MemberAt}
+use Rattle.c_types.specs.BitFields.{IsInUnit}
+use Rattle.c_types.specs.Constness.{is_const}
 use Rattle.c_types.specs.Table.{Table, tags, types, type_in, AreBelow}
 use Rattle.c_meaning.specs.declared.core_expr.CoreKind.{CoreKind}
 use Rattle.c_meaning.specs.declared.core_expr.CoreKind.TheVariants as kind
 use Rattle.c_meaning.specs.declared.core_stmt.CoreCase.{CoreCase}
 use Rattle.c_meaning.specs.declared.core_unit.CoreFunction.{CoreFunction}
 use Rattle.c_meaning.specs.declared.core_unit.CoreObject.{CoreObject}
-use Rattle.c_meaning.specs.CoreTrees.{type_of}
+use Rattle.c_meaning.specs.CoreTrees.{what_of, type_of}
 use Rattle.c_meaning.specs.StmtTrees.{FilledOf, StmtOf, Nothing, Expression, Initialise, Block, If, While, Do, For, Switch, Label, Goto, Break, Continue, Return, StmtsOf, NoStmt, Stmts, filled_of, place_seen, stmt_of, stmt_seen, IsStmtIn, ArePlacesIn}
-use Rattle.c_meaning.specs.Types.{is_function, is_scalar}
+use Rattle.c_meaning.specs.Types.{is_void, is_function, is_scalar, pointer_to, has_size}
 use Rattle.c_meaning.specs.Values.{CoreTree}
-use Rattle.c_meaning.specs.Rows.{result_type}
-use Rattle.c_meaning.specs.Fits.{Fits, IsPromoted}
+use Rattle.c_meaning.specs.Rows.{result_type, parameters_type}
+use Rattle.c_meaning.specs.Fits.{Fits, IsPromoted, is_value, is_whole}
+use Rattle.c_meaning.specs.Filling.{is_char}
+use Rattle.c_meaning.specs.StaticValues.{IsStaticValue}
+use Rattle.c_meaning.specs.BlockLocals.{declared_in, are_next}
 
 -- a unit with its table of types, by whose places its parts name them
 pub record CoreUnit : Type 0 where
@@ -103,16 +111,33 @@ IsLeaf u locals what of = ⊥
 abbrev pub IsExpr : UnitTree → List CType → CoreTree → Type 0
 IsExpr u locals c = Fits (IsLeaf u locals) u.tags c
 
+-- one that is used for its value, or for what it does
+abbrev pub IsValue : UnitTree → List CType → CoreTree → Type 0
+IsValue u locals c = IsExpr u locals c × (is_value c ≡ true)
+
 -- ---- initialisers
 
 abbrev pub size_bytes : List Tag → FilledOf CType → Option ℕ
 size_bytes tags p = if p.width == 0 then (extent tags p.of).size else Some 4
 
--- a place lies in an object of this size, and the value is of its type
+-- a string over an array of characters that has room for it, its null apart
+abbrev pub IsString : List (List ℕ) → CType → Option ℕ → CoreKind → Type 0
+IsString texts of (Some n) (kind.Text k) = (is_char of ≡ true) × ((bytes : List ℕ) × (slice_get texts k ≡ Some bytes) × (length bytes ≤ n))
+IsString texts of count what = ⊥
+
+-- a value for a place of this type: a scalar or a whole structure of the type, or a string for an array
+abbrev pub IsFor : UnitTree → CType → CoreTree → Type 0
+IsFor u (Array of count) c = IsString u.texts of count (what_of c)
+IsFor u (Plain q k) c = (is_value c ≡ true) × ((is_whole u.tags (Plain q k) ≡ true) × (unqualified (type_of c) ≡ unqualified (Plain q k)))
+
+abbrev pub place_at : FilledOf CType → MemberAt
+place_at p = record { of = p.of; offset = p.offset; first = p.first; width = p.width }
+
+-- a place lies in an object of this size, a bit-field in its unit, and the value is one for it
 abbrev pub IsFilled : UnitTree → List CType → ℕ → FilledOf CType → Type 0
 IsFilled u locals size p =
-    IsExpr u locals p.value × ((unqualified (type_of p.value) ≡ unqualified p.of)
-    × ((n : ℕ) × (size_bytes u.tags p ≡ Some n) × (p.offset + n ≤ size)))
+    IsExpr u locals p.value × (IsFor u p.of p.value × (IsInUnit (place_at p)
+    × ((n : ℕ) × (size_bytes u.tags p ≡ Some n) × (p.offset + n ≤ size))))
 
 abbrev pub AreFilled : UnitTree → List CType → ℕ → List (FilledOf CType) → Type 0
 AreFilled u locals size [] = Unit {0}
@@ -121,6 +146,15 @@ AreFilled u locals size (p ∷ ps) = IsFilled u locals size p × AreFilled u loc
 -- they are places of a whole object of this type
 abbrev pub AreOf : UnitTree → List CType → CType → List (FilledOf CType) → Type 0
 AreOf u locals of ps = (size : ℕ) × ((extent u.tags of).size ≡ Some size) × AreFilled u locals size ps
+
+-- of static storage each is a constant or an address constant, or a string over an array
+abbrev pub IsStatic : UnitTree → CType → CoreTree → Type 0
+IsStatic u (Array of count) c = Unit {0}
+IsStatic u (Plain q k) c = IsStaticValue u.tags (map (λ (o : ObjectTree). o.of) u.objects) u.texts c
+
+abbrev pub AreStatic : UnitTree → List (FilledOf CType) → Type 0
+AreStatic u [] = Unit {0}
+AreStatic u (p ∷ ps) = IsStatic u p.of p.value × AreStatic u ps
 
 -- ---- statements
 
@@ -156,12 +190,12 @@ are_among [] ns = true
 are_among (c ∷ cs) ns = is_among c.label ns && are_among cs ns
 
 abbrev pub IsTest : UnitTree → List CType → CoreTree → Type 0
-IsTest u locals c = IsExpr u locals c × (is_scalar (type_of c) ≡ true)
+IsTest u locals c = IsValue u locals c × (is_scalar (type_of c) ≡ true)
 
--- a value of the function's result, or none
+-- a value of the function's result, which isn't void, or none
 abbrev pub IsReturned : UnitTree → FunctionTree → Option CoreTree → Type 0
 IsReturned u f None = Unit {0}
-IsReturned u f (Some c) = IsExpr u f.locals c × (unqualified (type_of c) ≡ unqualified (result_type f.of))
+IsReturned u f (Some c) = IsValue u f.locals c × ((is_void (result_type f.of) ≡ false) × (unqualified (type_of c) ≡ unqualified (result_type f.of)))
 
 -- a local of the function
 abbrev pub IsLocal : UnitTree → FunctionTree → ℕ → List (FilledOf CType) → Type 0
@@ -171,15 +205,15 @@ IsLocal u f local ps = (of : CType) × (slice_get f.locals local ≡ Some of) ×
 abbrev mutual
   pub IsStmt : UnitTree → FunctionTree → List ℕ → StmtOf CType → Type 0
   IsStmt u f ns Nothing = Unit {0}
-  IsStmt u f ns (Expression e) = IsExpr u f.locals e
+  IsStmt u f ns (Expression e) = IsValue u f.locals e
   IsStmt u f ns (Initialise local zero ps) = IsLocal u f local ps
   IsStmt u f ns (Block first locals ss) = (first + locals ≤ length f.locals) × AreStmts u f ns ss
   IsStmt u f ns (If e s t) = IsTest u f.locals e × (IsStmt u f ns s × IsStmt u f ns t)
   IsStmt u f ns (While e s) = IsTest u f.locals e × IsStmt u f ns s
   IsStmt u f ns (Do s e) = IsStmt u f ns s × IsTest u f.locals e
-  IsStmt u f ns (For a b c s) = IfSome a (IsExpr u f.locals) × (IfSome b (IsTest u f.locals) × (IfSome c (IsExpr u f.locals) × IsStmt u f ns s))
+  IsStmt u f ns (For a b c s) = IfSome a (IsValue u f.locals) × (IfSome b (IsTest u f.locals) × (IfSome c (IsValue u f.locals) × IsStmt u f ns s))
   IsStmt u f ns (Switch e cases default s) =
-      IsExpr u f.locals e
+      IsValue u f.locals e
       × (IsPromoted (type_of e)
       × ((are_apart (numbers cases) ≡ true)
       × ((are_among cases (labels s) ≡ true) × (IfSome default (λ n. is_among n (labels s) ≡ true) × IsStmt u f ns s))))
@@ -208,22 +242,72 @@ abbrev mutual
   all_count NoStmt = 0
   all_count (Stmts s ss) = count s + all_count ss
 
--- ---- the whole
-
--- A function's type, its locals, of which the first are its parameters, and its body.
-pub record IsFunction (u : UnitTree) (f : FunctionTree) : Type 0 where
-  pub type : is_function f.of ≡ true
-  pub parameters : f.parameters ≤ length f.locals
-  pub once : are_apart (labels f.body) ≡ true
-  pub body : IsStmt u f (labels f.body) f.body
-
-pub record IsObject (u : UnitTree) (o : ObjectTree) : Type 0 where
-  pub constant : o.constant ≡ has_const u.tags o.of
-  pub places : AreOf u [] o.of o.places
+-- ---- functions and objects
 
 abbrev pub EachIs : {A : Type 0} → (A → Type 0) → List A → Type 0
 EachIs is [] = Unit {0}
 EachIs is (a ∷ as') = is a × EachIs is as'
+
+-- the types of so many locals, without qualifiers, as a function's type lists its parameters
+abbrev pub types_listed : List CType → CTypes
+types_listed [] = NoType
+types_listed (t ∷ ts) = And (unqualified t) (types_listed ts)
+
+-- the parameters that a definition's type lists are the first locals; where it leaves them open, any may be
+abbrev pub AreParameters : Parameters → List CType → Type 0
+AreParameters Open ts = Unit {0}
+AreParameters (Listed ps more) ts = (more ≡ false) × (ps ≡ types_listed ts)
+
+abbrev pub is_result : List Tag → CType → Bool
+is_result tags t = is_void t || is_whole tags t
+
+-- A function gives nothing, a scalar or a whole structure, and its parameters are such. Its locals are objects, of which the
+-- parameters are the first and those of its blocks follow in order.
+pub record IsFunction (u : UnitTree) (f : FunctionTree) : Type 0 where
+  pub type : is_function f.of ≡ true
+  pub result : is_result u.tags (result_type f.of) ≡ true
+  pub listed : AreParameters (parameters_type f.of) (take f.parameters f.locals)
+  pub parameters : EachIs (λ t. is_whole u.tags t ≡ true) (take f.parameters f.locals)
+  pub locals : EachIs (λ t. has_size u.tags t ≡ true) f.locals
+  pub blocks : are_next f.parameters f.body ≡ true
+  pub all : f.parameters + declared_in f.body ≡ length f.locals
+  pub once : are_apart (labels f.body) ≡ true
+  pub low : AreBelow 2147483648 (labels f.body)
+  pub body : IsStmt u f (labels f.body) f.body
+
+pub record IsObject (u : UnitTree) (o : ObjectTree) : Type 0 where
+  pub constant : o.constant ≡ is_const o.of
+  pub places : AreOf u [] o.of o.places
+  pub static : AreStatic u o.places
+
+-- ---- main
+
+-- no parameters, open ones, or an int and a pointer to pointers to char
+abbrev pub arguments_of_main : CTypes
+arguments_of_main = And (basic Int) (And (pointer_to (pointer_to (basic Char))) NoType)
+
+abbrev pub are_of_main : Parameters → Bool
+are_of_main Open = true
+are_of_main (Listed NoType more) = not more
+are_of_main (Listed ps more) = not more && all_compatible ps arguments_of_main
+
+abbrev pub is_main : FunctionTree → Bool
+is_main f = bytes_eq f.name (codes "main") && (compatible (result_type f.of) (basic Int) && are_of_main (parameters_type f.of))
+
+-- ---- the whole
+
+-- Functions and objects have names of their own. A static object of a block, which may have another's name in the source, has
+-- behind it a dot and a number here, as no identifier has: so a name with linkage stays as it was written.
+abbrev pub names : UnitTree → List (List ℕ)
+names u = map (λ (f : FunctionTree). f.name) u.functions ++ map (λ (o : ObjectTree). o.name) u.objects
+
+abbrev pub is_same_among : List ℕ → List (List ℕ) → Bool
+is_same_among name [] = false
+is_same_among name (n ∷ ns) = bytes_eq name n || is_same_among name ns
+
+abbrev pub are_different : List (List ℕ) → Bool
+are_different [] = true
+are_different (n ∷ ns) = not (is_same_among n ns) && are_different ns
 
 abbrev pub size_of_function : FunctionTree → ℕ
 size_of_function f = 1 + (length f.locals + count f.body)
@@ -235,7 +319,9 @@ total (f ∷ fs) = size_of_function f + total fs
 pub record IsUnit (u : UnitTree) : Type 0 where
   pub functions : EachIs (IsFunction u) u.functions
   pub objects : EachIs (IsObject u) u.objects
-  pub main : u.main < length u.functions
+  pub names : are_different (names u) ≡ true
+  pub texts : are_different u.texts ≡ true
+  pub main : (f : FunctionTree) × (slice_get u.functions u.main ≡ Some f) × (is_main f ≡ true)
   pub few : total u.functions + (length u.objects + length u.texts) < 2147483648
 
 -- the types that a function and an object name are in a table of so many

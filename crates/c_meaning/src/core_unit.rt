@@ -11,11 +11,13 @@ use std::marker::Model;
 #[derive(Drop)]
 pub struct CoreFunction {
     pub name: Bytes,
-    /// Its type, which says whether its parameters are open.
+    /// The type that its definition declares, which says whether its parameters are open; else it lists
+    /// those of the first locals.
     pub of: TypeId,
     /// How many parameters it has.
     pub parameters: u32,
-    /// The types of its local objects, in the order in which they are declared.
+    /// The types of its local objects, in the order in which they are declared. Each but a parameter is
+    /// declared in one block.
     pub locals: Items<TypeId>,
     pub body: CoreStmt,
 }
@@ -23,18 +25,20 @@ pub struct CoreFunction {
 /// An object with static storage: external, or static at file scope or in a block.
 #[derive(Drop)]
 pub struct CoreObject {
+    /// The name that it was declared by; for an object of a block, that with a dot and a number behind it.
     pub name: Bytes,
     pub of: TypeId,
     /// The line of its first declaration.
     pub line: u32,
-    /// Whether it may not be written: its type is const, or an element or a member of it is.
+    /// Whether it may not be written: its type, or its elements', is const. A const member makes no object constant.
     pub constant: bool,
     /// What it holds at the start. Its other bytes are zero.
     pub places: Items<FilledPlace>,
 }
 
 /// A checked unit. It keeps that each function, object, text, local, label and type that it names is
-/// there, that each expression has the operands and the type of its kind, and that its functions,
+/// there, that no two functions or objects have one name, that each expression has the operands and the
+/// type of its kind, that what its objects hold at the start is constant, and that its functions,
 /// objects, texts, locals and statements together are fewer than 2^31.
 #[derive(Drop)]
 pub struct Core {

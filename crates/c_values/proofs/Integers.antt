@@ -38,27 +38,27 @@ both_true true b h = (refl, h)
 both_true false b h = absurd (cc)
 
 pub constant_integer : (tags : List Tag) (c : CoreOf CType) → Fits IsOpenLeaf tags c → is_constant c ≡ true → is_integer (type_of c) ≡ true
-constant_integer tags (Core (kind.Number n) of line NoCore) f h = f.1
-constant_integer tags (Core (kind.Convert conversion) of line (Cores a NoCore)) f h = of_conversion of (ap is_to_integer f.1.0 ∙ (both_true (is_to_integer conversion) _ h).0)
-constant_integer tags (Core (kind.Unary op) of line (Cores a NoCore)) f h = f.1.0.0
-constant_integer tags (Core kind.Not of line (Cores a NoCore)) f h = ap is_integer f.1.0
-constant_integer tags (Core (kind.Binary op signed) of line (Cores a (Cores b NoCore))) f h = of_operands (is_shift op) of (type_of a) (type_of b) f.1.1
-constant_integer tags (Core (kind.Compare op signed) of line (Cores a (Cores b NoCore))) f h = ap is_integer f.1.0
-constant_integer tags (Core kind.And of line (Cores a (Cores b NoCore))) f h = ap is_integer f.1.0
-constant_integer tags (Core kind.Or of line (Cores a (Cores b NoCore))) f h = ap is_integer f.1.0
+constant_integer tags (Core (kind.Number n) of line NoCore) f h = f.1.1
+constant_integer tags (Core (kind.Convert conversion) of line (Cores a NoCore)) f h = of_conversion of (ap is_to_integer f.1.1.0 ∙ (both_true (is_to_integer conversion) _ h).0)
+constant_integer tags (Core (kind.Unary op) of line (Cores a NoCore)) f h = f.1.1.0.0
+constant_integer tags (Core kind.Not of line (Cores a NoCore)) f h = ap is_integer f.1.1.0
+constant_integer tags (Core (kind.Binary op signed) of line (Cores a (Cores b NoCore))) f h = of_operands (is_shift op) of (type_of a) (type_of b) f.1.1.1
+constant_integer tags (Core (kind.Compare op signed) of line (Cores a (Cores b NoCore))) f h = ap is_integer f.1.1.0
+constant_integer tags (Core kind.And of line (Cores a (Cores b NoCore))) f h = ap is_integer f.1.1.0
+constant_integer tags (Core kind.Or of line (Cores a (Cores b NoCore))) f h = ap is_integer f.1.1.0
 constant_integer tags (Core kind.Conditional of line (Cores a (Cores b (Cores c NoCore)))) f h =
     let e = both_true (is_constant a) _ h in
     let g = both_true (is_constant b) _ e.1 in
-    ap is_integer (sym f.1.1.0) ∙ without_qualifiers (type_of b) ∙ constant_integer tags b f.0.1.0 g.0
-constant_integer tags (Core (kind.Number n) of line kids) f h = absurd f.1
-constant_integer tags (Core (kind.Convert conversion) of line kids) f h = absurd f.1
-constant_integer tags (Core (kind.Unary op) of line kids) f h = absurd f.1
-constant_integer tags (Core kind.Not of line kids) f h = absurd f.1
-constant_integer tags (Core (kind.Binary op signed) of line kids) f h = absurd f.1
-constant_integer tags (Core (kind.Compare op signed) of line kids) f h = absurd f.1
-constant_integer tags (Core kind.And of line kids) f h = absurd f.1
-constant_integer tags (Core kind.Or of line kids) f h = absurd f.1
-constant_integer tags (Core kind.Conditional of line kids) f h = absurd f.1
+    ap is_integer (sym f.1.1.1.1.0) ∙ without_qualifiers (type_of b) ∙ constant_integer tags b f.0.1.0 g.0
+constant_integer tags (Core (kind.Number n) of line kids) f h = absurd f.1.1
+constant_integer tags (Core (kind.Convert conversion) of line kids) f h = absurd f.1.1
+constant_integer tags (Core (kind.Unary op) of line kids) f h = absurd f.1.1
+constant_integer tags (Core kind.Not of line kids) f h = absurd f.1.1
+constant_integer tags (Core (kind.Binary op signed) of line kids) f h = absurd f.1.1
+constant_integer tags (Core (kind.Compare op signed) of line kids) f h = absurd f.1.1
+constant_integer tags (Core kind.And of line kids) f h = absurd f.1.1
+constant_integer tags (Core kind.Or of line kids) f h = absurd f.1.1
+constant_integer tags (Core kind.Conditional of line kids) f h = absurd f.1.1
 constant_integer tags (Core what of line kids) f h = absurd (cc)
 
 pub constant_typed : (t : Table) (tags : List Tag) (c : CoreOf ℕ) → HasBasicForms t → is_qualified (form_at t (type_of c)) ≡ false → Fits IsOpenLeaf tags (seen (type_at t) c) → IsTyped t c

@@ -20,6 +20,7 @@ use Rattle.c_check_expr.proofs.WalkExprs.{call_goes, call_stops, call_stops_seco
 use Rattle.c_ast.specs.SeenTypes.{core_declared, core_omitted, core_parentheses, form_enum_tag, form_named, form_record_tag, form_array, form_basic, form_empty, form_enum, form_names, form_parameters, form_qualifier, form_record, form_storage}
 use Rattle.c_check_expr.proofs.WalkDeclarators.{array_goes, array_stops, core_as, core_goes, core_inner, declarator_goes, declarator_stops, declarator_stops_second, parameter_goes, parameter_none, parameter_shape_goes, parameter_shape_stops, parameter_stops, parameter_stops_second, prototype_line, suffix_as, suffix_plain}
 use Rattle.c_check_expr.proofs.WalkLoops.{enumerators_end, enumerators_on, enumerators_start, enumerators_stop, fields_end, fields_on, fields_start, fields_stop, members_end, members_on, members_start, members_stop, exprs_end, exprs_on, exprs_start, exprs_stop, parameters_end, parameters_on, parameters_start, parameters_stop, parts_end, parts_on, parts_start, parts_stop, suffixes_end, suffixes_on, suffixes_start, suffixes_stop}
+use Rattle.c_check_expr.proofs.TypedFields.{members_are_fields}
 use Rattle.c_check_expr.proofs.WalkParts.{enumeration_stops, line_goes, line_stops, named_plain, part_as, part_plain, record_goes, record_stops, record_stops_behind, whole_goes, whole_stops, without_comma, enumeration_goes, enumeration_stops_behind}
 use Rattle.c_check_expr.specs.Kept.{below_later, keeps_itself, keeps_on}
 use Rattle.c_check_expr.proofs.WalkStays.{members_later}
@@ -277,6 +278,9 @@ walk_types::part-returns-in_ok-of-in-RecordTag t c = let e = c.args.specifier.no
 pub walk_types::part-returns-in_ok-of-in-EnumTag : goal.walk_types::part-returns-in_ok-of-in-EnumTag
 walk_types::part-returns-in_ok-of-in-EnumTag t c = let e = c.args.specifier.now in let h = c.in-EnumTag in let k = c.in_ok-of-in-EnumTag.ensures in part_as e _ _ h.is (form_enum_tag h.tag e.line) (whole_goes (tree.EnumerationTag e.line h.tag) c.in_ok-of-in-EnumTag.of (rw c.as_slice-in-EnumTag.ensures at k.ok) k.within k.keeps)
 
+pub walk_types::record-complete_record-requires-clause-fields : goal.walk_types::record-complete_record-requires-clause-fields
+walk_types::record-complete_record-requires-clause-fields t c = rw c.into_members.ensures (members_are_fields (members_of (map member_seen c.args.list.now)) c.in_ok-members.ensures)
+
 pub walk_types::record-returns-in_err-members : goal.walk_types::record-returns-in_err-members
 walk_types::record-returns-in_err-members t c = record_stops c.args.start.0 c.args.start.1 c.args.tag.now (members_of (map member_seen c.args.list.now)) c.args.scopes.now c.open_record.new.scopes c.args.types.now c.open_record.new.types c.in_ok-id.id c.in_ok-id.ensures.state c.in_ok-id.ensures.means c.in_ok-id.ensures.within c.in_ok-id.ensures.keeps c.from_residual-in_err-members.result c.from_residual-in_err-members.ensures.1 c.in_err-members.ensures
 
@@ -287,10 +291,10 @@ pub walk_types::record-returns : goal.walk_types::record-returns
 walk_types::record-returns t c = let k = c.in_ok-of.ensures in record_goes c.args.start.0 c.args.start.1 c.args.tag.now (members_of (map member_seen c.args.list.now)) c.args.scopes.now c.open_record.new.scopes c.args.types.now c.open_record.new.types c.in_ok-id.id c.in_ok-id.ensures.state c.in_ok-id.ensures.means c.in_ok-id.ensures.within c.in_ok-id.ensures.keeps c.in_ok-of.of c.in_ok-members.ensures (rw c.into_members.ensures at k.ok) k.within k.keeps
 
 pub walk_types::enumeration-returns-in_err-of : goal.walk_types::enumeration-returns-in_err-of
-walk_types::enumeration-returns-in_err-of t c = let k = c.in_err-of.ensures in enumeration_stops_behind c.in_err-of.field-0.0 c.args.line c.args.tag.now (enumerators_of (map enumerator_seen c.args.list.now)) c.from_residual-in_err-of.result c.from_residual-in_err-of.ensures.1 c.in_ok-all.ensures k.err k.keeps
+walk_types::enumeration-returns-in_err-of t c = let k = c.in_err-of.ensures in enumeration_stops_behind c.args.line c.args.tag.now (enumerators_of (map enumerator_seen c.args.list.now)) c.args.scopes.now c.open_enumeration.new.scopes c.args.types.now c.open_enumeration.new.types c.in_ok-open_enumeration.ensures.state c.in_ok-open_enumeration.ensures.keeps c.in_err-of.field-0.0 c.from_residual-in_err-of.result c.from_residual-in_err-of.ensures.1 c.in_ok-all.ensures k.err k.keeps
 
 pub walk_types::enumeration-returns : goal.walk_types::enumeration-returns
-walk_types::enumeration-returns t c = let k = c.in_ok-of.ensures in enumeration_goes c.args.line c.args.tag.now (enumerators_of (map enumerator_seen c.args.list.now)) c.in_ok-of.of c.in_ok-all.ensures k.ok k.within k.keeps
+walk_types::enumeration-returns t c = let k = c.in_ok-of.ensures in enumeration_goes c.args.line c.args.tag.now (enumerators_of (map enumerator_seen c.args.list.now)) c.args.scopes.now c.open_enumeration.new.scopes c.args.types.now c.open_enumeration.new.types c.in_ok-open_enumeration.ensures.state c.in_ok-open_enumeration.ensures.keeps c.in_ok-of.of c.in_ok-all.ensures k.ok k.within k.keeps
 
 pub walk_types::enumerator-returns-in_err-value : goal.walk_types::enumerator-returns-in_err-value
 walk_types::enumerator-returns-in_err-value t c = enumerator_stops c.args.before.next c.args.e.now c.from_residual.result c.from_residual.ensures.1 c.in_err-value.ensures
@@ -323,7 +327,7 @@ pub walk_types::member_line-returns : goal.walk_types::member_line-returns
 walk_types::member_line-returns t c = line_goes c.args.before c.args.m.now c.requires.before c.in_ok-base.ensures.walk (rw c.as_slice.ensures at c.fields.ensures)
 
 pub walk_types::enumeration-returns-in_err-all : goal.walk_types::enumeration-returns-in_err-all
-walk_types::enumeration-returns-in_err-all t c = enumeration_stops c.args.line c.args.tag.now (enumerators_of (map enumerator_seen c.args.list.now)) c.from_residual.result c.from_residual.ensures.1 c.in_err-all.ensures
+walk_types::enumeration-returns-in_err-all t c = enumeration_stops c.args.line c.args.tag.now (enumerators_of (map enumerator_seen c.args.list.now)) c.args.scopes.now c.open_enumeration.new.scopes c.args.types.now c.open_enumeration.new.types c.in_ok-open_enumeration.ensures.state c.in_ok-open_enumeration.ensures.keeps c.from_residual-in_err-all.result c.from_residual-in_err-all.ensures.1 c.in_err-all.ensures
 
 pub walk_declarators::declarator-returns-in_err-inner : goal.walk_declarators::declarator-returns-in_err-inner
 walk_declarators::declarator-returns-in_err-inner t c = declarator_stops c.args.d.now c.from_residual.result c.from_residual.ensures.1 c.in_err-inner.ensures

@@ -11,7 +11,7 @@ pub returns-in-Ok-clause-id : goal.returns-in-Ok-clause-id
 returns-in-Ok-clause-id c =
     let s = c.args.scopes.now in
     let x = c.args.n.now.name in
-    let absent : symbol_named s.links x ≡ None = ap (symbol_named s.links) (sym c.as_slice-name.ensures) ∙ sym c.linked.ensures ∙ c.in_default.is in
+    let absent : symbol_named s.links x ≡ None = ap (symbol_named s.links) (sym c.as_slice-name.ensures) ∙ sym c.linked.ensures.means ∙ c.in_default.is in
     next_link s c.args.types.now x c.in-Ok.id absent c.in-Ok.ensures.id
 
 pub returns-in-Ok-clause-state : goal.returns-in-Ok-clause-state
@@ -19,7 +19,7 @@ returns-in-Ok-clause-state c =
     let s = c.args.scopes.now in
     let n = c.args.n.now in
     let e = c.in-Ok.ensures in
-    let absent : symbol_named s.links n.name ≡ None = ap (symbol_named s.links) (sym c.as_slice-name.ensures) ∙ sym c.linked.ensures ∙ c.in_default.is in
+    let absent : symbol_named s.links n.name ≡ None = ap (symbol_named s.links) (sym c.as_slice-name.ensures) ∙ sym c.linked.ensures.means ∙ c.in_default.is in
     let links = rw (c.as_slice-name.ensures) at e.links in
     linked_new s c.link.new.self c.args.types.now c.args.line (linked n.linkage) n.name c.in-Ok.id n.of c.linked_class.result absent c.linked_class.ensures e.outer e.inner links e.id e.symbols
 

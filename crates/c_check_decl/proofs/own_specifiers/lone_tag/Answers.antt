@@ -23,7 +23,7 @@ new_tag-requires-clause-absent c =
     let o = c.args.scopes.now in
     let k = c.deref.ensures.value ∙ c.in_ok-key.ensures in
     let d = c.deref-in_default.ensures.value ∙ c.in_ok-key.ensures in
-    ap (symbol_named o.inner) d ∙ sym (ap (symbol_named o.inner) k) ∙ sym c.find_here.ensures ∙ c.in_default.is
+    ap (symbol_named o.inner) d ∙ sym (ap (symbol_named o.inner) k) ∙ sym c.find_here.ensures.means ∙ c.in_default.is
 
 pub returns-in_err-new_tag : goal.returns-in_err-new_tag
 returns-in_err-new_tag c =
@@ -41,7 +41,7 @@ returns-in_default c =
     let of = type_at c.new_tag.new.types c.in_ok-new_tag.field-0 in
     let n = c.in_ok-new_tag.ensures.state ∙ ap (λ x. declared (counted s) x (tagged c.args.line (length o.outer) of None)) d in
     lone_new o a c.args.line c.args.kind c.args.tag.now c.new_tag.new.scopes c.new_tag.new.types c.in_ok-new_tag.field-0
-    (sym (ap (symbol_named o.inner) k) ∙ sym c.find_here.ensures ∙ c.in_default.is) n (c.in_ok-new_tag.ensures.means ∙ c.record_form.ensures.means (types a) (count a.forms))
+    (sym (ap (symbol_named o.inner) k) ∙ sym c.find_here.ensures.means ∙ c.in_default.is) n (c.in_ok-new_tag.ensures.means ∙ c.record_form.ensures.means (types a) (count a.forms))
     c.in_ok-new_tag.ensures.within c.in_ok-new_tag.ensures.keeps
 
 pub returns-then-is_of_kind : goal.returns-then-is_of_kind
@@ -49,11 +49,11 @@ returns-then-is_of_kind c =
     let o = c.args.scopes.now in
     let k = c.deref.ensures.value ∙ c.in_ok-key.ensures in
     lone_known o c.args.types.now c.args.line c.args.kind c.args.tag.now c.in-Some.id c.symbol_type-of.result c.requires
-    (sym (ap (symbol_named o.inner) k) ∙ sym c.find_here.ensures ∙ c.in-Some.is) c.symbol_type-of.ensures.means (sym c.is_of_kind.ensures ∙ c.if-is_of_kind.true) c.symbol_type-of.ensures.within
+    (sym (ap (symbol_named o.inner) k) ∙ sym c.find_here.ensures.means ∙ c.in-Some.is) c.symbol_type-of.ensures.means (sym c.is_of_kind.ensures ∙ c.if-is_of_kind.true) c.symbol_type-of.ensures.within
 
 pub returns : goal.returns
 returns c =
     let o = c.args.scopes.now in
     let k = c.deref.ensures.value ∙ c.in_ok-key.ensures in
     lone_other o c.args.types.now c.args.line c.args.kind c.args.tag.now c.in-Some.id c.symbol_type-of.result c.requires
-    (sym (ap (symbol_named o.inner) k) ∙ sym c.find_here.ensures ∙ c.in-Some.is) c.symbol_type-of.ensures.means (sym c.is_of_kind.ensures ∙ c.if-is_of_kind.false)
+    (sym (ap (symbol_named o.inner) k) ∙ sym c.find_here.ensures.means ∙ c.in-Some.is) c.symbol_type-of.ensures.means (sym c.is_of_kind.ensures ∙ c.if-is_of_kind.false)

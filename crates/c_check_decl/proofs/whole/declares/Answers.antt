@@ -12,15 +12,15 @@ use Rattle.c_check_decl.proofs.whole.declares.Goals.{then-is_typedef, else-is_ty
 pub returns-then-is_none-clause-within : goal.returns-then-is_none-clause-within
 returns-then-is_none-clause-within c = c.nothing.ensures.within _
 
-pub returns-in_ok-line-clause-is : goal.returns-in_ok-line-clause-is
-returns-in_ok-line-clause-is c = λ i e.
+pub returns-else-is_none-clause-is : goal.returns-else-is_none-clause-is
+returns-else-is_none-clause-is c = λ i e.
     let t = c.args.types.now in
     let s = state_of c.args.scopes.now t in
     let n = naming_in t c.args.n.now in
     let f = maybe_filled_in t c.args.filled in
     let line = c.args.at.0.line in
     subst (λ (x : Declares). IfOk c.object.result (λ d. declares_in t d ≡ x))
-    (ap (λ l. object s l n f) (c.in_ok-line.ensures t ∙ ap (line_at s line) (c.linked.ensures ∙ ap (symbol_named s.links) c.as_slice.ensures))
+    (ap (λ l. object s l n f) (c.first_line-line.ensures t ∙ ap (line_at s line) (c.linked.ensures.means ∙ ap (symbol_named s.links) c.as_slice.ensures))
     ∙ sym (declares_linked s line c.args.at.0.place n i f (sym c.if-is_linked.ensures) (is_some_filled t c.args.filled ∙ c.if-is_none.ensures)))
     (c.object.ensures.is c.args.scopes.now)
 

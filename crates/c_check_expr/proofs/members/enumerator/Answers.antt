@@ -19,7 +19,7 @@ returns-then-is_some-clause-err c =
     let s = state_of c.args.scopes.now t in
     let v = size_seen t c.args.value in
     node_breaks s c.args.line (node.Enumerator c.args.name.now v c.args.next) (with_enumerator s c.args.line c.args.name.now (enumerator_value v c.args.next)) (enumerator_value v c.args.next) 5
-    (taken_broken s c.args.name.now v c.args.next (sym (ap is_some c.find_here.ensures) ∙ sym c.is_some.ensures ∙ c.if-is_some.true))
+    (taken_broken s c.args.name.now v c.args.next (sym (ap is_some c.find_here.ensures.means) ∙ sym c.is_some.ensures ∙ c.if-is_some.true))
 
 pub returns-in_default-clause-err : goal.returns-in_default-clause-err
 returns-in_default-clause-err c =
@@ -28,7 +28,7 @@ returns-in_default-clause-err c =
     let v = size_seen t c.args.value in
     let e = c.written_or.ensures ∙ ap (written_or v) (to_z-of_z w64 c.args.next c.ranges.next) in
     node_breaks s c.args.line (node.Enumerator c.args.name.now v c.args.next) (with_enumerator s c.args.line c.args.name.now (enumerator_value v c.args.next)) (enumerator_value v c.args.next) 12
-    (value_broken s c.args.name.now v c.args.next (sym (ap is_some c.find_here.ensures) ∙ sym c.is_some.ensures ∙ c.if-is_some.false) (ap is_in_int (sym e) ∙ c.in_default.ensures.none))
+    (value_broken s c.args.name.now v c.args.next (sym (ap is_some c.find_here.ensures.means) ∙ sym c.is_some.ensures ∙ c.if-is_some.false) (ap is_in_int (sym e) ∙ c.in_default.ensures.none))
 
 pub returns-clause-ok : goal.returns-clause-ok
 returns-clause-ok c =
@@ -37,7 +37,7 @@ returns-clause-ok c =
     let v = size_seen t c.args.value in
     let z = c.in-Some.number in
     let e : c.written_or.result ≡ written_or v c.args.next = c.written_or.ensures ∙ ap (written_or v) (to_z-of_z w64 c.args.next c.ranges.next) in
-    let b = none_broken s c.args.name.now v c.args.next (sym (ap is_some c.find_here.ensures) ∙ sym c.is_some.ensures ∙ c.if-is_some.false) (ap is_in_int (sym e) ∙ c.in-Some.ensures.held) in
+    let b = none_broken s c.args.name.now v c.args.next (sym (ap is_some c.find_here.ensures.means) ∙ sym c.is_some.ensures ∙ c.if-is_some.false) (ap is_in_int (sym e) ∙ c.in-Some.ensures.held) in
     let g : enumerator_value v c.args.next ≡ z = value_given v c.args.next z (sym e ∙ c.in-Some.ensures.some) in
     let narrow : SFits w32 z = search rules in
     let same : to_z w32 (of_z w32 z) ≡ z = to_z-of_z w32 z narrow in

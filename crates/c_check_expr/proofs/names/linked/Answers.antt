@@ -14,7 +14,7 @@ pub returns-then-compatible-clause-fits : goal.returns-then-compatible-clause-fi
 returns-then-compatible-clause-fits c =
     let t = c.args.types.now in
     let y = c.symbol.result.now in
-    differs_by (state_of c.args.scopes.now t) _ c.in-Some.id (known_of (types t) y) _ (sym c.linked.ensures ∙ c.in-Some.is)
+    differs_by (state_of c.args.scopes.now t) _ c.in-Some.id (known_of (types t) y) _ (sym c.linked.ensures.means ∙ c.in-Some.is)
     (known_there (types t) c.args.scopes.now.symbols c.in-Some.id y c.symbol.ensures)
     (ap (compatible (type_at t y.of)) (sym c.requires.function) ∙ sym c.compatible.ensures ∙ c.if-compatible.true)
 
@@ -25,7 +25,7 @@ returns-else-compatible-clause-err c =
       refl,
       (
         refl,
-        differs_by (state_of c.args.scopes.now t) _ c.in-Some.id (known_of (types t) y) _ (sym c.linked.ensures ∙ c.in-Some.is)
+        differs_by (state_of c.args.scopes.now t) _ c.in-Some.id (known_of (types t) y) _ (sym c.linked.ensures.means ∙ c.in-Some.is)
             (known_there (types t) c.args.scopes.now.symbols c.in-Some.id y c.symbol.ensures)
             (ap (compatible (type_at t y.of)) (sym c.requires.function) ∙ sym c.compatible.ensures ∙ c.if-compatible.false),
       ),
@@ -33,12 +33,12 @@ returns-else-compatible-clause-err c =
 
 pub returns-in-Ok-clause-id : goal.returns-in-Ok-clause-id
 returns-in-Ok-clause-id c =
-    rw (sym c.linked.ensures ∙ c.in-None.is, length-all_known (types c.args.types.now) c.args.scopes.now.symbols) c.in-Ok.ensures.id
+    rw (sym c.linked.ensures.means ∙ c.in-None.is, length-all_known (types c.args.types.now) c.args.scopes.now.symbols) c.in-Ok.ensures.id
 
 pub returns-in-Ok-clause-state : goal.returns-in-Ok-clause-state
 returns-in-Ok-clause-state c =
     let e = c.in-Ok.ensures in
-    rw (sym c.linked.ensures ∙ c.in-None.is, ← c.requires.function)
+    rw (sym c.linked.ensures.means ∙ c.in-None.is, ← c.requires.function)
     (state-link c.args.scopes.now c.link.new.self c.args.types.now c.args.name.now c.in-Ok.id _ e.outer e.inner e.links e.id e.symbols)
 
 pub returns-in-Ok-clause-symbols : goal.returns-in-Ok-clause-symbols

@@ -37,7 +37,7 @@ returns-in-None-clause-ok c =
     let d = c.deref-in-None.ensures.value ∙ c.in_ok-key.ensures ∙ ap tag_key c.as_slice.ensures in
     let of = type_at c.new_tag.new.types c.in_ok-new_tag-in-None.field-0 in
     let n = c.in_ok-new_tag-in-None.ensures.state ∙ ap (λ y. declared (counted s) y (tagged c.args.line (length o.outer) of (Some (pos 0)))) d in
-    enumeration_new s (state_of c.new_tag.new.scopes c.new_tag.new.types) c.args.line c.args.tag.now x of c.in-Some.is (sym (ap (symbol_named o.inner) k) ∙ sym c.find_here.ensures ∙ c.in-None.is) n c.in_ok-new_tag-in-None.ensures.means
+    enumeration_new s (state_of c.new_tag.new.scopes c.new_tag.new.types) c.args.line c.args.tag.now x of c.in-Some.is (sym (ap (symbol_named o.inner) k) ∙ sym c.find_here.ensures.means ∙ c.in-None.is) n c.in_ok-new_tag-in-None.ensures.means
 
 -- a tag that stands in the innermost scope
 fine : (s n : State) (t : Table) (line : ℕ) (tag : Option (List ℕ)) (x : List ℕ) (id : ℕ) (r : Result ℕ CheckFault) → tag ≡ Some x → place_here s (tag_key x) ≡ Some id → OnOk r (is_listed s id ≡ false) →
@@ -56,11 +56,11 @@ returns-clause-ok c =
     let k = c.deref.ensures.value ∙ c.in_ok-key.ensures ∙ ap tag_key c.as_slice.ensures in
     let e = c.listed.ensures in
     fine (state_of o c.args.types.now) (state_of c.listed.new.scopes c.listed.new.types) c.listed.new.types c.args.line c.args.tag.now c.in-Some.tag c.in-Some-find_here.id c.listed.result
-    c.in-Some.is (sym (ap (symbol_named o.inner) k) ∙ sym c.find_here.ensures ∙ c.in-Some-find_here.is) e.ok e.state e.means
+    c.in-Some.is (sym (ap (symbol_named o.inner) k) ∙ sym c.find_here.ensures.means ∙ c.in-Some-find_here.is) e.ok e.state e.means
 
 pub returns-clause-err : goal.returns-clause-err
 returns-clause-err c =
     let o = c.args.scopes.now in
     let k = c.deref.ensures.value ∙ c.in_ok-key.ensures ∙ ap tag_key c.as_slice.ensures in
     told (state_of o c.args.types.now) c.args.line c.args.tag.now c.in-Some.tag c.in-Some-find_here.id c.listed.result
-    c.in-Some.is (sym (ap (symbol_named o.inner) k) ∙ sym c.find_here.ensures ∙ c.in-Some-find_here.is) c.listed.ensures.err
+    c.in-Some.is (sym (ap (symbol_named o.inner) k) ∙ sym c.find_here.ensures.means ∙ c.in-Some-find_here.is) c.listed.ensures.err

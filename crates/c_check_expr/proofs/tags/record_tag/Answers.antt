@@ -13,7 +13,7 @@ new_tag-requires-clause-absent c =
     let o = c.args.scopes.now in
     let k = c.deref.ensures.value ∙ c.in_ok-key.ensures in
     let d = c.deref-in_default.ensures.value ∙ c.in_ok-key.ensures in
-    ap (symbol_named o.inner) d ∙ absent_here o.outer o.inner (tag_key c.args.tag.now) (sym (ap (found (o.outer ++ o.inner ∷ [])) k) ∙ sym c.find.ensures ∙ c.in_default.is)
+    ap (symbol_named o.inner) d ∙ absent_here o.outer o.inner (tag_key c.args.tag.now) (sym (ap (found (o.outer ++ o.inner ∷ [])) k) ∙ sym c.find.ensures.means ∙ c.in_default.is)
 
 pub returns-in_default-clause-ok : goal.returns-in_default-clause-ok
 returns-in_default-clause-ok c =
@@ -23,18 +23,18 @@ returns-in_default-clause-ok c =
     let d = c.deref-in_default.ensures.value ∙ c.in_ok-key.ensures in
     let of = type_at c.new_tag.new.types c.in_ok-new_tag.field-0 in
     let n = c.in_ok-new_tag.ensures.state ∙ ap (λ x. declared (counted s) x (tagged c.args.line (length o.outer) of None)) d in
-    record_tag_new s (state_of c.new_tag.new.scopes c.new_tag.new.types) c.args.line c.args.kind c.args.tag.now of (sym (ap (found (o.outer ++ o.inner ∷ [])) k) ∙ sym c.find.ensures ∙ c.in_default.is) n (c.in_ok-new_tag.ensures.means ∙ (c.record_form.ensures.means (types c.args.types.now) (count c.args.types.now.forms)))
+    record_tag_new s (state_of c.new_tag.new.scopes c.new_tag.new.types) c.args.line c.args.kind c.args.tag.now of (sym (ap (found (o.outer ++ o.inner ∷ [])) k) ∙ sym c.find.ensures.means ∙ c.in_default.is) n (c.in_ok-new_tag.ensures.means ∙ (c.record_form.ensures.means (types c.args.types.now) (count c.args.types.now.forms)))
 
 pub returns-then-is_of_kind-clause-ok : goal.returns-then-is_of_kind-clause-ok
 returns-then-is_of_kind-clause-ok c =
     let o = c.args.scopes.now in
     let k = c.deref.ensures.value ∙ c.in_ok-key.ensures in
     record_tag_known (state_of o c.args.types.now) c.args.line c.args.kind c.args.tag.now c.in-Some.id (type_at c.args.types.now c.symbol_type-of.result)
-    (sym (ap (found (o.outer ++ o.inner ∷ [])) k) ∙ sym c.find.ensures ∙ c.in-Some.is) c.symbol_type-of.ensures.means (sym c.is_of_kind.ensures ∙ c.if-is_of_kind.true)
+    (sym (ap (found (o.outer ++ o.inner ∷ [])) k) ∙ sym c.find.ensures.means ∙ c.in-Some.is) c.symbol_type-of.ensures.means (sym c.is_of_kind.ensures ∙ c.if-is_of_kind.true)
 
 pub returns-clause-err : goal.returns-clause-err
 returns-clause-err c =
     let o = c.args.scopes.now in
     let k = c.deref.ensures.value ∙ c.in_ok-key.ensures in
     record_tag_other (state_of o c.args.types.now) c.args.line c.args.kind c.args.tag.now c.in-Some.id (type_at c.args.types.now c.symbol_type-of.result)
-    (sym (ap (found (o.outer ++ o.inner ∷ [])) k) ∙ sym c.find.ensures ∙ c.in-Some.is) c.symbol_type-of.ensures.means (sym c.is_of_kind.ensures ∙ c.if-is_of_kind.false)
+    (sym (ap (found (o.outer ++ o.inner ∷ [])) k) ∙ sym c.find.ensures.means ∙ c.in-Some.is) c.symbol_type-of.ensures.means (sym c.is_of_kind.ensures ∙ c.if-is_of_kind.false)

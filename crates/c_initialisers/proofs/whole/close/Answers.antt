@@ -1,6 +1,7 @@
 use Rattle.std.proofs.Common.{◌≡◌, ℕ, None, sym, ap, ◌∙◌, subst}
 use Rattle.c_types.specs.Table.{tags, type_at}
-use Rattle.c_meaning.specs.Initialising.{completed_types, sized}
+use Rattle.c_meaning.specs.Filling.{sized}
+use Rattle.c_meaning.specs.Initialising.{completed_types}
 use Rattle.c_meaning.specs.NodeConstraints.{passed_by}
 use Rattle.c_meaning.specs.State.{State}
 use Rattle.c_meaning.specs.Typing.{Fine}
@@ -25,8 +26,8 @@ returns-in_err-sized-clause-err c =
     let inner = filling_in a c.args.inner in
     let f = c.in_err-sized.field-0.0 in
     let w = type_at a c.args.of in
-    handed_on c.from_residual-in_err-sized.result f (λ x. (t : State) → t.tags ≡ tags a → Tells x (whole_list t c.args.line (object_of a c.args.of c.args.standing) c.args.standing.is_unfit inner)) c.from_residual-in_err-sized.ensures.1
-    (λ t e. list_told a c.args.of c.args.standing c.args.line inner t e (c.in_default.ensures t (node_types a c.args.of c.args.standing c.args.line inner t e)) f (subst (λ (n : ℕ). IsPassed f c.args.line (passed_by (tags a) (completed_types w (sized w n)))) c.in_ok-count.ensures c.in_err-sized.ensures.limit))
+    handed_on c.from_residual.result f (λ x. (t : State) → t.tags ≡ tags a → Tells x (whole_list t c.args.line (object_of a c.args.of c.args.standing) c.args.standing.is_unfit inner)) c.from_residual.ensures.1
+    (λ t e. list_told a c.args.of c.args.standing c.args.line inner t e (c.in_default.ensures t (node_types a c.args.of c.args.standing c.args.line inner t e)) f (subst (λ (n : ℕ). IsPassed f c.args.line (passed_by (tags a) (completed_types w (sized w n)))) c.stored_elements-count.ensures c.in_err-sized.ensures.limit))
 
 pub returns-clause-ok : goal.returns-clause-ok
 returns-clause-ok c = λ t e.
@@ -35,8 +36,8 @@ returns-clause-ok c = λ t e.
     let inner = filling_in a c.args.inner in
     let k = c.in_ok-sized.ensures in
     let w = type_at a c.args.of in
-    list_fine a c.args.of c.args.standing c.args.line inner t e (c.in_default.ensures t (node_types a c.args.of c.args.standing c.args.line inner t e)) (subst (λ (n : ℕ). passed_by (tags a) (completed_types w (sized w n)) ≡ None) c.in_ok-count.ensures k.passes)
-    ∙ ap (Fine t) (filled_same _ _ _ _ (ap (sized w) (sym c.in_ok-count.ensures) ∙ sym k.means) (sym (c.in_ok-finish.ensures.same b ∙ stores_stay a b k.grows.extends c.args.inner.places.items c.requires.inner.places)))
+    list_fine a c.args.of c.args.standing c.args.line inner t e (c.in_default.ensures t (node_types a c.args.of c.args.standing c.args.line inner t e)) (subst (λ (n : ℕ). passed_by (tags a) (completed_types w (sized w n)) ≡ None) c.stored_elements-count.ensures k.passes)
+    ∙ ap (Fine t) (filled_same _ _ _ _ (ap (sized w) (sym c.stored_elements-count.ensures) ∙ sym k.means) (sym (c.in_ok-finish.ensures.same b ∙ stores_stay a b k.grows.extends c.args.inner.places.items c.requires.inner.places)))
 
 pub returns-clause-within : goal.returns-clause-within
 returns-clause-within c =

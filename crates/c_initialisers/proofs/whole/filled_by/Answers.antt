@@ -3,10 +3,11 @@ use Rattle.c_types.specs.CType.{CType}
 use Rattle.c_types.specs.Layout.{Tag}
 use Rattle.c_types.specs.Table.{tags, type_at}
 use Rattle.c_meaning.specs.CoreTrees.{seen}
-use Rattle.c_meaning.specs.Filling.{filled_by}
-use Rattle.c_meaning.specs.Initialising.{completed_types, sized}
+use Rattle.c_meaning.specs.Filling.{filled_by, sized}
+use Rattle.c_meaning.specs.Initialising.{completed_types}
 use Rattle.c_meaning.specs.NodeConstraints.{passed_by}
 use Rattle.c_meaning.specs.State.{State}
+use Rattle.c_meaning.specs.StmtTrees.{FilledOf}
 use Rattle.c_meaning.specs.Typing.{Fine}
 use Rattle.c_values.specs.Stays.{grows_on, in_later}
 use Rattle.c_check_expr.specs.AtNode.{Tells}
@@ -82,12 +83,12 @@ returns-clause-ok c = λ t e.
     let q = c.in_ok-store.ensures in
     let at = c.whole_place-at.result in
     let size : sized w c.in_ok-count.count ≡ type_at d c.in_ok-sized.sized = sym k.means ∙ sym (q.grows.extends.types_stay c.in_ok-sized.sized k.within) in
-    let kept : map (stored_in d) c.store.new.places.items ≡ filled_by (place_in b at) (seen (type_at b) c.args.c) =
-    q.stored ∙ ap (λ (ps : List Stored). map (stored_in b) ps ++ filled_by (place_in b at) (seen (type_at b) c.args.c)) c.new-places.ensures.items in
+    let kept : map (stored_in d) c.store.new.places.items ≡ filled_by (place_in b at) (seen (type_at b) c.args.c) ∷ [] =
+    q.stored ∙ ap (λ (ps : List Stored). map (stored_in b) ps ++ filled_by (place_in b at) (seen (type_at b) c.args.c) ∷ []) c.new-places.ensures.items in
     placed_fine a c.args.of c.args.standing c.args.line v t e c.if-standing.false (place_in a at) (c.whole_place-at.ensures.means a) (c.in_default.ensures t (completed a c.args.of c.args.standing c.args.line v t e) e)
     (subst (λ (n : ℕ). passed_by (tags a) (completed_types w (sized w n)) ≡ None) c.in_ok-count.ensures k.passes)
     (value_later a b c.args.c k.grows c.requires.within (λ (gs : List Tag) (u : CType). passed_by gs (u ∷ []) ≡ None) q.passes)
-    ∙ ap (Fine t) (filled_same _ _ _ _ (ap (sized w) (sym c.in_ok-count.ensures) ∙ size) (sym (c.in_ok-finish.ensures.same d ∙ kept ∙ stored_whole a b at c.args.of c.args.c k.grows c.requires.of c.requires.within c.whole_place-at.ensures.means)))
+    ∙ ap (Fine t) (filled_same _ _ _ _ (ap (sized w) (sym c.in_ok-count.ensures) ∙ size) (sym (c.in_ok-finish.ensures.same d ∙ kept ∙ ap (λ (x : FilledOf CType). x ∷ []) (stored_whole a b at c.args.of c.args.c k.grows c.requires.of c.requires.within c.whole_place-at.ensures.means))))
 
 pub returns-clause-within : goal.returns-clause-within
 returns-clause-within c = record { of = below_later c.sized_type.new.types c.store.new.types c.in_ok-store.ensures.grows.extends c.in_ok-sized.sized c.in_ok-sized.ensures.within; places = c.in_ok-finish.ensures.within _ c.in_ok-store.ensures.within }
