@@ -1,3 +1,3 @@
 mod Places
-mod Lows
+mod OldParameters
 mod Exits

@@ -1,5 +1,6 @@
 pub mod Going
 pub mod GoingLaws
+pub mod OldParameters
+pub mod OldParametersLaws
 pub mod Productions
-pub mod Stopping
 pub mod TakingLaws

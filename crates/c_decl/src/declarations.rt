@@ -5,16 +5,16 @@ ghost use Rattle.c_ast.specs.Seen.{declarator_seen};
 ghost use Rattle.c_ast.specs.SeenUnits.{boxed_initialiser_seen, declaration_seen, init_seen};
 ghost use Rattle.c_readings.specs.Readers.{readers};
 ghost use Rattle.c_readings.specs.DeclarationReaders as reader;
-ghost use Rattle.c_expr.specs.State.{ahead, Took};
+ghost use Rattle.c_expr.specs.State.{ahead, Refused, Took};
 ghost use Rattle.c_decl.specs.Going.{Goes, Breaks, Fails};
+ghost use Rattle.c_decl.specs.OldParameters as reading;
 ghost use Rattle.c_decl.specs.Productions as production;
-ghost use Rattle.c_decl.specs.Stopping.{Stopped};
 
 use crate::initialisers::initialiser_at;
-use crate::next::{begins_declaration, line_at};
+use crate::next::{begins_declaration, begins_specifier, line_at};
 use crate::nodes::{declared, init};
 use crate::parts::{low_specifiers, whole_declarator};
-use crate::steps::{alone, boxed, expect, keep, refuse, takes};
+use crate::steps::{alone, boxed, expect, keep, refuse, refuse_behind, takes};
 use c_ast::{Declaration, Declarator, InitDeclarator, Initialiser, sign};
 use c_expr::{Parser, SyntaxFault, has_typedef};
 use c_readings::units_are_exact;
@@ -24,7 +24,7 @@ use lcc_base::Items;
 /// Source: C89 3.5.
 pub fn declaration(p: &mut Parser) -> Result<Declaration, SyntaxFault>
     ensures ok { IfOk result (λ d. Took production.declaration (ahead p.old) p.old (declaration_seen d) p.new) }
-    ensures err { IfErr result (λ e. Stopped production.declaration (ahead p.old) p.old p.new e) }
+    ensures err { IfErr result (λ e. Refused production.declaration (ahead p.old) p.old p.new e) }
 {
     units_are_exact();
     if let Some(fault) = p.fault() {
@@ -33,17 +33,34 @@ pub fn declaration(p: &mut Parser) -> Result<Declaration, SyntaxFault>
     declaration_to(p, 500)
 }
 
-/// The declarations of old-style parameters at the place, perhaps none, as `initialiser`: as long as
-/// a declaration is next, and no label. Source: C89 3.7.1.
+/// The declarations of old-style parameters at the place, perhaps none, as `initialiser`. A typedef
+/// name before `:` goes on from them and begins none. Source: C89 3.7.1.
 pub fn old_parameters(p: &mut Parser) -> Result<Items<Declaration>, SyntaxFault>
-    ensures ok { IfOk result (λ ds. Took production.declarations (ahead p.old) p.old (map declaration_seen ds) p.new) }
-    ensures err { IfErr result (λ e. Stopped production.declarations (ahead p.old) p.old p.new e) }
+    ensures ok { IfOk result (λ ds. Took production.old_parameters (ahead p.old) p.old (map declaration_seen ds) p.new) }
+    ensures err { IfErr result (λ e. Refused production.old_parameters (ahead p.old) p.old p.new e) }
 {
     units_are_exact();
     if let Some(fault) = p.fault() {
         return Err(fault);
     }
-    declarations_to(p, 500)
+    old_parameters_to(p, 500)
+}
+
+/// The declarations of old-style parameters at the place, if they are no higher than the limit.
+pub fn old_parameters_to(p: &mut Parser, limit: u32) -> Result<Items<Declaration>, SyntaxFault>
+    requires sound { p.old.fault ≡ None }
+    requires limit { limit ≤ 500 }
+    ensures ok { IfOk result (λ ds. reading.old_parameters limit (ahead p.old) ≡ Some (map declaration_seen ds, ahead p.new)) }
+    ensures read { IfOk result (λ ds. reader.declarations readers limit (ahead p.old) ≡ Some (map declaration_seen ds, ahead p.new)) }
+    ensures none { IfErr result (λ e. Fails e (reading.old_parameters limit (ahead p.old))) }
+    ensures going { IfOk result (λ ds. Goes 0 p.old p.new) }
+    ensures broken { IfErr result (λ e. Breaks p.old p.new e) }
+{
+    let list = declarations_to(p, limit)?;
+    if begins_specifier(p) {
+        return Err(refuse_behind(p));
+    }
+    Ok(list)
 }
 
 /// `=` and an initialiser, or neither.
@@ -51,8 +68,8 @@ pub fn old_parameters(p: &mut Parser) -> Result<Items<Declaration>, SyntaxFault>
 fn maybe_initialiser_at(p: &mut Parser, limit: u32) -> Result<Option<Box<Initialiser>>, SyntaxFault>
     requires sound { p.old.fault ≡ None }
     requires limit { limit ≤ 500 }
-    ensures ok { IfOk result (λ o. reader.maybe_initialiser (readers 500) limit (ahead p.old) ≡ Some (option_of boxed_initialiser_seen o, ahead p.new)) }
-    ensures none { IfErr result (λ e. Fails e (reader.maybe_initialiser (readers 500) limit (ahead p.old))) }
+    ensures ok { IfOk result (λ o. reader.maybe_initialiser readers limit (ahead p.old) ≡ Some (option_of boxed_initialiser_seen o, ahead p.new)) }
+    ensures none { IfErr result (λ e. Fails e (reader.maybe_initialiser readers limit (ahead p.old))) }
     ensures going { IfOk result (λ o. Goes 0 p.old p.new) }
     ensures broken { IfErr result (λ e. Breaks p.old p.new e) }
 {
@@ -73,8 +90,8 @@ fn init_behind(
 ) -> Result<InitDeclarator, SyntaxFault>
     requires sound { p.old.fault ≡ None }
     requires limit { limit ≤ 500 }
-    ensures ok { IfOk result (λ i. reader.init_behind (readers 500) limit line (declarator_seen declarator) (ahead p.old) ≡ Some (init_seen i, ahead p.new)) }
-    ensures none { IfErr result (λ e. Fails e (reader.init_behind (readers 500) limit line (declarator_seen declarator) (ahead p.old))) }
+    ensures ok { IfOk result (λ i. reader.init_behind readers limit line (declarator_seen declarator) (ahead p.old) ≡ Some (init_seen i, ahead p.new)) }
+    ensures none { IfErr result (λ e. Fails e (reader.init_behind readers limit line (declarator_seen declarator) (ahead p.old))) }
     ensures going { IfOk result (λ i. Goes 0 p.old p.new) }
     ensures broken { IfErr result (λ e. Breaks p.old p.new e) }
 {
@@ -87,8 +104,8 @@ fn init_behind(
 fn init_at(p: &mut Parser, limit: u32, typedef: bool) -> Result<InitDeclarator, SyntaxFault>
     requires sound { p.old.fault ≡ None }
     requires limit { limit ≤ 500 }
-    ensures ok { IfOk result (λ i. reader.init (readers 500) limit typedef (ahead p.old) ≡ Some (init_seen i, ahead p.new)) }
-    ensures none { IfErr result (λ e. Fails e (reader.init (readers 500) limit typedef (ahead p.old))) }
+    ensures ok { IfOk result (λ i. reader.init readers limit typedef (ahead p.old) ≡ Some (init_seen i, ahead p.new)) }
+    ensures none { IfErr result (λ e. Fails e (reader.init readers limit typedef (ahead p.old))) }
     ensures going { IfOk result (λ i. Goes 0 p.old p.new) }
     ensures broken { IfErr result (λ e. Breaks p.old p.new e) }
 {
@@ -109,8 +126,8 @@ pub fn inits_behind(
 ) -> Result<Items<InitDeclarator>, SyntaxFault>
     requires sound { p.old.fault ≡ None }
     requires limit { limit ≤ 500 }
-    ensures ok { IfOk result (λ is. reader.inits_behind (readers 500) limit typedef line (declarator_seen declarator) (ahead p.old) ≡ Some (map init_seen is, ahead p.new)) }
-    ensures none { IfErr result (λ e. Fails e (reader.inits_behind (readers 500) limit typedef line (declarator_seen declarator) (ahead p.old))) }
+    ensures ok { IfOk result (λ is. reader.inits_behind readers limit typedef line (declarator_seen declarator) (ahead p.old) ≡ Some (map init_seen is, ahead p.new)) }
+    ensures none { IfErr result (λ e. Fails e (reader.inits_behind readers limit typedef line (declarator_seen declarator) (ahead p.old))) }
     ensures going { IfOk result (λ is. Goes 1 p.old p.new) }
     ensures broken { IfErr result (λ e. Breaks p.old p.new e) }
 {
@@ -129,8 +146,8 @@ pub fn inits_behind(
 fn inits_at(p: &mut Parser, limit: u32, typedef: bool) -> Result<Items<InitDeclarator>, SyntaxFault>
     requires sound { p.old.fault ≡ None }
     requires limit { limit ≤ 500 }
-    ensures ok { IfOk result (λ is. reader.inits (readers 500) limit typedef (ahead p.old) ≡ Some (map init_seen is, ahead p.new)) }
-    ensures none { IfErr result (λ e. Fails e (reader.inits (readers 500) limit typedef (ahead p.old))) }
+    ensures ok { IfOk result (λ is. reader.inits readers limit typedef (ahead p.old) ≡ Some (map init_seen is, ahead p.new)) }
+    ensures none { IfErr result (λ e. Fails e (reader.inits readers limit typedef (ahead p.old))) }
     ensures going { IfOk result (λ is. Goes 1 p.old p.new) }
     ensures broken { IfErr result (λ e. Breaks p.old p.new e) }
 {
@@ -147,8 +164,8 @@ fn inits_at(p: &mut Parser, limit: u32, typedef: bool) -> Result<Items<InitDecla
 pub fn declaration_to(p: &mut Parser, limit: u32) -> Result<Declaration, SyntaxFault>
     requires sound { p.old.fault ≡ None }
     requires limit { limit ≤ 500 }
-    ensures ok { IfOk result (λ d. reader.declaration (readers 500) limit (ahead p.old) ≡ Some (declaration_seen d, ahead p.new)) }
-    ensures none { IfErr result (λ e. Fails e (reader.declaration (readers 500) limit (ahead p.old))) }
+    ensures ok { IfOk result (λ d. reader.declaration readers limit (ahead p.old) ≡ Some (declaration_seen d, ahead p.new)) }
+    ensures none { IfErr result (λ e. Fails e (reader.declaration readers limit (ahead p.old))) }
     ensures going { IfOk result (λ d. Goes 1 p.old p.new) }
     ensures broken { IfErr result (λ e. Breaks p.old p.new e) }
 {
@@ -168,8 +185,8 @@ pub fn declaration_to(p: &mut Parser, limit: u32) -> Result<Declaration, SyntaxF
 pub fn declarations_to(p: &mut Parser, limit: u32) -> Result<Items<Declaration>, SyntaxFault>
     requires sound { p.old.fault ≡ None }
     requires limit { limit ≤ 500 }
-    ensures ok { IfOk result (λ ds. reader.declarations (readers 500) limit (ahead p.old) ≡ Some (map declaration_seen ds, ahead p.new)) }
-    ensures none { IfErr result (λ e. Fails e (reader.declarations (readers 500) limit (ahead p.old))) }
+    ensures ok { IfOk result (λ ds. reader.declarations readers limit (ahead p.old) ≡ Some (map declaration_seen ds, ahead p.new)) }
+    ensures none { IfErr result (λ e. Fails e (reader.declarations readers limit (ahead p.old))) }
     ensures going { IfOk result (λ ds. Goes 0 p.old p.new) }
     ensures broken { IfErr result (λ e. Breaks p.old p.new e) }
 {

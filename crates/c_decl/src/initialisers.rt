@@ -4,10 +4,9 @@ ghost use Rattle.c_ast.specs.UnitViews.{initialisers_of};
 ghost use Rattle.c_ast.specs.SeenUnits.{initialiser_seen};
 ghost use Rattle.c_readings.specs.Readers.{readers};
 ghost use Rattle.c_readings.specs.DeclarationReaders.{initialiser, initialisers};
-ghost use Rattle.c_expr.specs.State.{ahead, Took};
+ghost use Rattle.c_expr.specs.State.{ahead, Refused, Took};
 ghost use Rattle.c_decl.specs.Going.{Goes, Breaks, Fails};
 ghost use Rattle.c_decl.specs.Productions.{initialiser as initialiser_production};
-ghost use Rattle.c_decl.specs.Stopping.{Stopped};
 
 use crate::next::line_at;
 use crate::nodes::{braced, by_expr};
@@ -29,11 +28,11 @@ struct Initialisers {
 ///
 /// A call for a production takes the longest piece of it at the place, no higher than 500, from
 /// which the next token doesn't go on. NoParse comes exactly where none stands there, with the line
-/// of a token, and Memory where an allocation is refused; the fault is answered again by each later
-/// call.
+/// of the token by which nothing goes on, which is at the place from there on; and Memory where an
+/// allocation is refused. The fault is answered again by each later call.
 pub fn initialiser(p: &mut Parser) -> Result<Initialiser, SyntaxFault>
     ensures ok { IfOk result (λ i. Took initialiser_production (ahead p.old) p.old (initialiser_seen i) p.new) }
-    ensures err { IfErr result (λ e. Stopped initialiser_production (ahead p.old) p.old p.new e) }
+    ensures err { IfErr result (λ e. Refused initialiser_production (ahead p.old) p.old p.new e) }
 {
     units_are_exact();
     if let Some(fault) = p.fault() {
@@ -48,8 +47,8 @@ pub fn initialiser(p: &mut Parser) -> Result<Initialiser, SyntaxFault>
 pub(crate) fn initialiser_at(p: &mut Parser, limit: u32) -> Result<Initialiser, SyntaxFault>
     requires sound { p.old.fault ≡ None }
     requires limit { limit ≤ 500 }
-    ensures ok { IfOk result (λ i. initialiser (readers 500) limit (ahead p.old) ≡ Some (initialiser_seen i, ahead p.new)) }
-    ensures none { IfErr result (λ e. Fails e (initialiser (readers 500) limit (ahead p.old))) }
+    ensures ok { IfOk result (λ i. initialiser readers limit (ahead p.old) ≡ Some (initialiser_seen i, ahead p.new)) }
+    ensures none { IfErr result (λ e. Fails e (initialiser readers limit (ahead p.old))) }
     ensures going { IfOk result (λ i. Goes 1 p.old p.new) }
     ensures broken { IfErr result (λ e. Breaks p.old p.new e) }
 {
@@ -71,8 +70,8 @@ pub(crate) fn initialiser_at(p: &mut Parser, limit: u32) -> Result<Initialiser, 
 fn initialisers_at(p: &mut Parser, limit: u32) -> Result<Initialisers, SyntaxFault>
     requires sound { p.old.fault ≡ None }
     requires limit { limit ≤ 500 }
-    ensures ok { IfOk result (λ is. initialisers (initialiser (readers 500) limit) (ahead p.old) ≡ Some ((initialisers_of (map initialiser_seen is.items), is.comma), ahead p.new)) }
-    ensures none { IfErr result (λ e. Fails e (initialisers (initialiser (readers 500) limit) (ahead p.old))) }
+    ensures ok { IfOk result (λ is. initialisers (initialiser readers limit) (ahead p.old) ≡ Some ((initialisers_of (map initialiser_seen is.items), is.comma), ahead p.new)) }
+    ensures none { IfErr result (λ e. Fails e (initialisers (initialiser readers limit) (ahead p.old))) }
     ensures going { IfOk result (λ is. Goes 1 p.old p.new) }
     ensures broken { IfErr result (λ e. Breaks p.old p.new e) }
 {

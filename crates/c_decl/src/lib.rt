@@ -10,7 +10,7 @@ mod parts;
 mod steps;
 
 pub use declarations::{
-    declaration, declaration_to, declarations_to, inits_behind, old_parameters,
+    declaration, declaration_to, declarations_to, inits_behind, old_parameters, old_parameters_to,
 };
 pub use initialisers::initialiser;
 pub use next::{begins_specifier, first, is_label, is_sign, line_at};

@@ -1,88 +1,62 @@
 //! Expressions, specifiers and declarators that are no higher than a limit.
 ghost use Rattle.std.specs.Prelude.{◌≡◌, ◌≤◌, None, Some, IfOk, IfErr};
-ghost use Rattle.c_ast.specs.Heights.{height};
-ghost use Rattle.c_ast.specs.Trees.{ExprTree};
 ghost use Rattle.c_ast.specs.Seen.{declarator_seen, expr_seen, specifiers_seen};
-ghost use Rattle.c_readings.specs.Reading.{Read, State, no_higher};
 ghost use Rattle.c_readings.specs.Readers.{readers};
 ghost use Rattle.c_readings.specs.DeclarationReaders.{low_specifiers, whole_declarator};
 ghost use Rattle.c_readings.specs.StatementReaders.{low_expression};
 ghost use Rattle.c_expr.specs.State.{ahead};
 ghost use Rattle.c_decl.specs.Going.{Goes, Breaks, Fails};
 
-use crate::steps::{put, refuse};
-use c_ast::{Declarator, Expr, Specifiers, declarator_height, expr_height, specifiers_height};
+use crate::steps::put;
+use c_ast::{Declarator, Expr, Specifiers};
 use c_expr::{Parser, SyntaxFault, declared_name};
 
-/// An expression that was read, if it is no higher than the limit.
-fn if_low(p: &mut Parser, expression: Expr, limit: u32) -> Result<Expr, SyntaxFault>
-    requires limit { limit ≤ 500 }
-    ensures ok { IfOk result (λ e. (o : Read ExprTree) → o ≡ Some (expr_seen expression, ahead p.old) → no_higher height limit o ≡ Some (expr_seen e, ahead p.new)) }
-    ensures none { IfErr result (λ e. (o : Read ExprTree) (s : State) → o ≡ Some (expr_seen expression, s) → Fails e (no_higher height limit o)) }
-    ensures same { IfOk result (λ e. p.new ≡ p.old) }
-    ensures broken { IfErr result (λ e. Breaks p.old p.new e) }
-{
-    if expr_height(&expression) > limit {
-        return Err(refuse(p));
-    }
-    Ok(expression)
-}
-
 /// The expression at the place, perhaps with commas, if it is no higher than the limit.
-#[tactic(auto, unfolding(c_readings::specs::StatementReaders::low_expression))]
 pub fn low_expression(p: &mut Parser, limit: u32) -> Result<Expr, SyntaxFault>
     requires sound { p.old.fault ≡ None }
     requires limit { limit ≤ 500 }
-    ensures ok { IfOk result (λ e. low_expression (readers 500) limit (ahead p.old) ≡ Some (expr_seen e, ahead p.new)) }
-    ensures none { IfErr result (λ e. Fails e (low_expression (readers 500) limit (ahead p.old))) }
+    ensures ok { IfOk result (λ e. low_expression readers limit (ahead p.old) ≡ Some (expr_seen e, ahead p.new)) }
+    ensures none { IfErr result (λ e. Fails e (low_expression readers limit (ahead p.old))) }
     ensures going { IfOk result (λ e. Goes 1 p.old p.new) }
     ensures broken { IfErr result (λ e. Breaks p.old p.new e) }
 {
-    let expression = p.expression()?;
-    if_low(p, expression, limit)
+    p.expression_to(limit)
 }
 
 /// The assignment expression at the place, if it is no higher than the limit.
 pub(crate) fn low_assignment(p: &mut Parser, limit: u32) -> Result<Expr, SyntaxFault>
     requires sound { p.old.fault ≡ None }
     requires limit { limit ≤ 500 }
-    ensures ok { IfOk result (λ e. no_higher height limit ((readers 500).piece 1 (ahead p.old)) ≡ Some (expr_seen e, ahead p.new)) }
-    ensures none { IfErr result (λ e. Fails e (no_higher height limit ((readers 500).piece 1 (ahead p.old)))) }
+    ensures ok { IfOk result (λ e. (readers limit).piece 1 (ahead p.old) ≡ Some (expr_seen e, ahead p.new)) }
+    ensures none { IfErr result (λ e. Fails e ((readers limit).piece 1 (ahead p.old))) }
     ensures going { IfOk result (λ e. Goes 1 p.old p.new) }
     ensures broken { IfErr result (λ e. Breaks p.old p.new e) }
 {
-    let expression = p.assignment()?;
-    if_low(p, expression, limit)
+    p.assignment_to(limit)
 }
 
 /// The constant expression at the place, if it is no higher than the limit.
 pub fn low_constant(p: &mut Parser, limit: u32) -> Result<Expr, SyntaxFault>
     requires sound { p.old.fault ≡ None }
     requires limit { limit ≤ 500 }
-    ensures ok { IfOk result (λ e. no_higher height limit ((readers 500).piece 2 (ahead p.old)) ≡ Some (expr_seen e, ahead p.new)) }
-    ensures none { IfErr result (λ e. Fails e (no_higher height limit ((readers 500).piece 2 (ahead p.old)))) }
+    ensures ok { IfOk result (λ e. (readers limit).piece 2 (ahead p.old) ≡ Some (expr_seen e, ahead p.new)) }
+    ensures none { IfErr result (λ e. Fails e ((readers limit).piece 2 (ahead p.old))) }
     ensures going { IfOk result (λ e. Goes 1 p.old p.new) }
     ensures broken { IfErr result (λ e. Breaks p.old p.new e) }
 {
-    let expression = p.constant()?;
-    if_low(p, expression, limit)
+    p.constant_to(limit)
 }
 
 /// The specifiers at the place, if they are no higher than the limit.
-#[tactic(auto, unfolding(c_readings::specs::DeclarationReaders::low_specifiers))]
 pub fn low_specifiers(p: &mut Parser, limit: u32) -> Result<Specifiers, SyntaxFault>
     requires sound { p.old.fault ≡ None }
     requires limit { limit ≤ 500 }
-    ensures ok { IfOk result (λ s. low_specifiers (readers 500) limit (ahead p.old) ≡ Some (specifiers_seen s, ahead p.new)) }
-    ensures none { IfErr result (λ e. Fails e (low_specifiers (readers 500) limit (ahead p.old))) }
+    ensures ok { IfOk result (λ s. low_specifiers readers limit (ahead p.old) ≡ Some (specifiers_seen s, ahead p.new)) }
+    ensures none { IfErr result (λ e. Fails e (low_specifiers readers limit (ahead p.old))) }
     ensures going { IfOk result (λ s. Goes 1 p.old p.new) }
     ensures broken { IfErr result (λ e. Breaks p.old p.new e) }
 {
-    let specifiers = p.specifiers()?;
-    if specifiers_height(&specifiers) > limit {
-        return Err(refuse(p));
-    }
-    Ok(specifiers)
+    p.specifiers_to(limit)
 }
 
 /// The declarator at the place that declares a name and is no part of another, if it is no higher
@@ -95,15 +69,12 @@ pub fn whole_declarator(
 ) -> Result<Declarator, SyntaxFault>
     requires sound { p.old.fault ≡ None }
     requires limit { limit ≤ 500 }
-    ensures ok { IfOk result (λ d. whole_declarator (readers 500) limit typedef (ahead p.old) ≡ Some (declarator_seen d, ahead p.new)) }
-    ensures none { IfErr result (λ e. Fails e (whole_declarator (readers 500) limit typedef (ahead p.old))) }
+    ensures ok { IfOk result (λ d. whole_declarator readers limit typedef (ahead p.old) ≡ Some (declarator_seen d, ahead p.new)) }
+    ensures none { IfErr result (λ e. Fails e (whole_declarator readers limit typedef (ahead p.old))) }
     ensures going { IfOk result (λ d. Goes 0 p.old p.new) }
     ensures broken { IfErr result (λ e. Breaks p.old p.new e) }
 {
-    let declarator = p.declarator()?;
-    if declarator_height(&declarator) > limit {
-        return Err(refuse(p));
-    }
+    let declarator = p.declarator_to(limit)?;
     if let Some(name) = declared_name(&declarator) {
         put(p, name.as_slice(), typedef)?;
     }

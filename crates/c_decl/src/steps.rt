@@ -22,6 +22,16 @@ pub fn refuse(p: &mut Parser) -> SyntaxFault
     SyntaxFault::NoParse { line }
 }
 
+/// Nothing can be read behind the next token: the fault, which is kept.
+pub(crate) fn refuse_behind(p: &mut Parser) -> SyntaxFault
+    ensures { Breaks p.old p.new result }
+{
+    if let Some(_) = first(p) {
+        p.pass();
+    }
+    refuse(p)
+}
+
 /// No memory is left: the fault, which is kept.
 pub(crate) fn run_out(p: &mut Parser) -> SyntaxFault
     ensures kept { Breaks p.old p.new result }

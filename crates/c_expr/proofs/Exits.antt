@@ -1,12 +1,14 @@
 -- What readers give at a limit, and why nothing is read where a part of it isn't.
-use Rattle.std.proofs.Common.{◌≡◌, ◌≤◌, ◌-◌, ℕ, zero, suc, nat_le, Bool, true, false, None, Some, Result, Ok, Err, IfErr, IsErrAnd, refl, sym, subst, ap, inl, inr, arith}
+use Rattle.std.proofs.Common.{◌≡◌, ◌≤◌, ◌-◌, ◌==◌, if◌then◌else◌, ℕ, zero, suc, nat_le, Bool, true, false, Option, None, Some, Result, Ok, Err, IfErr, IsErrAnd, refl, sym, subst, ap, inl, inr, arith}
 use native.Mathlib.Numerals.{unary_clauses}
 use Rattle.std.proofs.lemmas.Bool.Decides.{nat_tests}
 use Rattle.c_ast.specs.Trees.{ExprTree}
 use Rattle.c_ast.specs.Heights.{height}
-use Rattle.c_ast.specs.Marks.{IsSign}
-use Rattle.c_readings.specs.Reading.{State, Read, answer}
-use Rattle.c_readings.specs.Readers.{readers, piece_above, whole_above, declarator_above, member_above}
+use Rattle.c_ast.specs.Marks.{IsSign, IsSpecifier}
+use Rattle.c_ast.specs.declared.operator.PrefixOperator.{PrefixOperator}
+use Rattle.c_readings.specs.Reading.{State, Read, answer, beyond, bind, one_sign}
+use Rattle.c_readings.specs.Readers.{readers, cast, enclosed, prefixed_by, signed_by, type_name, piece_above, whole_above, declarator_above, member_above}
+use Rattle.c_readings.specs.Words.{prefix_of}
 use Rattle.c_expr.specs.declared.stop.Stop.{Stop}
 use Rattle.c_expr.specs.Answers.{Fails}
 
@@ -41,6 +43,35 @@ pub no_member : (n : ℕ) (s : State) → n ≡ 0 → (readers n).member s ≡ N
 unfolding readers
 no_member zero s h = refl
 no_member (suc n) s h = absurd cc
+
+either_none : {A : Type 0} (b : Bool) (o p : Read A) → o ≡ None → p ≡ None → (if b then o else p) ≡ None
+either_none true o p e f = e
+either_none false o p e f = f
+
+no_enclosed : (line : ℕ) (s : State) → enclosed (readers 0) line s ≡ None
+unfolding readers enclosed
+no_enclosed line s = refl
+
+none_behind : {A B : Type 0} (o : Read A) (f : State → Read B) → ((t : State) → f t ≡ None) → bind o (λ x t. one_sign 3 t f) ≡ None
+none_behind None f h = refl
+none_behind (Some p) f h = either_none (answer (IsSign 3) p.1) (f (beyond p.1)) None (h (beyond p.1)) refl
+
+no_cast : (line : ℕ) (s : State) → cast (readers 0) line s ≡ None
+unfolding readers cast
+no_cast line s = none_behind (type_name (readers 0) s) (λ u. None) (λ u. refl)
+
+no_prefixed : (line : ℕ) (op : Option PrefixOperator) (s : State) → prefixed_by (readers 0) line op s ≡ None
+unfolding readers
+no_prefixed line None s = refl
+no_prefixed line (Some op) s = refl
+
+-- a sign before an operand that can't be read
+pub no_signed : (n level line k : ℕ) (s : State) → n ≡ 0 → signed_by (readers n) level line k s ≡ None
+no_signed zero level line k s h =
+    either_none (k == 2) _ _
+    (either_none (answer (IsSpecifier false) s) _ _ (either_none (nat_le level 13) _ _ (no_cast line s) refl) (no_enclosed line s))
+    (either_none (nat_le level 14) _ _ (no_prefixed line (prefix_of k) s) refl)
+no_signed (suc n) level line k s h = absurd cc
 
 -- ---- at another, what readers one lower give
 

@@ -46,7 +46,7 @@ left_behind old us bound short e =
 abbrev passed : MParser → InForce → List Token → MParser
 passed old names us = record old { place = length old.tokens - length us; names = names }
 
-pub took : (P : Production) → Exact P.spelled P.Fits P.goes_on P.high 500 P.least P.read → AreFronts P.spelled → (old new : MParser) (names names' : InForce) (x : P.Tree) (us : List Token) → old.place ≤ length old.tokens → length us ≤ length (drop old.place old.tokens) → old.fault ≡ None → new ≡ passed old names' us → P.read (before names old) ≡ Some (x, at names' old.source us) → Took P (before names old) old x new
+pub took : (P : Production) → Exact P.spelled P.Fits P.goes_on P.high P.most P.least P.read → AreFronts P.spelled → (old new : MParser) (names names' : InForce) (x : P.Tree) (us : List Token) → old.place ≤ length old.tokens → length us ≤ length (drop old.place old.tokens) → old.fault ≡ None → new ≡ passed old names' us → P.read (before names old) ≡ Some (x, at names' old.source us) → Took P (before names old) old x new
 unfolding ahead
 took P e f old new names names' x us bound short fault same y =
     let p = e.piece (before names old) x (at names' old.source us) y in
@@ -60,21 +60,21 @@ took P e f old new names names' x us bound short fault same y =
     }
 
 -- where the reader gives nothing, no tree stands
-pub none_stands : (P : Production) → Exact P.spelled P.Fits P.goes_on P.high 500 P.least P.read → (s : State) → P.read s ≡ None → Stands P s → ⊥
+pub none_stands : (P : Production) → Exact P.spelled P.Fits P.goes_on P.high P.most P.least P.read → (s : State) → P.read s ≡ None → Stands P s → ⊥
 none_stands P e s y st = subst (λ (o : Read P.Tree). Finds o st.tree st.others) y (e.found s st.tree st.others st.fits st.low st.stops st.runs)
 
 no_memory : {left : ℕ} {C : Type 0} → stop.NoParse left ≡ stop.Memory → C
 no_memory h = absurd cc
 
-pub refused : (P : Production) (s : State) (old new : MParser) → (P.read s ≡ None → Stands P s → ⊥) → (st : Stop) (fault : SyntaxFault) → old.fault ≡ None → Fails st (P.read s) → IsStopped old.tokens st fault → new ≡ record old { names = new.names; fault = Some fault } → Refused P s old new fault
-refused P s old new none (stop.NoParse left) (NoParse line) h f i k =
+pub refused : (P : Production) (s : State) (old new : MParser) → (P.read s ≡ None → Stands P s → ⊥) → (st : Stop) (fault : SyntaxFault) → old.fault ≡ None → Fails st (P.read s) → IsStopped old.tokens new.place st fault → old.place ≤ new.place → new ≡ record old { place = new.place; names = new.names; fault = Some fault } → Refused P s old new fault
+refused P s old new none (stop.NoParse left) (NoParse line) h f i w k =
     let e : P.read s ≡ None = elim f [ inl m ↦ no_memory m | inr n ↦ n ] in
-    NoPiece line h (none e) e i k
-refused P s old new none (stop.NoParse left) Memory h f i k = absurd i
-refused P s old new none (stop.NoParse left) (Lex fault) h f i k = absurd i
-refused P s old new none stop.Memory (NoParse line) h f i k = absurd i
-refused P s old new none stop.Memory Memory h f i k = NoMemory h k
-refused P s old new none stop.Memory (Lex fault) h f i k = absurd i
+    NoPiece line h (none e) e w i k
+refused P s old new none (stop.NoParse left) Memory h f i w k = absurd i
+refused P s old new none (stop.NoParse left) (Lex fault) h f i w k = absurd i
+refused P s old new none stop.Memory (NoParse line) h f i w k = absurd i
+refused P s old new none stop.Memory Memory h f i w k = NoMemory h w k
+refused P s old new none stop.Memory (Lex fault) h f i w k = absurd i
 
 -- ---- a declarator, of which nothing stands where nothing is left
 
@@ -83,8 +83,8 @@ unfolding readers declarator_above core pointers_in
 declarator_at_end zero outer names = refl
 declarator_at_end (suc n) outer names = refl
 
-none_at_end : (names : InForce) → Stands declarator record { names = names; rest = [] } → ⊥
-none_at_end names st = at_end st.tree st.others st.runs
+none_at_end : (limit : ℕ) (names : InForce) → Stands (declarator limit) record { names = names; rest = [] } → ⊥
+none_at_end limit names st = at_end st.tree st.others st.runs
   where
     at_end : (x : DeclaratorTree) (r : List Mark) → Runs (marks.declarator false true x r) names [] → ⊥
     at_end (Declarator l ps c ss) r h = let e = h.0 in absurd cc
@@ -114,7 +114,7 @@ same_state : (names : InForce) (source src : List ℕ) (tokens toks : List Token
 same_state names source src tokens toks place e f =
     ap (λ ts. at names src ts) (take_rest toks place ∙ ap (λ ts. drop place ts) f) ∙ ap (λ z. at names z (drop place tokens)) e
 
-pub took_by : (P : Production) → Exact P.spelled P.Fits P.goes_on P.high 500 P.least P.read → AreFronts P.spelled → (g : InForce → InForce) (source src : List ℕ) (tokens toks : List Token) (place many : ℕ) (names names' : InForce) (fault : Option SyntaxFault) (old : MParser) (x : P.Tree) (us : List Token) → src ≡ source → toks ≡ tokens → many ≡ length tokens → place ≤ length tokens → fault ≡ None → parser_of source tokens place names fault ≡ old → length us ≤ length (rest_of place toks) → P.read (at (g names) src (rest_of place toks)) ≡ Some (x, at names' src us) → Took P (before (g old.names) old) old x (parser_of source tokens (many - length us) names' fault)
+pub took_by : (P : Production) → Exact P.spelled P.Fits P.goes_on P.high P.most P.least P.read → AreFronts P.spelled → (g : InForce → InForce) (source src : List ℕ) (tokens toks : List Token) (place many : ℕ) (names names' : InForce) (fault : Option SyntaxFault) (old : MParser) (x : P.Tree) (us : List Token) → src ≡ source → toks ≡ tokens → many ≡ length tokens → place ≤ length tokens → fault ≡ None → parser_of source tokens place names fault ≡ old → length us ≤ length (rest_of place toks) → P.read (at (g names) src (rest_of place toks)) ≡ Some (x, at names' src us) → Took P (before (g old.names) old) old x (parser_of source tokens (many - length us) names' fault)
 took_by P e f g source src tokens toks place many names names' fault old x us es et em bound none v short y =
     let h = same_state (g names) source src tokens toks place es et in
     let first = parser_of source tokens place names fault in
@@ -124,40 +124,42 @@ took_by P e f g source src tokens toks place many names names' fault old x us es
     subst (λ (p : MParser). Took P (before (g p.names) p) p x (parser_of source tokens (many - length us) names' fault)) v
     (took P e f first (parser_of source tokens (many - length us) names' fault) (g names) names' x us bound short' none same y')
 
-pub refused_by : (P : Production) → Exact P.spelled P.Fits P.goes_on P.high 500 P.least P.read → (g : InForce → InForce) (source src : List ℕ) (tokens toks : List Token) (place : ℕ) (names names' : InForce) (fault : Option SyntaxFault) (old new : MParser) (st : Stop) (result : SyntaxFault) → src ≡ source → toks ≡ tokens → fault ≡ None → parser_of source tokens place names fault ≡ old → new ≡ parser_of source tokens place names' (Some result) → IsStopped tokens st result → Fails st (P.read (at (g names) src (rest_of place toks))) → Refused P (before (g old.names) old) old new result
-refused_by P e g source src tokens toks place names names' fault old new st result es et none v w i f =
+pub refused_by : (P : Production) → Exact P.spelled P.Fits P.goes_on P.high P.most P.least P.read → (g : InForce → InForce) (source src : List ℕ) (tokens toks : List Token) (place place' : ℕ) (names names' : InForce) (fault : Option SyntaxFault) (old new : MParser) (st : Stop) (result : SyntaxFault) → src ≡ source → toks ≡ tokens → fault ≡ None → parser_of source tokens place names fault ≡ old → place ≤ place' → new ≡ parser_of source tokens place' names' (Some result) → IsStopped tokens place' st result → Fails st (P.read (at (g names) src (rest_of place toks))) → Refused P (before (g old.names) old) old new result
+refused_by P e g source src tokens toks place place' names names' fault old new st result es et none v far w i f =
     let h = same_state (g names) source src tokens toks place es et in
     let first = parser_of source tokens place names fault in
+    let last = parser_of source tokens place' names' (Some result) in
     subst (λ (p : MParser). Refused P (before (g p.names) p) p new result) v
-    (refused P (before (g names) first) first new (none_stands P e (before (g names) first)) st result none
-    (subst (λ (s : State). Fails st (P.read s)) h f) i (w ∙ ap (λ n. parser_of source tokens place n (Some result)) (sym (ap (λ (p : MParser). p.names) w))))
+    (subst (λ (q : MParser). Refused P (before (g names) first) first q result) (sym w)
+    (refused P (before (g names) first) first last (none_stands P e (before (g names) first)) st result none
+    (subst (λ (s : State). Fails st (P.read s)) h f) i far refl))
 
 pub again : (P : Production) (s : State) (fault : SyntaxFault) (o : Option SyntaxFault) (old : MParser) → old.fault ≡ o → o ≡ Some fault → Refused P s old old fault
 again P s fault o old e f = Again fault (e ∙ f) refl
 
 -- the reader of declarators, as it is exact
-abbrev pub some_declarator : State → Read DeclaratorTree
-some_declarator s = where_left s.rest ((readers 500).declarator false true s)
+abbrev pub some_declarator : ℕ → State → Read DeclaratorTree
+some_declarator n s = where_left s.rest ((readers n).declarator false true s)
 
--- the readers that the calls ask, exact up to 500
+-- the readers that the calls ask, exact up to each limit
 
-pub whole_exact : ((n : ℕ) → (readers n).limit ≡ n) → ((n : ℕ) → AreExact (readers n)) → Exact marks.expr Parts goes_on_whole height 500 1 (readers 500).whole
-whole_exact l e = subst (λ (n : ℕ). Exact marks.expr Parts goes_on_whole height n 1 (readers 500).whole) (l 500) (e 500).whole
+pub whole_exact : ((n : ℕ) → (readers n).limit ≡ n) → ((n : ℕ) → AreExact (readers n)) → (n : ℕ) → Exact marks.expr Parts goes_on_whole height n 1 (readers n).whole
+whole_exact l e n = subst (λ (k : ℕ). Exact marks.expr Parts goes_on_whole height k 1 (readers n).whole) (l n) (e n).whole
 
-pub piece_exact : ((n : ℕ) → (readers n).limit ≡ n) → ((n : ℕ) → AreExact (readers n)) → (level : ℕ) → (1 ≤ level) × (level ≤ 15) → Exact marks.expr (FitsAt level) (goes_on level) height 500 1 ((readers 500).piece level)
-piece_exact l e level h = subst (λ (n : ℕ). Exact marks.expr (FitsAt level) (goes_on level) height n 1 ((readers 500).piece level)) (l 500) ((e 500).piece level h.0 h.1)
+pub piece_exact : ((n : ℕ) → (readers n).limit ≡ n) → ((n : ℕ) → AreExact (readers n)) → (level : ℕ) → (1 ≤ level) × (level ≤ 15) → (n : ℕ) → Exact marks.expr (FitsAt level) (goes_on level) height n 1 ((readers n).piece level)
+piece_exact l e level h n = subst (λ (k : ℕ). Exact marks.expr (FitsAt level) (goes_on level) height k 1 ((readers n).piece level)) (l n) ((e n).piece level h.0 h.1)
 
-pub type_name_exact : ((n : ℕ) → (readers n).limit ≡ n) → ((n : ℕ) → TypesAreExact (readers n)) → Exact marks.type_name FitsTypeName nothing_more type_name_height 500 1 (type_name (readers 500))
-type_name_exact l e = subst (λ (n : ℕ). Exact marks.type_name FitsTypeName nothing_more type_name_height n 1 (type_name (readers 500))) (l 500) (e 500).type_name
+pub type_name_exact : ((n : ℕ) → (readers n).limit ≡ n) → ((n : ℕ) → TypesAreExact (readers n)) → (n : ℕ) → Exact marks.type_name FitsTypeName nothing_more type_name_height n 1 (type_name (readers n))
+type_name_exact l e n = subst (λ (k : ℕ). Exact marks.type_name FitsTypeName nothing_more type_name_height k 1 (type_name (readers n))) (l n) (e n).type_name
 
-pub specifiers_exact : ((n : ℕ) → (readers n).limit ≡ n) → ((n : ℕ) → TypesAreExact (readers n)) → Exact marks.specifiers FitsSpecifiers nothing_more specifiers_height 500 1 (specifiers (readers 500))
-specifiers_exact l e = subst (λ (n : ℕ). Exact marks.specifiers FitsSpecifiers nothing_more specifiers_height n 1 (specifiers (readers 500))) (l 500) (e 500).specifiers
+pub specifiers_exact : ((n : ℕ) → (readers n).limit ≡ n) → ((n : ℕ) → TypesAreExact (readers n)) → (n : ℕ) → Exact marks.specifiers FitsSpecifiers nothing_more specifiers_height n 1 (specifiers (readers n))
+specifiers_exact l e n = subst (λ (k : ℕ). Exact marks.specifiers FitsSpecifiers nothing_more specifiers_height k 1 (specifiers (readers n))) (l n) (e n).specifiers
 
-pub declarator_exact : ((n : ℕ) → (readers n).limit ≡ n) → ((n : ℕ) → AreExact (readers n)) → Exact (marks.declarator false true) (FitsFree false) nothing_more declarator_height 500 0 some_declarator
-declarator_exact l e = subst (λ (n : ℕ). Exact (marks.declarator false true) (FitsFree false) nothing_more declarator_height n 0 some_declarator) (l 500) ((e 500).declarator false true)
+pub declarator_exact : ((n : ℕ) → (readers n).limit ≡ n) → ((n : ℕ) → AreExact (readers n)) → (n : ℕ) → Exact (marks.declarator false true) (FitsFree false) nothing_more declarator_height n 0 (some_declarator n)
+declarator_exact l e n = subst (λ (k : ℕ). Exact (marks.declarator false true) (FitsFree false) nothing_more declarator_height k 0 (some_declarator n)) (l n) ((e n).declarator false true)
 
-pub declarator_given : (names given : InForce) (ts : List Placed) (x : DeclaratorTree) (t : State) → given ≡ names → (readers 500).declarator false true record { names = given; rest = ts } ≡ Some (x, t) → some_declarator record { names = names; rest = ts } ≡ Some (x, t)
-declarator_given names given ts x t e y = subst (λ (n : InForce). some_declarator record { names = n; rest = ts } ≡ Some (x, t)) e (where_given 500 given ts x t y)
+pub declarator_given : (limit : ℕ) (names given : InForce) (ts : List Placed) (x : DeclaratorTree) (t : State) → given ≡ names → (readers limit).declarator false true record { names = given; rest = ts } ≡ Some (x, t) → some_declarator limit record { names = names; rest = ts } ≡ Some (x, t)
+declarator_given limit names given ts x t e y = subst (λ (n : InForce). some_declarator limit record { names = n; rest = ts } ≡ Some (x, t)) e (where_given limit given ts x t y)
 
-pub declarator_fails : (names given : InForce) (ts : List Placed) (st : Stop) → given ≡ names → Fails st ((readers 500).declarator false true record { names = given; rest = ts }) → Fails st (some_declarator record { names = names; rest = ts })
-declarator_fails names given ts st e f = subst (λ (n : InForce). Fails st (some_declarator record { names = n; rest = ts })) e (elim f [ inl m ↦ inl m | inr y ↦ inr (where_none 500 given ts y) ])
+pub declarator_fails : (limit : ℕ) (names given : InForce) (ts : List Placed) (st : Stop) → given ≡ names → Fails st ((readers limit).declarator false true record { names = given; rest = ts }) → Fails st (some_declarator limit record { names = names; rest = ts })
+declarator_fails limit names given ts st e f = subst (λ (n : InForce). Fails st (some_declarator limit record { names = n; rest = ts })) e (elim f [ inl m ↦ inl m | inr y ↦ inr (where_none limit given ts y) ])

@@ -7,6 +7,7 @@ ghost use Rattle.c_readings.specs.Readers.{core, pointers_on, qualifier_of, qual
 ghost use Rattle.c_ast.specs.Seen.{core_seen, declarator_seen};
 
 use crate::found::Found;
+use crate::names_met::NamesMet;
 use crate::questions::begins_core;
 use crate::stop::Stop;
 use crate::suffixes::suffixes_at;
@@ -80,12 +81,13 @@ fn pointers_at<'t>(
     Ok((pointers, rest))
 }
 
-/// The declarator that is next.
+/// The declarator that is next, whose names that no abstract one has are noted.
 #[cycle(syntax)]
 #[tactic(auto, using(crate::proofs::Exits::no_declarator, crate::proofs::Exits::declarator_is), unfolding(c_readings::specs::Readers::declarator_above))]
 pub(crate) fn declarator_at<'t>(
     text: &Text,
     names: &mut Names,
+    met: &mut NamesMet,
     shape: Shape,
     tokens: &'t [Token],
     limit: u32,
@@ -102,9 +104,9 @@ pub(crate) fn declarator_at<'t>(
     }
     let line = line_of(tokens);
     let (pointers, behind) = pointers_at(text, tokens)?;
-    let core = core_at(text, names, shape, behind, limit - 1)?;
+    let core = core_at(text, names, met, shape, behind, limit - 1)?;
     let own = shape.outer && is_own(&core.tree);
-    let suffixes = suffixes_at(text, names, own, core.rest, limit - 1)?;
+    let suffixes = suffixes_at(text, names, met, own, core.rest, limit - 1)?;
     Ok(Found {
         tree: declarator(line, pointers, core.tree, suffixes.tree),
         height: core.height.max(suffixes.height) + 1,
@@ -118,6 +120,7 @@ pub(crate) fn declarator_at<'t>(
 fn core_at<'t>(
     text: &Text,
     names: &mut Names,
+    met: &mut NamesMet,
     shape: Shape,
     tokens: &'t [Token],
     limit: u32,
@@ -137,6 +140,7 @@ fn core_at<'t>(
         });
     }
     if let Some((token, rest)) = name(text, tokens) {
+        met.declare(tokens.len());
         return Ok(Found {
             tree: declared(text.name(token)?),
             height: 0,
@@ -144,7 +148,7 @@ fn core_at<'t>(
         });
     }
     let behind = expect(text, tokens, sign::OPEN)?;
-    let inside = declarator_at(text, names, shape, behind, limit)?;
+    let inside = declarator_at(text, names, met, shape, behind, limit)?;
     let rest = expect(text, inside.rest, sign::CLOSE)?;
     Ok(Found {
         tree: inner(text.alloc, inside.tree)?,

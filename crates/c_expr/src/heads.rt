@@ -20,7 +20,7 @@ use crate::expressions::{piece_at, whole_at};
 use crate::found::Found;
 use crate::questions::{begins_specifier, begins_type};
 use crate::stop::Stop;
-use crate::tokens::{Text, expect, first, next_literal, no_parse};
+use crate::tokens::{Text, expect, first, next_literal, no_parse, no_parse_before};
 use crate::type_names::type_name_at;
 use crate::words::{operand_level, prefix_of};
 use c_ast::{Class, Expr, PrefixOperator, keyword, sign};
@@ -129,13 +129,14 @@ fn variable_at<'t>(
     ensures err { IfErr result (λ e. (e ≡ NoMemory) ⊎ (is_typedef names.now (bytes_of text.now token) ≡ true)) }
 {
     if names.is_typedef(text.bytes(token)) {
-        return Err(no_parse(rest));
+        return Err(no_parse_before(rest));
     }
     Ok(leaf(variable(token.line, text.name(token)?), rest))
 }
 
 /// What stands behind the sign, the first token of an expression.
 #[cycle(syntax)]
+#[tactic(auto, using(crate::proofs::Exits::no_signed))]
 fn signed_at<'t>(
     text: &Text,
     names: &mut Names,
@@ -151,6 +152,9 @@ fn signed_at<'t>(
     ensures low { IfOk result (λ f. f.height ≤ limit + 1) }
     ensures shorter { IfOk result (λ f. length f.rest.now < length tokens.now) }
 {
+    if limit == 0 {
+        return Err(no_parse_before(tokens));
+    }
     if sign == sign::OPEN {
         if !begins_specifier(text, names, false, tokens) {
             return enclosed_at(text, names, spot.line, tokens, limit);
@@ -164,7 +168,7 @@ fn signed_at<'t>(
         Some(operator) if spot.level <= 14 => {
             prefixed_at(text, names, spot.line, operator, tokens, limit)
         }
-        _ => Err(no_parse(tokens)),
+        _ => Err(no_parse_before(tokens)),
     }
 }
 

@@ -10,6 +10,7 @@ mod found;
 mod heads;
 mod link;
 mod links;
+mod names_met;
 mod parameters;
 mod parser;
 mod questions;

@@ -11,6 +11,7 @@ ghost use Rattle.c_readings.specs.Readers.{either, name_list, parameter, paramet
 ghost use Rattle.c_ast.specs.Seen.{maybe_declarator_seen, parameter_seen};
 
 use crate::found::Found;
+use crate::names_met::NamesMet;
 use crate::questions::after_comma;
 use crate::specifiers::specifiers_at;
 use crate::stop::Stop;
@@ -166,9 +167,20 @@ fn parameter_at<'t>(
 {
     let line = line_of(tokens);
     let specifiers = specifiers_at(text, names, tokens, limit)?;
-    let declarator = maybe_declarator_at(text, names, true, specifiers.rest, limit)?;
+    let mut met = NamesMet::none();
+    let declarator = match maybe_declarator_at(
+        text,
+        names,
+        &mut met,
+        true,
+        specifiers.rest,
+        limit,
+    ) {
+        Ok(declarator) => declarator,
+        Err(stop) => return Err(met.in_parameter(stop)),
+    };
     if !is_either(&declarator.tree) {
-        return Err(no_parse(specifiers.rest));
+        return Err(met.in_parameter(no_parse(declarator.rest)));
     }
     put_declared(names, &declarator.tree, has_typedef(&specifiers.tree))?;
     Ok(Found {

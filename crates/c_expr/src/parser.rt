@@ -6,10 +6,11 @@ ghost use Rattle.c_lexer.specs.Tokens.{first_place, AreTokens};
 ghost use Rattle.c_expr.specs.declared.syntax_fault.SyntaxFault.TheVariants.{Memory as OutOfMemory, NoParse};
 ghost use Rattle.c_expr.specs.Productions.{declarator, expression, specifiers, type_name, whole_expression};
 ghost use Rattle.c_ast.specs.Seen.{declarator_seen, expr_seen, specifiers_seen, type_name_seen};
-ghost use Rattle.c_expr.specs.State.{ahead, forgetting, IsLine, IsStopped, IsUncut, Refused, Took};
+ghost use Rattle.c_expr.specs.State.{ahead, forgetting, line_at, IsStopped, IsUncut, Refused, Took};
 
 use crate::declarators::{Shape, declarator_at};
 use crate::expressions::{piece_at, whole_at};
+use crate::names_met::NamesMet;
 use crate::specifiers::specifiers_at;
 use crate::stop::Stop;
 use crate::syntax_fault::SyntaxFault;
@@ -134,9 +135,9 @@ impl<'s> Parser<'s> {
     /// The line of the token at the place, behind the end that of the last token, and 1 where there is
     /// none.
     pub fn line(&self) -> u32
-        ensures { IsLine self.now.tokens result }
+        ensures { result ≡ line_at self.now.tokens self.now.place }
     {
-        self.line_before(self.tokens.len() - self.place)
+        self.line_at(self.place)
     }
 
     /// Takes the token at the place.
@@ -180,10 +181,8 @@ impl<'s> Parser<'s> {
         self.names.put(name, typedef)
     }
 
-    /// From here on each call for a production answers NoParse with this line, which is the first
-    /// one or that of a token.
+    /// From here on each call for a production answers NoParse with this line.
     pub fn fail(&mut self, line: u32)
-        requires { IsLine self.old.tokens line }
         ensures { self.new ≡ record self.old { fault = Some (NoParse line) } }
     {
         self.fault = Some(SyntaxFault::NoParse { line });
@@ -203,27 +202,34 @@ impl<'s> Parser<'s> {
         self.fault
     }
 
-    /// The line of the first of so many tokens at the end, or of the last token, or the first line.
-    fn line_before(&self, left: usize) -> u32
-        ensures { IsLine self.now.tokens result }
+    /// The line of the token at the place, behind the end that of the last token, and 1 where there is
+    /// none.
+    fn line_at(&self, place: usize) -> u32
+        ensures { result ≡ line_at self.now.tokens place }
     {
-        let many = self.tokens.len();
-        let place = many.saturating_sub(left);
-        match self.tokens.get(place.min(many.saturating_sub(1))) {
+        match self
+            .tokens
+            .get(place.min(self.tokens.len().saturating_sub(1)))
+        {
             Some(token) => token.line,
             None => 1,
         }
     }
 
-    /// The fault of a reader that stopped, which is kept.
+    /// The fault of a reader that stopped, which is kept. Where nothing could be read, the token by
+    /// which nothing goes on is at the place behind it.
     fn stopped(&mut self, stop: Stop) -> SyntaxFault
-        ensures kept { self.new ≡ record self.old { fault = Some result } }
-        ensures fault { IsStopped self.old.tokens stop result }
+        ensures kept { self.new ≡ record self.old { place = self.new.place; fault = Some result } }
+        ensures further { self.old.place ≤ self.new.place }
+        ensures fault { IsStopped self.old.tokens self.new.place stop result }
     {
         let fault = match stop {
-            Stop::NoParse { left } => SyntaxFault::NoParse {
-                line: self.line_before(left),
-            },
+            Stop::NoParse { left } => {
+                let place = self.place.max(self.tokens.len().saturating_sub(left));
+                self.place = place;
+                let line = self.line_at(place);
+                SyntaxFault::NoParse { line }
+            }
             Stop::Memory => SyntaxFault::Memory,
         };
         self.fault = Some(fault);
@@ -234,11 +240,20 @@ impl<'s> Parser<'s> {
     ///
     /// A call for a production takes the longest piece of it at the place, no higher than 500, from
     /// which the next token doesn't go on. NoParse comes exactly where none stands there, with the
-    /// line of a token, and Memory where an allocation is refused; the fault is answered again by
-    /// each later call.
+    /// line of the token by which nothing goes on, which is at the place from there on; and Memory
+    /// where an allocation is refused. The fault is answered again by each later call.
     pub fn expression(&mut self) -> Result<Expr, SyntaxFault>
-        ensures ok { IfOk result (λ e. Took whole_expression (ahead self.old) self.old (expr_seen e) self.new) }
-        ensures err { IfErr result (λ e. Refused whole_expression (ahead self.old) self.old self.new e) }
+        ensures ok { IfOk result (λ e. Took (whole_expression 500) (ahead self.old) self.old (expr_seen e) self.new) }
+        ensures err { IfErr result (λ e. Refused (whole_expression 500) (ahead self.old) self.old self.new e) }
+    {
+        self.expression_to(MOST_HIGH)
+    }
+
+    /// The expression at the place, perhaps with commas, that is no higher than the limit.
+    pub fn expression_to(&mut self, limit: u32) -> Result<Expr, SyntaxFault>
+        requires limit { limit ≤ 500 }
+        ensures ok { IfOk result (λ e. Took (whole_expression limit) (ahead self.old) self.old (expr_seen e) self.new) }
+        ensures err { IfErr result (λ e. Refused (whole_expression limit) (ahead self.old) self.old self.new e) }
     {
         readers_are_exact();
         pieces_are_fronts();
@@ -247,7 +262,7 @@ impl<'s> Parser<'s> {
         }
         let text = Text::new(self.alloc, self.source);
         let tokens = &self.tokens[self.place..];
-        match whole_at(&text, &mut self.names, tokens, MOST_HIGH) {
+        match whole_at(&text, &mut self.names, tokens, limit) {
             Ok(found) => {
                 self.place = self.tokens.len() - found.rest.len();
                 Ok(found.tree)
@@ -256,11 +271,12 @@ impl<'s> Parser<'s> {
         }
     }
 
-    /// The expression of the level at the place.
-    fn piece(&mut self, level: u8) -> Result<Expr, SyntaxFault>
+    /// The expression of the level at the place, no higher than the limit.
+    fn piece(&mut self, level: u8, limit: u32) -> Result<Expr, SyntaxFault>
         requires level { (1 ≤ level) × (level ≤ 15) }
-        ensures ok { IfOk result (λ e. Took (expression level) (ahead self.old) self.old (expr_seen e) self.new) }
-        ensures err { IfErr result (λ e. Refused (expression level) (ahead self.old) self.old self.new e) }
+        requires limit { limit ≤ 500 }
+        ensures ok { IfOk result (λ e. Took (expression level limit) (ahead self.old) self.old (expr_seen e) self.new) }
+        ensures err { IfErr result (λ e. Refused (expression level limit) (ahead self.old) self.old self.new e) }
     {
         readers_are_exact();
         pieces_are_fronts();
@@ -269,7 +285,7 @@ impl<'s> Parser<'s> {
         }
         let text = Text::new(self.alloc, self.source);
         let tokens = &self.tokens[self.place..];
-        match piece_at(&text, &mut self.names, level, tokens, MOST_HIGH) {
+        match piece_at(&text, &mut self.names, level, tokens, limit) {
             Ok(found) => {
                 self.place = self.tokens.len() - found.rest.len();
                 Ok(found.tree)
@@ -280,24 +296,42 @@ impl<'s> Parser<'s> {
 
     /// The assignment expression at the place, as `expression`. Source: C89 3.3.16.
     pub fn assignment(&mut self) -> Result<Expr, SyntaxFault>
-        ensures ok { IfOk result (λ e. Took (expression 1) (ahead self.old) self.old (expr_seen e) self.new) }
-        ensures err { IfErr result (λ e. Refused (expression 1) (ahead self.old) self.old self.new e) }
+        ensures ok { IfOk result (λ e. Took (expression 1 500) (ahead self.old) self.old (expr_seen e) self.new) }
+        ensures err { IfErr result (λ e. Refused (expression 1 500) (ahead self.old) self.old self.new e) }
     {
-        self.piece(1)
+        self.piece(1, MOST_HIGH)
+    }
+
+    /// The assignment expression at the place that is no higher than the limit.
+    pub fn assignment_to(&mut self, limit: u32) -> Result<Expr, SyntaxFault>
+        requires limit { limit ≤ 500 }
+        ensures ok { IfOk result (λ e. Took (expression 1 limit) (ahead self.old) self.old (expr_seen e) self.new) }
+        ensures err { IfErr result (λ e. Refused (expression 1 limit) (ahead self.old) self.old self.new e) }
+    {
+        self.piece(1, limit)
     }
 
     /// The constant expression at the place, as `expression`. Source: C89 3.4.
     pub fn constant(&mut self) -> Result<Expr, SyntaxFault>
-        ensures ok { IfOk result (λ e. Took (expression 2) (ahead self.old) self.old (expr_seen e) self.new) }
-        ensures err { IfErr result (λ e. Refused (expression 2) (ahead self.old) self.old self.new e) }
+        ensures ok { IfOk result (λ e. Took (expression 2 500) (ahead self.old) self.old (expr_seen e) self.new) }
+        ensures err { IfErr result (λ e. Refused (expression 2 500) (ahead self.old) self.old self.new e) }
     {
-        self.piece(2)
+        self.piece(2, MOST_HIGH)
+    }
+
+    /// The constant expression at the place that is no higher than the limit.
+    pub fn constant_to(&mut self, limit: u32) -> Result<Expr, SyntaxFault>
+        requires limit { limit ≤ 500 }
+        ensures ok { IfOk result (λ e. Took (expression 2 limit) (ahead self.old) self.old (expr_seen e) self.new) }
+        ensures err { IfErr result (λ e. Refused (expression 2 limit) (ahead self.old) self.old self.new e) }
+    {
+        self.piece(2, limit)
     }
 
     /// The type's name at the place, as `expression`. Source: C89 3.5.5.
     pub fn type_name(&mut self) -> Result<TypeName, SyntaxFault>
-        ensures ok { IfOk result (λ x. Took type_name (ahead self.old) self.old (type_name_seen x) self.new) }
-        ensures err { IfErr result (λ e. Refused type_name (ahead self.old) self.old self.new e) }
+        ensures ok { IfOk result (λ x. Took (type_name 500) (ahead self.old) self.old (type_name_seen x) self.new) }
+        ensures err { IfErr result (λ e. Refused (type_name 500) (ahead self.old) self.old self.new e) }
     {
         readers_are_exact();
         pieces_are_fronts();
@@ -317,8 +351,17 @@ impl<'s> Parser<'s> {
 
     /// The specifiers at the place, as `expression`. Source: C89 3.5.
     pub fn specifiers(&mut self) -> Result<Specifiers, SyntaxFault>
-        ensures ok { IfOk result (λ x. Took specifiers (ahead self.old) self.old (specifiers_seen x) self.new) }
-        ensures err { IfErr result (λ e. Refused specifiers (ahead self.old) self.old self.new e) }
+        ensures ok { IfOk result (λ x. Took (specifiers 500) (ahead self.old) self.old (specifiers_seen x) self.new) }
+        ensures err { IfErr result (λ e. Refused (specifiers 500) (ahead self.old) self.old self.new e) }
+    {
+        self.specifiers_to(MOST_HIGH)
+    }
+
+    /// The specifiers at the place that are no higher than the limit.
+    pub fn specifiers_to(&mut self, limit: u32) -> Result<Specifiers, SyntaxFault>
+        requires limit { limit ≤ 500 }
+        ensures ok { IfOk result (λ x. Took (specifiers limit) (ahead self.old) self.old (specifiers_seen x) self.new) }
+        ensures err { IfErr result (λ e. Refused (specifiers limit) (ahead self.old) self.old self.new e) }
     {
         readers_are_exact();
         pieces_are_fronts();
@@ -327,7 +370,7 @@ impl<'s> Parser<'s> {
         }
         let text = Text::new(self.alloc, self.source);
         let tokens = &self.tokens[self.place..];
-        match specifiers_at(&text, &mut self.names, tokens, MOST_HIGH) {
+        match specifiers_at(&text, &mut self.names, tokens, limit) {
             Ok(found) => {
                 self.place = self.tokens.len() - found.rest.len();
                 Ok(found.tree)
@@ -340,8 +383,17 @@ impl<'s> Parser<'s> {
     /// another. The names of its own parameter list, if it has one, are kept, and none else.
     /// Source: C89 3.5.4.
     pub fn declarator(&mut self) -> Result<Declarator, SyntaxFault>
-        ensures ok { IfOk result (λ x. Took declarator (forgetting self.old) self.old (declarator_seen x) self.new) }
-        ensures err { IfErr result (λ e. Refused declarator (forgetting self.old) self.old self.new e) }
+        ensures ok { IfOk result (λ x. Took (declarator 500) (forgetting self.old) self.old (declarator_seen x) self.new) }
+        ensures err { IfErr result (λ e. Refused (declarator 500) (forgetting self.old) self.old self.new e) }
+    {
+        self.declarator_to(MOST_HIGH)
+    }
+
+    /// The declarator at the place, as `declarator`, that is no higher than the limit.
+    pub fn declarator_to(&mut self, limit: u32) -> Result<Declarator, SyntaxFault>
+        requires limit { limit ≤ 500 }
+        ensures ok { IfOk result (λ x. Took (declarator limit) (forgetting self.old) self.old (declarator_seen x) self.new) }
+        ensures err { IfErr result (λ e. Refused (declarator limit) (forgetting self.old) self.old self.new e) }
     {
         readers_are_exact();
         pieces_are_fronts();
@@ -355,7 +407,8 @@ impl<'s> Parser<'s> {
             free: false,
             outer: true,
         };
-        match declarator_at(&text, &mut self.names, shape, tokens, MOST_HIGH) {
+        let mut met = NamesMet::none();
+        match declarator_at(&text, &mut self.names, &mut met, shape, tokens, limit) {
             Ok(found) => {
                 self.place = self.tokens.len() - found.rest.len();
                 Ok(found.tree)

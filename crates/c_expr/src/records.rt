@@ -9,6 +9,7 @@ ghost use Rattle.c_ast.specs.Seen.{field_seen, maybe_expr_seen, member_seen, spe
 
 use crate::expressions::piece_at;
 use crate::found::Found;
+use crate::names_met::NamesMet;
 use crate::questions::is_elsewhere;
 use crate::specifiers::specifiers_at;
 use crate::stop::Stop;
@@ -221,7 +222,8 @@ fn field_at<'t>(
     ensures shorter { IfOk result (λ f. length f.rest.now ≤ length tokens.now) }
 {
     let line = line_of(tokens);
-    let declarator = maybe_declarator_at(text, names, false, tokens, limit)?;
+    let mut met = NamesMet::none();
+    let declarator = maybe_declarator_at(text, names, &mut met, false, tokens, limit)?;
     let width = constant_behind(text, names, sign::COLON, declarator.rest, limit)?;
     if declarator.tree.is_none() && width.tree.is_none() {
         return Err(no_parse(tokens));

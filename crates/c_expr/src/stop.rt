@@ -1,3 +1,6 @@
+ghost use Rattle.std.specs.Prelude.{◌≡◌};
+ghost use Rattle.c_expr.specs.declared.stop.Stop.TheVariants.{Memory as NoMemory};
+
 use lcc_base::Memory;
 use std::alloc::AllocFailed;
 
@@ -11,6 +14,20 @@ pub(crate) enum Stop {
     },
     /// An allocation was refused.
     Memory,
+}
+
+impl Stop {
+    /// The same for a reader that stopped no later than before so many tokens.
+    pub(crate) fn no_later(self, many: usize) -> Stop
+        ensures { self ≡ NoMemory → result ≡ NoMemory }
+    {
+        match self {
+            Stop::NoParse { left } => Stop::NoParse {
+                left: left.max(many),
+            },
+            Stop::Memory => Stop::Memory,
+        }
+    }
 }
 
 impl From<Memory> for Stop {

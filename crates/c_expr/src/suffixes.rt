@@ -10,6 +10,7 @@ ghost use Rattle.c_ast.specs.Seen.{suffix_seen};
 
 use crate::expressions::piece_at;
 use crate::found::Found;
+use crate::names_met::NamesMet;
 use crate::parameters::{names_at, parameters_at};
 use crate::questions::{begins_names, begins_suffix};
 use crate::stop::Stop;
@@ -27,6 +28,7 @@ use names_in_force::Names;
 pub(crate) fn suffixes_at<'t>(
     text: &Text,
     names: &mut Names,
+    met: &mut NamesMet,
     own: bool,
     tokens: &'t [Token],
     limit: u32,
@@ -43,7 +45,7 @@ pub(crate) fn suffixes_at<'t>(
     let mut height: u32 = 0;
     let mut rest = tokens;
     while begins_suffix(text, names, rest) {
-        let found = suffix_at(text, names, own, rest, limit)?;
+        let found = suffix_at(text, names, met, own, rest, limit)?;
         own = false;
         height = height.max(found.height);
         rest = found.rest;
@@ -62,6 +64,7 @@ pub(crate) fn suffixes_at<'t>(
 fn suffix_at<'t>(
     text: &Text,
     names: &mut Names,
+    met: &mut NamesMet,
     own: bool,
     tokens: &'t [Token],
     limit: u32,
@@ -79,7 +82,7 @@ fn suffix_at<'t>(
     }
     let behind = expect(text, tokens, sign::OPEN)?;
     names.open()?;
-    let found = list_at(text, names, line, behind, limit)?;
+    let found = list_at(text, names, met, line, behind, limit)?;
     end_list(names, own)?;
     Ok(found)
 }
@@ -134,6 +137,7 @@ fn size_at<'t>(
 fn list_at<'t>(
     text: &Text,
     names: &mut Names,
+    met: &mut NamesMet,
     line: u32,
     tokens: &'t [Token],
     limit: u32,
@@ -153,6 +157,7 @@ fn list_at<'t>(
         });
     }
     if begins_names(text, names, tokens) {
+        met.list(tokens.len());
         let (list, rest) = names_at(text, names, tokens)?;
         return Ok(Found {
             tree: name_list(line, list),

@@ -7,7 +7,7 @@ pub enum SyntaxFault {
     /// No piece of the production stands there, or what is next goes on from it.
     #[error("line {line}: no parse")]
     NoParse {
-        /// A line of the source: that of the first token which wasn't taken, or the last one's.
+        /// The line of the token by which nothing goes on, or at the end that of the last token.
         line: u32,
     },
     /// An allocation was refused.

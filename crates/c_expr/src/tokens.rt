@@ -67,6 +67,13 @@ pub(crate) fn no_parse(left: &[Token]) -> Stop {
     Stop::NoParse { left: left.len() }
 }
 
+/// No piece stands before the token that these are behind.
+pub(crate) fn no_parse_before(behind: &[Token]) -> Stop {
+    Stop::NoParse {
+        left: behind.len().saturating_add(1),
+    }
+}
+
 /// The token that is next, and those behind it.
 pub(crate) fn first<'t>(tokens: &'t [Token]) -> Option<(Token, &'t [Token])>
     ensures some { IfSome result (λ r. tokens.now ≡ r.0 ∷ r.1.now) }

@@ -7,6 +7,7 @@ ghost use Rattle.c_ast.specs.Seen.{maybe_declarator_seen, type_name_seen};
 
 use crate::declarators::{Shape, declarator_at};
 use crate::found::Found;
+use crate::names_met::NamesMet;
 use crate::questions::begins_declarator;
 use crate::specifiers::specifiers_at;
 use crate::stop::Stop;
@@ -23,6 +24,7 @@ use names_in_force::Names;
 pub(crate) fn maybe_declarator_at<'t>(
     text: &Text,
     names: &mut Names,
+    met: &mut NamesMet,
     free: bool,
     tokens: &'t [Token],
     limit: u32,
@@ -41,7 +43,14 @@ pub(crate) fn maybe_declarator_at<'t>(
             rest: tokens,
         });
     }
-    let inside = declarator_at(text, names, Shape { free, outer: false }, tokens, limit)?;
+    let inside = declarator_at(
+        text,
+        names,
+        met,
+        Shape { free, outer: false },
+        tokens,
+        limit,
+    )?;
     Ok(Found {
         tree: Some(inside.tree),
         height: inside.height,
@@ -77,9 +86,20 @@ pub(crate) fn type_name_at<'t>(
 {
     let line = line_of(tokens);
     let specifiers = specifiers_at(text, names, tokens, limit)?;
-    let declarator = maybe_declarator_at(text, names, true, specifiers.rest, limit)?;
+    let mut met = NamesMet::none();
+    let declarator = match maybe_declarator_at(
+        text,
+        names,
+        &mut met,
+        true,
+        specifiers.rest,
+        limit,
+    ) {
+        Ok(declarator) => declarator,
+        Err(stop) => return Err(met.in_type_name(stop)),
+    };
     if !is_abstract_or_none(&declarator.tree) {
-        return Err(no_parse(specifiers.rest));
+        return Err(met.in_type_name(no_parse(declarator.rest)));
     }
     Ok(Found {
         tree: type_name(line, specifiers.tree, declarator.tree),

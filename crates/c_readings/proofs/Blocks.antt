@@ -81,7 +81,7 @@ inside (Block l ds ss) r = marks.declarations ds (marks.statements ss (Tok (Sign
 abbrev pub FitsOn : ℕ → BlockTree → Type 0
 FitsOn line (Block l ds ss) = (l ≡ line) × FitsBlock (Block l ds ss)
 
-module _ (R : Readers) (n : ℕ) (ds : Exact marks.declarations FitsDeclarations nothing_more declarations_height n 0 (declarations R n)) (inner : State → Read StatementTree) (i : Exact marks.statement FitsStatement nothing_more statement_height n 1 inner) (line : ℕ) where
+module _ (R : ℕ → Readers) (n : ℕ) (ds : Exact marks.declarations FitsDeclarations nothing_more declarations_height n 0 (declarations R n)) (inner : State → Read StatementTree) (i : Exact marks.statement FitsStatement nothing_more statement_height n 1 inner) (line : ℕ) where
   inside_by : (s : State) (xs : List DeclarationTree) (t : State) (ys : List StatementTree) (u : State) → IsPiece marks.declarations FitsDeclarations nothing_more declarations_height n 0 s xs t → AreStatements n t ys u → Takes u.rest (Sign 5) (tail u.rest) → IsPiece inside (FitsOn line) nothing_more block_height (suc n) 1 s (Block line xs (statements_of ys)) (close_state false (beyond u))
   inside_by s xs t ys u h k j =
       let f = statements_fit n ys k.kept in

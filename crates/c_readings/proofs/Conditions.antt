@@ -9,14 +9,14 @@ use Rattle.c_ast.specs.Trees.{ExprTree, MaybeExpr, NoExpr, AnExpr, StatementTree
 use Rattle.c_ast.specs.Levels.{Parts, FitsMaybe, FitsStatement}
 use Rattle.c_ast.specs.Heights.{height, maybe_height, statement_height}
 use Rattle.c_ast.specs.Reach.{goes_on, goes_on_whole, link_of}
-use Rattle.c_readings.specs.Reading.{State, Read, gives, bind, answer, tail, beyond, one_sign, name_then, no_higher}
+use Rattle.c_readings.specs.Reading.{State, Read, gives, bind, answer, tail, beyond, one_sign, name_then}
 use Rattle.c_readings.specs.Readers.{Readers}
 use Rattle.c_readings.specs.StatementReaders.{low_expression, maybe_before, condition, behind_colon, guarded, name_before}
-use Rattle.c_readings.specs.Exact.{RunsOn, Finds, IsPiece, Exact, AreExact, FitsAt, nothing_more}
+use Rattle.c_readings.specs.Exact.{RunsOn, Finds, IsPiece, Exact, FitsAt, nothing_more}
 use Rattle.c_readings.proofs.Steps.{Yields, bind_yields, if_yields, exact_yields, exact_by, nothing_ends, nothing_stops, name_yields, sign_taken, sign_yields, taken_used, iff_same, iff_then, token_iff, bind_finds, asked_yes, asked_no, first_finds, sign_finds, sign_next, beyond_runs}
 use Rattle.c_readings.proofs.Operators.{stops_whole_at}
 use Rattle.c_readings.proofs.Firsts.{starts_expr, no_sign}
-use Rattle.c_readings.proofs.Lows.{low_exact}
+use Rattle.c_readings.proofs.Lows.{EachExact, low_exact}
 
 -- ---- marks
 
@@ -82,17 +82,17 @@ name_before_exact k limit =
     first_finds (Name n) (Tok (Sign k) ∷ r) r s (name_then (λ m t. one_sign k t (λ u. gives m u))) n h (λ t g.
     sign_finds k r r t (λ u. gives n u) n g (λ i. (refl, i))))
 
-module _ (R : Readers) (e : AreExact R) (n : ℕ) (w : n ≤ R.limit) where
+module _ (R : ℕ → Readers) (e : EachExact R) (n : ℕ) where
   -- ---- expressions
 
   -- an expression that may have a comma
   pub low_expression_exact : Exact marks.expr Parts goes_on_whole height n 1 (low_expression R n)
   unfolding low_expression
-  low_expression_exact = low_exact marks.expr Parts goes_on_whole height R.limit 1 R.whole e.whole n w
+  low_expression_exact = low_exact marks.expr Parts goes_on_whole height (R n).limit 1 (R n).whole (e n).0.whole n (e n).1
 
   -- an expression of a `case`
-  pub low_piece_exact : Exact marks.expr (FitsAt 2) (goes_on 2) height n 1 (λ s. no_higher height n (R.piece 2 s))
-  low_piece_exact = low_exact marks.expr (FitsAt 2) (goes_on 2) height R.limit 1 (R.piece 2) (e.piece 2 (omega arith) (omega arith)) n w
+  pub low_piece_exact : Exact marks.expr (FitsAt 2) (goes_on 2) height n 1 ((R n).piece 2)
+  low_piece_exact = low_exact marks.expr (FitsAt 2) (goes_on 2) height (R n).limit 1 ((R n).piece 2) ((e n).0.piece 2 (omega arith) (omega arith)) n (e n).1
 
   before_yields : (k : ℕ) (s : State) → Yields (maybe_before R n k s) (IsPiece (before k) FitsWhole nothing_more maybe_height n 1 s)
   unfolding maybe_before

@@ -8,22 +8,22 @@ use Rattle.c_ast.specs.UnitMarks as marks
 use Rattle.c_ast.specs.Trees.{SpecifiersTree, DeclaratorTree, InitialiserTree, InitTree, DeclarationTree}
 use Rattle.c_ast.specs.Levels.{FitsSpecifiers, FitsOption, FitsInit, FitsInits, FitsDeclaration, FitsDeclarations}
 use Rattle.c_ast.specs.Heights.{specifiers_height, declarator_height, option_height, init_height, inits_height, declaration_height, declarations_height}
-use Rattle.c_readings.specs.Reading.{State, gives, answer, here, beyond, tail, forget_state, put_state, no_higher, commas}
+use Rattle.c_readings.specs.Reading.{State, gives, answer, here, beyond, tail, forget_state, put_state, commas}
 use Rattle.c_readings.specs.Readers.{Readers, specifiers}
-use Rattle.c_readings.specs.Exact.{RunsOn, Finds, Stops, IsPiece, Exact, AreExact, FitsFree, nothing_more, where_left}
+use Rattle.c_readings.specs.Exact.{RunsOn, Finds, Stops, IsPiece, Exact, FitsFree, nothing_more, where_left}
 use Rattle.c_readings.specs.DeclarationReaders.{maybe_initialiser, low_specifiers, whole_declarator, init_behind, init, inits_behind, inits, declaration, declarations}
 use Rattle.c_readings.proofs.Steps.{Yields, bind_yields, if_yields, yields, yields_also, exact_yields, exact_by, nothing_ends, nothing_stops, Takes, sign_taken, sign_yields, taken_used, iff_same, iff_then, iff_path, here_iff, token_iff, asked_iff, put_iff, put_rest, bind_finds, asked_yes, asked_no, here_is, sign_finds, sign_next, beyond_runs, first_is_at}
 use Rattle.c_readings.proofs.Lists.{Every, Fit, EndsAt, IsItem, IsList, IsListed, listed, many_yields, many_finds, commas_yields, commas_finds, last_stops}
 use Rattle.c_readings.proofs.Operators.{Closer, closer}
 use Rattle.c_readings.proofs.Fronts.{named_used}
-use Rattle.c_readings.proofs.Lows.{low_exact}
+use Rattle.c_readings.proofs.Lows.{EachExact, low_exact}
 use Rattle.c_readings.proofs.Specifiers.{specifiers_exact}
 use Rattle.c_readings.proofs.Rounds.{nothing_exact}
 use Rattle.c_readings.proofs.Initialisers.{IsOption, option_goes_on, option_stops, maybe_initialiser_exact}
 
-pub low_specifiers_exact : (R : Readers) → AreExact R → (n : ℕ) → n ≤ R.limit → Exact expr_marks.specifiers FitsSpecifiers nothing_more specifiers_height n 1 (low_specifiers R n)
+pub low_specifiers_exact : (R : ℕ → Readers) → EachExact R → (n : ℕ) → Exact expr_marks.specifiers FitsSpecifiers nothing_more specifiers_height n 1 (low_specifiers R n)
 unfolding low_specifiers
-low_specifiers_exact R e n w = low_exact expr_marks.specifiers FitsSpecifiers nothing_more specifiers_height R.limit 1 (specifiers R) (specifiers_exact R e) n w
+low_specifiers_exact R e n = low_exact expr_marks.specifiers FitsSpecifiers nothing_more specifiers_height (R n).limit 1 (specifiers (R n)) (specifiers_exact (R n) (e n).0) n (e n).1
 
 -- ---- what is said of pieces of each kind
 
@@ -112,11 +112,11 @@ inits_by n typedef s d t (i ∷ is) u a h k =
     let p = first_same (here s) d i k.fits.0 k.fits.1 in
     subst (λ j. AreInits n typedef s (j ∷ is) u) p (first_by n typedef s d t i.initialiser is u a h (subst (λ j. IsRest n typedef (here s) d t (j ∷ is) u) (sym p) k))
 
-module _ (R : Readers) (e : AreExact R) (n : ℕ) (w : n ≤ R.limit) where
+module _ (R : ℕ → Readers) (e : EachExact R) (n : ℕ) where
   -- ---- declarators
 
-  low_declarator_exact : Exact (expr_marks.declarator false true) (FitsFree false) nothing_more declarator_height n 0 (λ s. no_higher declarator_height n (where_left s.rest (R.declarator false true s)))
-  low_declarator_exact = low_exact (expr_marks.declarator false true) (FitsFree false) nothing_more declarator_height R.limit 0 (λ s. where_left s.rest (R.declarator false true s)) (e.declarator false true) n w
+  low_declarator_exact : Exact (expr_marks.declarator false true) (FitsFree false) nothing_more declarator_height n 0 (λ s. where_left s.rest ((R n).declarator false true s))
+  low_declarator_exact = low_exact (expr_marks.declarator false true) (FitsFree false) nothing_more declarator_height (R n).limit 0 (λ s. where_left s.rest ((R n).declarator false true s)) ((e n).0.declarator false true) n (e n).1
 
   whole_by : (typedef : Bool) (s : State) (d : DeclaratorTree) (t : State) → IsPiece (expr_marks.declarator false true) (FitsFree false) nothing_more declarator_height n 0 (forget_state s) d t → IsWhole n typedef s d (put_state (declared_name d) typedef t)
   whole_by typedef s d t h = record {
@@ -130,13 +130,13 @@ module _ (R : Readers) (e : AreExact R) (n : ℕ) (w : n ≤ R.limit) where
   whole_yields : (typedef : Bool) (s : State) → Yields (whole_declarator R n typedef s) (IsWhole n typedef s)
   unfolding whole_declarator
   whole_yields typedef s =
-      bind_yields (no_higher declarator_height n (where_left s.rest (R.declarator false true (forget_state s)))) _ _ _ (exact_yields _ _ _ _ _ _ _ low_declarator_exact (forget_state s)) (λ d t h. whole_by typedef s d t h)
+      bind_yields (where_left s.rest ((R n).declarator false true (forget_state s))) _ _ _ (exact_yields _ _ _ _ _ _ _ low_declarator_exact (forget_state s)) (λ d t h. whole_by typedef s d t h)
 
   whole_found : (typedef : Bool) (s : State) (d : DeclaratorTree) (r : List Mark) → FitsFree false d → declarator_height d ≤ n → RunsOn (marks.whole_declarator d typedef r) s → Finds (whole_declarator R n typedef s) d r
   unfolding whole_declarator
   whole_found typedef s d r f l h =
       let m : List Mark = put_then (declared_name d) typedef r in
-      bind_finds (no_higher declarator_height n (where_left s.rest (R.declarator false true (forget_state s)))) d m r _ d (low_declarator_exact.found (forget_state s) d m f l (nothing_stops d m) h) (λ t g.
+      bind_finds (where_left s.rest ((R n).declarator false true (forget_state s))) d m r _ d (low_declarator_exact.found (forget_state s) d m f l (nothing_stops d m) h) (λ t g.
       (refl, (put_iff (declared_name d) typedef r t).0 g))
 
   pub whole_declarator_exact : (typedef : Bool) → Exact (λ d r. marks.whole_declarator d typedef r) (FitsFree false) nothing_more declarator_height n 1 (whole_declarator R n typedef)
@@ -147,12 +147,12 @@ module _ (R : Readers) (e : AreExact R) (n : ℕ) (w : n ≤ R.limit) where
   behind_yields : (line : ℕ) (d : DeclaratorTree) (s : State) → Yields (init_behind R n line d s) (λ i t. (i.line ≡ line) × (i.declarator ≡ d) × IsOption n s i.initialiser t)
   unfolding init_behind
   behind_yields line d s =
-      bind_yields (maybe_initialiser R n s) _ (IsOption n s) _ (exact_yields _ _ _ _ _ _ _ (maybe_initialiser_exact R e n w) s) (λ o t h. (refl, refl, h))
+      bind_yields (maybe_initialiser R n s) _ (IsOption n s) _ (exact_yields _ _ _ _ _ _ _ (maybe_initialiser_exact R e n) s) (λ o t h. (refl, refl, h))
 
   behind_found : (line : ℕ) (d : DeclaratorTree) (s : State) (o : Option InitialiserTree) (r : List Mark) → FitsOption o → option_height o ≤ n → Stops option_goes_on o r → RunsOn (marks.maybe_initialiser o r) s → Finds (init_behind R n line d s) (initialised line d o) r
   unfolding init_behind
   behind_found line d s o r f l c h =
-      bind_finds (maybe_initialiser R n s) o r r _ (initialised line d o) ((maybe_initialiser_exact R e n w).found s o r f l c h) (λ t g. (refl, g))
+      bind_finds (maybe_initialiser R n s) o r r _ (initialised line d o) ((maybe_initialiser_exact R e n).found s o r f l c h) (λ t g. (refl, g))
 
   -- ---- a declarator and its initialiser
 
@@ -286,7 +286,7 @@ module _ (R : Readers) (e : AreExact R) (n : ℕ) (w : n ≤ R.limit) where
   declaration_yields : (s : State) → Yields (declaration R (suc n) s) (IsDeclarationAbove n s)
   unfolding declaration
   declaration_yields s =
-      bind_yields (low_specifiers R n s) _ _ _ (exact_yields _ _ _ _ _ _ _ (low_specifiers_exact R e n w) s) (λ ss t h.
+      bind_yields (low_specifiers R n s) _ _ _ (exact_yields _ _ _ _ _ _ _ (low_specifiers_exact R e n) s) (λ ss t h.
       bind_yields (inits R n (has_typedef ss) t) _ _ _ (inits_yields (has_typedef ss) t) (λ is u k. declaration_by s ss t is u h k))
 
   declaration_found : (s : State) (x : DeclarationTree) (r : List Mark) → FitsDeclaration x → declaration_height x ≤ suc n → RunsOn (marks.declaration x r) s → Finds (declaration R (suc n) s) x r
@@ -294,7 +294,7 @@ module _ (R : Readers) (e : AreExact R) (n : ℕ) (w : n ≤ R.limit) where
   declaration_found s x r f l h =
       let m : List Mark = marks.inits (has_typedef x.specifiers) x.declarators r in
       let line = here_is x.line (expr_marks.specifiers x.specifiers m) s h in
-      bind_finds (low_specifiers R n s) x.specifiers m r _ x ((low_specifiers_exact R e n w).found s x.specifiers m f.0 (omega arith) (nothing_stops x.specifiers m) h.1) (λ t g.
+      bind_finds (low_specifiers R n s) x.specifiers m r _ x ((low_specifiers_exact R e n).found s x.specifiers m f.0 (omega arith) (nothing_stops x.specifiers m) h.1) (λ t g.
       bind_finds (inits R n (has_typedef x.specifiers) t) x.declarators r r _ x (inits_found (has_typedef x.specifiers) t x.declarators r f.1 (omega arith) g) (λ u k.
       (ap (λ j. record { line = j; specifiers = x.specifiers; declarators = x.declarators }) line, k)))
 
@@ -303,12 +303,11 @@ module _ (R : Readers) (e : AreExact R) (n : ℕ) (w : n ≤ R.limit) where
 declaration_height_some : (x : DeclarationTree) → 1 ≤ declaration_height x
 declaration_height_some x = omega arith
 
-pub declaration_exact : (R : Readers) → AreExact R → (n : ℕ) → n ≤ R.limit → Exact marks.declaration FitsDeclaration nothing_more declaration_height n 1 (declaration R n)
+pub declaration_exact : (R : ℕ → Readers) → EachExact R → (n : ℕ) → Exact marks.declaration FitsDeclaration nothing_more declaration_height n 1 (declaration R n)
 unfolding declaration
-declaration_exact R e zero w = nothing_exact marks.declaration FitsDeclaration nothing_more declaration_height 1 (declaration R zero) declaration_height_some (λ s. refl)
-declaration_exact R e (suc n) w =
-    let v : n ≤ R.limit = omega arith in
-    exact_by marks.declaration FitsDeclaration nothing_more declaration_height (suc n) 1 (declaration R (suc n)) (declaration_yields R e n v) (λ s x r f l c h. declaration_found R e n v s x r f l h)
+declaration_exact R e zero = nothing_exact marks.declaration FitsDeclaration nothing_more declaration_height 1 (declaration R zero) declaration_height_some (λ s. refl)
+declaration_exact R e (suc n) =
+    exact_by marks.declaration FitsDeclaration nothing_more declaration_height (suc n) 1 (declaration R (suc n)) (declaration_yields R e n) (λ s x r f l c h. declaration_found R e n s x r f l h)
 
 declarations_fit : (n : ℕ) (ds : List DeclarationTree) → Every (Fit FitsDeclaration declaration_height n) ds → FitsDeclarations ds × (declarations_height ds ≤ n)
 declarations_fit n [] h = (tt, omega arith)
@@ -318,7 +317,7 @@ declarations_are_fit : (n : ℕ) (ds : List DeclarationTree) → FitsDeclaration
 declarations_are_fit n [] f l = tt
 declarations_are_fit n (d ∷ ds) f l = ((f.0, omega arith), declarations_are_fit n ds f.1 (omega arith))
 
-module _ (R : Readers) (e : AreExact R) (n : ℕ) (w : n ≤ R.limit) where
+module _ (R : ℕ → Readers) (e : EachExact R) (n : ℕ) where
   abbrev AreDeclarations : State → List DeclarationTree → State → Type 0
   AreDeclarations s ds t = IsPiece marks.declarations FitsDeclarations nothing_more declarations_height n 0 s ds t
 
@@ -341,7 +340,7 @@ module _ (R : Readers) (e : AreExact R) (n : ℕ) (w : n ≤ R.limit) where
       yields_also (declarations R n s) _ (AreDeclarations s)
       (many_yields (λ (b : Bool). marks.declarations) (Fit FitsDeclaration declaration_height n) (EndsAt nothing_more) (λ b t. answer IsDeclaration t) (λ b t. declaration R n t) (λ b x. b)
       (λ b t r a. asked_iff IsDeclaration false r t a iff_same)
-      (λ b t a. yields (declaration R n t) _ (λ d u k. next_by b t d u a ((declaration_exact R e n w).piece t d u k)))
+      (λ b t a. yields (declaration R n t) _ (λ d u k. next_by b t d u a ((declaration_exact R e n).piece t d u k)))
       (length s.rest + 1) true s)
       (λ ds t h. declarations_by s ds t h)
 
@@ -350,8 +349,8 @@ module _ (R : Readers) (e : AreExact R) (n : ℕ) (w : n ≤ R.limit) where
   declarations_found s ds r f l h =
       many_finds (λ (b : Bool) xs. marks.declarations xs r) (Every (Fit FitsDeclaration declaration_height n)) r (λ b t. answer IsDeclaration t) (λ b t. declaration R n t) (λ b x. b)
       (λ b t k. k)
-      (λ b t d xs q k. (k.0, q.1, (declaration_exact R e n w).found t d (marks.declarations xs r) q.0.0 q.0.1 (nothing_stops d (marks.declarations xs r)) k.1))
-      (λ b t d u a k. ((declaration_exact R e n w).piece t d u k).used)
+      (λ b t d xs q k. (k.0, q.1, (declaration_exact R e n).found t d (marks.declarations xs r) q.0.0 q.0.1 (nothing_stops d (marks.declarations xs r)) k.1))
+      (λ b t d u a k. ((declaration_exact R e n).piece t d u k).used)
       (length s.rest + 1) true s ds (omega arith) (declarations_are_fit n ds f l) h
 
   pub declarations_exact : Exact marks.declarations FitsDeclarations nothing_more declarations_height n 0 (declarations R n)

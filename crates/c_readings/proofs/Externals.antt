@@ -1,5 +1,5 @@
 -- Readers of external declarations are exact, where those of their parts are.
-use Rattle.std.proofs.Common.{◌≡◌, ◌≤◌, ◌+◌, ◌==◌, ◌↔◌, if◌then◌else◌, nat_le, ℕ, zero, suc, Bool, true, false, Option, Some, None, List, [], ◌∷◌, length, refl, sym, ap, ◌∙◌, subst, arith}
+use Rattle.std.proofs.Common.{◌≡◌, ◌≤◌, ◌<◌, ◌+◌, ◌-◌, ◌==◌, ◌↔◌, if◌then◌else◌, nat_lt, ℕ, zero, suc, Bool, true, false, Option, Some, None, List, [], ◌∷◌, length, refl, sym, ap, ◌∙◌, subst, arith}
 use Rattle.std.proofs.lemmas.Bool.{or_left, or_right}
 use Rattle.std.proofs.lemmas.Bool.Decides.{nat_tests}
 use Rattle.c_ast.specs.Lexemes.{Name, Sign}
@@ -9,14 +9,14 @@ use Rattle.c_ast.specs.ExprMarks.{has_typedef, declared_name, is_own}
 use Rattle.c_ast.specs.UnitMarks as marks
 use Rattle.c_ast.specs.UnitMarks.{maybe_typedef}
 use Rattle.c_ast.specs.Levels.{FitsSpecifiers, FitsMaybeSpecifiers, FitsInits, FitsDeclaration, FitsDeclarations, FitsBlock, FitsExternal, is_named}
-use Rattle.c_ast.specs.Heights.{specifiers_height, maybe_specifiers_height, declarator_height, declaration_height, declarations_height, block_height, external_height}
+use Rattle.c_ast.specs.Heights.{specifiers_height, maybe_specifiers_height, declarator_height, declaration_height, declarations_height, block_height, external_height, inits_height}
 use Rattle.c_ast.specs.Trees.{SpecifiersTree, DeclaratorTree, Declarator, Named, Inner, Omitted, InitialiserTree, InitTree, DeclarationTree, BlockTree, Block, ExternalTree, Function, Declares, Empty}
 use Rattle.c_readings.specs.Reading.{State, Read, gives, bind, answer, ask, here, tail, beyond, reopen_state, forget_state}
 use Rattle.c_readings.specs.Readers.{Readers}
 use Rattle.c_readings.specs.Exact.{RunsOn, Finds, IsPiece, Exact, FitsFree, nothing_more}
 use Rattle.c_readings.specs.DeclarationReaders.{low_specifiers, whole_declarator, inits_behind, declarations}
 use Rattle.c_readings.specs.StatementReaders.{block_inside, statement}
-use Rattle.c_readings.specs.UnitReaders.{function_body, function, declares, is_declaring, external_by, external_behind, maybe_specifiers, external}
+use Rattle.c_readings.specs.UnitReaders.{function_body, function, declares, declares_none, is_declaring, external_by, external_behind, maybe_specifiers, external}
 use Rattle.c_readings.proofs.Steps.{Yields, bind_yields, if_yields, exact_yields, exact_by, yields_also, nothing_ends, nothing_stops, Takes, sign_taken, sign_yields, taken_used, iff_same, iff_then, here_iff, token_iff, asked_iff, bind_finds, if_finds_yes, if_finds_no, asked_yes, asked_no, here_is, here_finds, sign_finds, sign_next, beyond_runs, first_is_at, some_same}
 use Rattle.c_readings.proofs.Operators.{or_none}
 use Rattle.c_readings.proofs.Firsts.{specifier_no_sign, specifiers_next}
@@ -46,13 +46,13 @@ body_by n s (Block l ds ss) t k h =
           subst (λ j. RunsOn (Here j ∷ Tok (Sign 4) ∷ m) s ↔ RunsOn r t) (sym h.fits.0) (here_iff (Tok (Sign 4) ∷ m) s (omega arith) (token_iff (Sign 4) m s (tail s.rest) k (h.runs r)));
     }
 
-body_found : (R : Readers) (n : ℕ) → Parts R n → (s : State) (b : BlockTree) (r : List Mark) → FitsBlock b → block_height b ≤ suc n → RunsOn (marks.function_body b r) s → Finds (function_body R (suc n) s) b r
+body_found : (R : ℕ → Readers) (n : ℕ) → Parts R n → (s : State) (b : BlockTree) (r : List Mark) → FitsBlock b → block_height b ≤ suc n → RunsOn (marks.function_body b r) s → Finds (function_body R (suc n) s) b r
 unfolding function_body
 body_found R n p s (Block l ds ss) r f w h =
     sign_finds 4 (inside (Block l ds ss) r) r s (λ t. block_inside R n (statement R n) (here s) t) (Block l ds ss) h.1 (λ g.
     (p.block (here s)).found (beyond s) (Block l ds ss) r (sym (here_is l (Tok (Sign 4) ∷ inside (Block l ds ss) r) s h), f) (omega arith) (nothing_stops (Block l ds ss) r) g)
 
-body_yields : (R : Readers) (n : ℕ) → Parts R n → (s : State) → Yields (function_body R (suc n) s) (IsBody (suc n) s)
+body_yields : (R : ℕ → Readers) (n : ℕ) → Parts R n → (s : State) → Yields (function_body R (suc n) s) (IsBody (suc n) s)
 unfolding function_body
 body_yields R n p s =
     sign_yields 4 s (λ t. block_inside R n (statement R n) (here s) t) (IsBody (suc n) s) (λ k.
@@ -62,11 +62,11 @@ body_yields R n p s =
 block_height_some : (b : BlockTree) → 1 ≤ block_height b
 block_height_some (Block l ds ss) = omega arith
 
-no_body : (R : Readers) (s : State) → function_body R zero s ≡ None
+no_body : (R : ℕ → Readers) (s : State) → function_body R zero s ≡ None
 unfolding function_body
 no_body R s = refl
 
-body_exact : (R : Readers) (n : ℕ) → ((m : ℕ) → m ≤ n → Parts R m) → Exact marks.function_body FitsBlock nothing_more block_height n 1 (function_body R n)
+body_exact : (R : ℕ → Readers) (n : ℕ) → ((m : ℕ) → m ≤ n → Parts R m) → Exact marks.function_body FitsBlock nothing_more block_height n 1 (function_body R n)
 body_exact R zero p = nothing_exact marks.function_body FitsBlock nothing_more block_height 1 (function_body R zero) block_height_some (no_body R)
 body_exact R (suc n) p =
     let q = p n (omega arith) in
@@ -108,7 +108,7 @@ no_end typedef d r s m h = named_no_sign 32 refl refl d (expr_marks.put_then (de
 abbrev SpecifiersTo : ℕ → State → Option SpecifiersTree → State → Type 0
 SpecifiersTo n s o t = IsPiece marks.maybe_specifiers FitsMaybeSpecifiers nothing_more maybe_specifiers_height n 0 s o t
 
-maybe_specifiers_yield : (R : Readers) (n : ℕ) → Parts R n → (s : State) → Yields (maybe_specifiers R n s) (SpecifiersTo n s)
+maybe_specifiers_yield : (R : ℕ → Readers) (n : ℕ) → Parts R n → (s : State) → Yields (maybe_specifiers R n s) (SpecifiersTo n s)
 unfolding maybe_specifiers
 maybe_specifiers_yield R n p s =
     if_yields (answer (IsSpecifier false) s) _ _ (SpecifiersTo n s)
@@ -116,7 +116,7 @@ maybe_specifiers_yield R n p s =
     record { fits = h.fits; low = h.low; ends = nothing_ends (Some ss) t.rest; used = let u = h.used in omega arith; runs = h.runs }))
     (λ a. record { fits = tt; low = omega arith; ends = nothing_ends {A = Option SpecifiersTree} None s.rest; used = omega arith; runs = λ r. asked_iff (IsSpecifier false) false r s a iff_same })
 
-maybe_specifiers_found : (R : Readers) (n : ℕ) → Parts R n → (s : State) (o : Option SpecifiersTree) (r : List Mark) → FitsMaybeSpecifiers o → maybe_specifiers_height o ≤ n → RunsOn (marks.maybe_specifiers o r) s → Finds (maybe_specifiers R n s) o r
+maybe_specifiers_found : (R : ℕ → Readers) (n : ℕ) → Parts R n → (s : State) (o : Option SpecifiersTree) (r : List Mark) → FitsMaybeSpecifiers o → maybe_specifiers_height o ≤ n → RunsOn (marks.maybe_specifiers o r) s → Finds (maybe_specifiers R n s) o r
 unfolding maybe_specifiers
 maybe_specifiers_found R n p s None r f w h = asked_no (IsSpecifier false) s _ _ None r h.0 (refl, h.1)
 maybe_specifiers_found R n p s (Some ss) r f w h =
@@ -140,7 +140,7 @@ from_fits line d (i ∷ is) g f = let k = subst (FitsFree false) (sym f.1) g in 
 same_init : (line : ℕ) (d : DeclaratorTree) (i : InitTree) → i.line ≡ line → i.declarator ≡ d → record { line = line; declarator = d; initialiser = i.initialiser } ≡ i
 same_init line d i e f = ap (λ l. record { line = l; declarator = d; initialiser = i.initialiser }) (sym e) ∙ ap (λ x. record { line = i.line; declarator = x; initialiser = i.initialiser }) (sym f)
 
-module _ (R : Readers) (n : ℕ) (p : Parts R n) (body : Exact marks.function_body FitsBlock nothing_more block_height n 1 (function_body R n)) where
+module _ (R : ℕ → Readers) (n : ℕ) (p : Parts R n) (q : Parts R (n - 1)) (body : Exact marks.function_body FitsBlock nothing_more block_height n 1 (function_body R n)) where
   abbrev IsDeclared : Bool → State → DeclaratorTree → State → Type 0
   IsDeclared typedef s d t = IsPiece (declared typedef) (FitsFree false) nothing_more declarator_height n 1 s d t
 
@@ -178,23 +178,31 @@ module _ (R : Readers) (n : ℕ) (p : Parts R n) (body : Exact marks.function_bo
       function_by first s o t d u ps v b w h k i j))
 
   -- behind specifiers the declarators run up to u
-  declares_yields : (first : Bool) (s : State) (o : Option SpecifiersTree) (t : State) (is : List InitTree) (u : State) → SpecifiersTo n s o t → FitsInits is → length u.rest + 1 ≤ length t.rest → ((r : List Mark) → RunsOn (marks.inits (maybe_typedef o) is r) t ↔ RunsOn r u) → Yields (declares n (here s) o is u) (IsExternal first s)
-  declares_yields first s None t is u h f w g = tt
-  declares_yields first s (Some ss) t is u h f w g =
+  declares_by : (first : Bool) (s : State) (ss : SpecifiersTree) (t : State) (is : List InitTree) (u : State) → SpecifiersTo n s (Some ss) t → specifiers_height ss < n → inits_height is < n → FitsInits is → length u.rest + 1 ≤ length t.rest → ((r : List Mark) → RunsOn (marks.inits (has_typedef ss) is r) t ↔ RunsOn r u) → IsExternal first s (Declares (here s) record { line = here s; specifiers = ss; declarators = is }) u
+  declares_by first s ss t is u h a b f w g =
       let x : DeclarationTree = record { line = here s; specifiers = ss; declarators = is } in
       let v = h.used in
-      if_yields (nat_le (declaration_height x) n) _ _ (IsExternal first s)
-      (λ l. record {
+      record {
         fits = (h.fits, f);
-        low = let m : declaration_height x ≤ n = grind (arith, nat_tests) in omega arith;
+        low = omega (arith, a, b);
         ends = nothing_ends (Declares (here s) x) u.rest;
         used = omega arith;
         runs = λ r. here_iff (marks.declaration x r) s (omega arith) (here_iff (expr_marks.specifiers ss (marks.inits (has_typedef ss) is r)) s (omega arith) (iff_then (h.runs (marks.inits (has_typedef ss) is r)) (g r)));
-      })
+      }
+
+  declares_none_yields : (first : Bool) (s : State) (o : Option SpecifiersTree) (t : State) → answer (IsSign 32) t ≡ true → SpecifiersTo n s o t → Yields (declares_none n (here s) o (beyond t)) (IsExternal first s)
+  declares_none_yields first s None t a h = tt
+  declares_none_yields first s (Some ss) t a h =
+      let k = sign_taken 32 t.rest a in
+      let u = taken_used t.rest (tail t.rest) (Sign 32) k in
+      if_yields (nat_lt (specifiers_height ss) n) _ _ (IsExternal first s)
+      (λ l.
+      let m : specifiers_height ss < n = grind (arith, nat_tests) in
+      declares_by first s ss t [] (beyond t) h m (omega (arith, m)) tt (omega arith) (λ r. token_iff (Sign 32) r t (tail t.rest) k iff_same))
       (λ l. tt)
 
   -- behind a first declarator at t the others run up to u
-  inits_run : (typedef : Bool) (s : State) (d : DeclaratorTree) (t : State) (is : List InitTree) (u : State) → answer (IsSign 32) s ≡ false → IsDeclared typedef s d t → IsPiece (rest_of typedef) (FitsRest (here s) d) nothing_more rest_height n 1 t is u → (r : List Mark) → RunsOn (marks.inits typedef is r) s ↔ RunsOn r u
+  inits_run : (typedef : Bool) (s : State) (d : DeclaratorTree) (t : State) (is : List InitTree) (u : State) → answer (IsSign 32) s ≡ false → IsDeclared typedef s d t → IsPiece (rest_of typedef) (FitsRest (here s) d) nothing_more rest_height (n - 1) 1 t is u → (r : List Mark) → RunsOn (marks.inits typedef is r) s ↔ RunsOn r u
   inits_run typedef s d t [] u a h k r = absurd k.fits
   inits_run typedef s d t (i ∷ is) u a h k r =
       let v = h.used in
@@ -203,13 +211,31 @@ module _ (R : Readers) (n : ℕ) (p : Parts R n) (body : Exact marks.function_bo
       subst (λ x. RunsOn (marks.inits typedef (x ∷ is) r) s ↔ RunsOn r u) (same_init (here s) d i k.fits.0 k.fits.1)
       (asked_iff (IsSign 32) false (Here (here s) ∷ m) s a (here_iff m s (omega arith) (iff_then (h.runs (rest_of typedef (i ∷ is) r)) (k.runs r))))
 
+  -- with a first declarator that is low enough, and others
+  inits_low : (d : DeclaratorTree) (line : ℕ) (is : List InitTree) → FitsRest line d is → declarator_height d < n → rest_height is ≤ n - 1 → inits_height is < n
+  inits_low d line [] f a b = absurd f
+  inits_low d line (i ∷ is) f a b =
+      let c : declarator_height i.declarator < n = subst (λ x. declarator_height x < n) (sym f.1) a in
+      omega (arith, b, c)
+
+  declares_yields : (first : Bool) (s : State) (o : Option SpecifiersTree) (t : State) (d : DeclaratorTree) (u : State) → answer (IsSign 32) t ≡ false → SpecifiersTo n s o t → IsDeclared (maybe_typedef o) t d u → Yields (declares R n (here s) o (here t) d u) (IsExternal first s)
+  declares_yields first s None t d u a h k = tt
+  declares_yields first s (Some ss) t d u a h k =
+      let typedef : Bool = has_typedef ss in
+      if_yields (nat_lt (specifiers_height ss) n) _ _ (IsExternal first s)
+      (λ l. if_yields (nat_lt (declarator_height d) n) _ _ (IsExternal first s)
+      (λ m. bind_yields (inits_behind R (n - 1) typedef (here t) d u) _ _ (IsExternal first s) (exact_yields (rest_of typedef) (FitsRest (here t) d) nothing_more rest_height (n - 1) 1 (inits_behind R (n - 1) typedef (here t) d) (q.inits typedef (here t) d) u) (λ is v i.
+      let b : specifiers_height ss < n = grind (arith, nat_tests) in
+      let c : declarator_height d < n = grind (arith, nat_tests) in
+      declares_by first s ss t is v h b (inits_low d (here t) is i.fits c i.low) (from_fits (here t) d is k.fits i.fits) (let x = k.used in let y = i.used in omega arith) (inits_run typedef t d u is v a k i)))
+      (λ m. tt))
+      (λ l. tt)
+
   external_by_yields : (first : Bool) (s : State) (o : Option SpecifiersTree) (t : State) (d : DeclaratorTree) (u : State) → answer (IsSign 32) t ≡ false → SpecifiersTo n s o t → IsDeclared (maybe_typedef o) t d u → Yields (external_by R n (here s) o (here t) d u) (IsExternal first s)
   unfolding external_by
   external_by_yields first s o t d u a h k =
-      let typedef : Bool = maybe_typedef o in
       if_yields (is_declaring u) _ _ (IsExternal first s)
-      (λ b. bind_yields (inits_behind R n typedef (here t) d u) _ _ (IsExternal first s) (exact_yields (rest_of typedef) (FitsRest (here t) d) nothing_more rest_height n 1 (inits_behind R n typedef (here t) d) (p.inits typedef (here t) d) u) (λ is v i.
-      declares_yields first s o t is v h (from_fits (here t) d is k.fits i.fits) (let x = k.used in let y = i.used in omega arith) (inits_run typedef t d u is v a k i)))
+      (λ b. declares_yields first s o t d u a h k)
       (λ b. function_yields first s o t d u h k)
 
   external_behind_yields : (first : Bool) (s : State) (o : Option SpecifiersTree) (t : State) → SpecifiersTo n s o t → Yields (external_behind R n (here s) o t) (IsExternal first s)
@@ -217,10 +243,7 @@ module _ (R : Readers) (n : ℕ) (p : Parts R n) (body : Exact marks.function_bo
   external_behind_yields first s o t h =
       let typedef : Bool = maybe_typedef o in
       if_yields (answer (IsSign 32) t) _ _ (IsExternal first s)
-      (λ a.
-      let k = sign_taken 32 t.rest a in
-      let u = taken_used t.rest (tail t.rest) (Sign 32) k in
-      declares_yields first s o t [] (beyond t) h tt (omega arith) (λ r. token_iff (Sign 32) r t (tail t.rest) k iff_same))
+      (λ a. declares_none_yields first s o t a h)
       (λ a. bind_yields (whole_declarator R n typedef t) _ _ (IsExternal first s) (exact_yields (declared typedef) (FitsFree false) nothing_more declarator_height n 1 (whole_declarator R n typedef) (p.declarator typedef) t) (λ d u k.
       external_by_yields first s o t d u a h k))
 
@@ -253,25 +276,24 @@ module _ (R : Readers) (n : ℕ) (p : Parts R n) (body : Exact marks.function_bo
       bind_finds (declarations R n (reopen_state s)) ps m r _ (Function l o d ps b) (p.declarations.found (reopen_state s) ps m f w (nothing_stops ps m) h) (λ t k.
       bind_finds (function_body R n t) b r r _ (Function l o d ps b) (body.found t b r g v (nothing_stops b r) k) (λ u i. (refl, i)))
 
-  declares_found : (l : ℕ) (ss : SpecifiersTree) (is : List InitTree) (r : List Mark) (s : State) → declaration_height record { line = l; specifiers = ss; declarators = is } ≤ n → RunsOn r s → Finds (declares n l (Some ss) is s) (Declares l record { line = l; specifiers = ss; declarators = is }) r
-  declares_found l ss is r s w h =
-      let x : DeclarationTree = record { line = l; specifiers = ss; declarators = is } in
-      if_finds_yes (nat_le (declaration_height x) n) _ _ (Declares l x) r (grind (arith, nat_tests)) (refl, h)
-
   inits_found : (l : ℕ) (ss : SpecifiersTree) (i : InitTree) (is : List InitTree) (r : List Mark) (s : State) → FitsInits (i ∷ is) → declaration_height record { line = l; specifiers = ss; declarators = i ∷ is } ≤ n → RunsOn (rest_of (has_typedef ss) (i ∷ is) r) s → Finds (external_by R n l (Some ss) i.line i.declarator s) (Declares l record { line = l; specifiers = ss; declarators = i ∷ is }) r
   unfolding external_by
   inits_found l ss i is r s f w h =
       let typedef : Bool = has_typedef ss in
       let z : ExternalTree = Declares l record { line = l; specifiers = ss; declarators = i ∷ is } in
+      let a : specifiers_height ss < n = omega (arith, w) in
+      let b : declarator_height i.declarator < n = omega (arith, w) in
       if_finds_yes (is_declaring s) _ _ z r (does_declare typedef i.initialiser is r s h)
-      (bind_finds (inits_behind R n typedef i.line i.declarator s) (i ∷ is) r r _ z ((p.inits typedef i.line i.declarator).found s (i ∷ is) r (refl, refl, f.0.2, f.1) (omega arith) (nothing_stops (i ∷ is) r) h) (λ t g.
-      declares_found l ss (i ∷ is) r t w g))
+      (if_finds_yes (nat_lt (specifiers_height ss) n) _ _ z r (grind (arith, nat_tests))
+      (if_finds_yes (nat_lt (declarator_height i.declarator) n) _ _ z r (grind (arith, nat_tests))
+      (bind_finds (inits_behind R (n - 1) typedef i.line i.declarator s) (i ∷ is) r r _ z ((q.inits typedef i.line i.declarator).found s (i ∷ is) r (refl, refl, f.0.2, f.1) (omega (arith, w)) (nothing_stops (i ∷ is) r) h) (λ t g. (refl, g)))))
 
   declaration_found : (l : ℕ) (ss : SpecifiersTree) (is : List InitTree) (r : List Mark) (s : State) → FitsInits is → declaration_height record { line = l; specifiers = ss; declarators = is } ≤ n → RunsOn (marks.inits (has_typedef ss) is r) s → Finds (external_behind R n l (Some ss) s) (Declares l record { line = l; specifiers = ss; declarators = is }) r
   unfolding external_behind
   declaration_found l ss [] r s f w h =
       let z : ExternalTree = Declares l record { line = l; specifiers = ss; declarators = [] } in
-      asked_yes (IsSign 32) s _ _ z r (sign_next 32 r s h) (declares_found l ss [] r (beyond s) w (beyond_runs (Sign 32) r s h))
+      let a : specifiers_height ss < n = omega (arith, w) in
+      asked_yes (IsSign 32) s _ _ z r (sign_next 32 r s h) (if_finds_yes (nat_lt (specifiers_height ss) n) _ _ z r (grind (arith, nat_tests)) (refl, beyond_runs (Sign 32) r s h))
   declaration_found l ss (i ∷ is) r s f w h =
       let typedef : Bool = has_typedef ss in
       let m : List Mark = rest_of typedef (i ∷ is) r in
@@ -336,11 +358,11 @@ external_height_some (Function l o d ps b) = omega arith
 external_height_some (Declares l d) = omega arith
 external_height_some (Empty l) = omega arith
 
-no_external : (R : Readers) (first : Bool) (s : State) → external R zero first s ≡ None
+no_external : (R : ℕ → Readers) (first : Bool) (s : State) → external R zero first s ≡ None
 unfolding external
 no_external R first s = refl
 
 -- first: no unit's external declaration stands before it
-pub external_exact : (R : Readers) (n : ℕ) → ((m : ℕ) → m ≤ n → Parts R m) → (first : Bool) → Exact marks.external (FitsAfter first) nothing_more external_height n 1 (external R n first)
+pub external_exact : (R : ℕ → Readers) (n : ℕ) → ((m : ℕ) → m ≤ n → Parts R m) → (first : Bool) → Exact marks.external (FitsAfter first) nothing_more external_height n 1 (external R n first)
 external_exact R zero p first = nothing_exact marks.external (FitsAfter first) nothing_more external_height 1 (external R zero first) external_height_some (no_external R first)
-external_exact R (suc n) p first = above_exact R n (p n (omega arith)) (body_exact R n (λ m w. p m (omega arith))) first
+external_exact R (suc n) p first = above_exact R n (p n (omega arith)) (p (n - 1) (omega arith)) (body_exact R n (λ m w. p m (omega arith))) first

@@ -9,9 +9,9 @@ use Rattle.c_ast.specs.UnitViews.{initialisers_of}
 use Rattle.c_ast.specs.Levels.{OneInitialiser, FitsInitialiser, FitsInitialisers, FitsOption}
 use Rattle.c_ast.specs.Heights.{height, initialiser_height, initialisers_height, option_height}
 use Rattle.c_ast.specs.Reach.{goes_on}
-use Rattle.c_readings.specs.Reading.{State, Read, answer, here, beyond, tail, no_higher}
+use Rattle.c_readings.specs.Reading.{State, Read, answer, here, beyond, tail}
 use Rattle.c_readings.specs.Readers.{Readers}
-use Rattle.c_readings.specs.Exact.{RunsOn, Finds, Ends, Stops, IsPiece, Exact, AreExact, FitsAt, nothing_more}
+use Rattle.c_readings.specs.Exact.{RunsOn, Finds, Ends, Stops, IsPiece, Exact, FitsAt, nothing_more}
 use Rattle.c_readings.specs.DeclarationReaders.{initialisers, initialiser_above, initialiser, maybe_initialiser}
 use Rattle.c_readings.specs.UnitExact.{goes_on_initialiser}
 use Rattle.c_readings.proofs.Steps.{Yields, bind_yields, if_yields, exact_yields, exact_by, sign_taken, taken_used, here_iff, token_iff, asked_iff, iff_same, bind_finds, asked_yes, asked_no, here_is, sign_next, beyond_runs, first_is_at, asked_exact, nothing_stops}
@@ -19,7 +19,7 @@ use Rattle.c_readings.proofs.Lists.{Every, Fit, listed}
 use Rattle.c_readings.proofs.Operators.{Closer, stops}
 use Rattle.c_readings.proofs.Firsts.{no_sign}
 use Rattle.c_readings.proofs.Braces.{in_braces_exact}
-use Rattle.c_readings.proofs.Lows.{low_exact}
+use Rattle.c_readings.proofs.Lows.{EachExact, low_exact}
 use Rattle.c_readings.proofs.Rounds.{nothing_exact}
 
 -- an operator is not next
@@ -90,9 +90,9 @@ braced_ends : (l : ℕ) (is : InitialiserTrees) (comma : Bool) (ts : List Placed
 braced_ends l is comma [] = tt
 braced_ends l is comma (t ∷ ts) = refl
 
-module _ (R : Readers) (e : AreExact R) (n : ℕ) (w : n ≤ R.limit) where
-  value_exact : Exact expr (FitsAt 1) (goes_on 1) height n 1 (λ s. no_higher height n (R.piece 1 s))
-  value_exact = low_exact expr (FitsAt 1) (goes_on 1) height R.limit 1 (R.piece 1) (e.piece 1 (omega arith) (omega arith)) n w
+module _ (R : ℕ → Readers) (e : EachExact R) (n : ℕ) where
+  value_exact : Exact expr (FitsAt 1) (goes_on 1) height n 1 ((R n).piece 1)
+  value_exact = low_exact expr (FitsAt 1) (goes_on 1) height (R n).limit 1 ((R n).piece 1) ((e n).0.piece 1 (omega arith) (omega arith)) n (e n).1
 
   -- one level above the items
   module _ (item : State → Read InitialiserTree) (i : Exact marks.initialiser FitsInitialiser goes_on_initialiser initialiser_height n 1 item) where
@@ -129,12 +129,12 @@ module _ (R : Readers) (e : AreExact R) (n : ℕ) (w : n ≤ R.limit) where
     above_yields s =
         if_yields (answer (IsSign 4) s) _ _ (IsInitialiser s)
         (λ a. bind_yields (initialisers item (beyond s)) _ (AreInitialisers n (beyond s)) _ (exact_yields _ _ _ _ n 1 (initialisers item) (initialisers_exact n item i) (beyond s)) (λ p t h. in_braces s p t a h))
-        (λ a. bind_yields (no_higher height n (R.piece 1 s)) _ _ _ (exact_yields _ _ _ _ _ _ _ value_exact s) (λ x t h. by_expr s x t a h))
+        (λ a. bind_yields ((R n).piece 1 s) _ _ _ (exact_yields _ _ _ _ _ _ _ value_exact s) (λ x t h. by_expr s x t a h))
 
     above_found : (s : State) (x : InitialiserTree) (r : List Mark) → FitsInitialiser x → initialiser_height x ≤ suc n → Stops goes_on_initialiser x r → RunsOn (marks.initialiser x r) s → Finds (initialiser_above R n item s) x r
     above_found s (ByExpr l x) r f k c h =
         asked_no (IsSign 4) s _ _ (ByExpr l x) r h.1.0
-        (bind_finds (no_higher height n (R.piece 1 s)) x r r _ (ByExpr l x) (value_exact.found s x r f (omega arith) c h.1.1) (λ t g.
+        (bind_finds ((R n).piece 1 s) x r r _ (ByExpr l x) (value_exact.found s x r f (omega arith) c h.1.1) (λ t g.
         (ap (λ j. ByExpr j x) (here_is l (Ask (IsSign 4) false ∷ expr x r) s h), g)))
     above_found s (Braced l is comma) r f k c h =
         asked_yes (IsSign 4) s _ _ (Braced l is comma) r (sign_next 4 (marks.initialisers is comma r) s h.1)
@@ -144,10 +144,10 @@ module _ (R : Readers) (e : AreExact R) (n : ℕ) (w : n ≤ R.limit) where
     above_exact : Exact marks.initialiser FitsInitialiser goes_on_initialiser initialiser_height (suc n) 1 (initialiser_above R n item)
     above_exact = exact_by marks.initialiser FitsInitialiser goes_on_initialiser initialiser_height (suc n) 1 (initialiser_above R n item) above_yields above_found
 
-pub initialiser_exact : (R : Readers) → AreExact R → (n : ℕ) → n ≤ R.limit → Exact marks.initialiser FitsInitialiser goes_on_initialiser initialiser_height n 1 (initialiser R n)
+pub initialiser_exact : (R : ℕ → Readers) → EachExact R → (n : ℕ) → Exact marks.initialiser FitsInitialiser goes_on_initialiser initialiser_height n 1 (initialiser R n)
 unfolding initialiser
-initialiser_exact R e zero w = nothing_exact marks.initialiser FitsInitialiser goes_on_initialiser initialiser_height 1 (initialiser R zero) initialiser_height_some (λ s. refl)
-initialiser_exact R e (suc n) w = let v : n ≤ R.limit = omega arith in above_exact R e n v (λ t. initialiser R n t) (initialiser_exact R e n v)
+initialiser_exact R e zero = nothing_exact marks.initialiser FitsInitialiser goes_on_initialiser initialiser_height 1 (initialiser R zero) initialiser_height_some (λ s. refl)
+initialiser_exact R e (suc n) = above_exact R e n (λ t. initialiser R n t) (initialiser_exact R e n)
 
 -- ---- an initialiser that may be left out
 
@@ -168,12 +168,12 @@ none_ends (t ∷ ts) = refl
 abbrev pub IsOption : ℕ → State → Option InitialiserTree → State → Type 0
 IsOption n s x t = IsPiece marks.maybe_initialiser FitsOption option_goes_on option_height n 0 s x t
 
-module _ (R : Readers) (e : AreExact R) (n : ℕ) (w : n ≤ R.limit) where
+module _ (R : ℕ → Readers) (e : EachExact R) (n : ℕ) where
   maybe_yields : (s : State) → Yields (maybe_initialiser R n s) (IsOption n s)
   unfolding maybe_initialiser
   maybe_yields s =
       if_yields (answer (IsSign 34) s) _ _ (IsOption n s)
-      (λ a. bind_yields (initialiser R n (beyond s)) _ _ _ (exact_yields _ _ _ _ n 1 (initialiser R n) (initialiser_exact R e n w) (beyond s)) (λ x t h. record {
+      (λ a. bind_yields (initialiser R n (beyond s)) _ _ _ (exact_yields _ _ _ _ n 1 (initialiser R n) (initialiser_exact R e n) (beyond s)) (λ x t h. record {
         fits = h.fits;
         low = h.low;
         ends = h.ends;
@@ -187,7 +187,7 @@ module _ (R : Readers) (e : AreExact R) (n : ℕ) (w : n ≤ R.limit) where
   maybe_found s None r f l c h = asked_no (IsSign 34) s _ _ None r h.0 (refl, h.1)
   maybe_found s (Some i) r f l c h =
       asked_yes (IsSign 34) s _ _ (Some i) r (sign_next 34 (marks.initialiser i r) s h)
-      (bind_finds (initialiser R n (beyond s)) i r r _ (Some i) ((initialiser_exact R e n w).found (beyond s) i r f l c (beyond_runs (Sign 34) (marks.initialiser i r) s h)) (λ t g. (refl, g)))
+      (bind_finds (initialiser R n (beyond s)) i r r _ (Some i) ((initialiser_exact R e n).found (beyond s) i r f l c (beyond_runs (Sign 34) (marks.initialiser i r) s h)) (λ t g. (refl, g)))
 
   pub maybe_initialiser_exact : Exact marks.maybe_initialiser FitsOption option_goes_on option_height n 0 (maybe_initialiser R n)
   maybe_initialiser_exact = exact_by marks.maybe_initialiser FitsOption option_goes_on option_height n 0 (maybe_initialiser R n) maybe_yields maybe_found

@@ -11,7 +11,8 @@ use Rattle.c_readings.specs.Reading.{State, Read, gives, bind, answer, here, tai
 use Rattle.c_readings.specs.Readers.{Readers}
 use Rattle.c_readings.specs.DeclarationReaders.{declarations}
 use Rattle.c_readings.specs.StatementReaders.{StatementWord, word_as, word_at, maybe_before, name_before, labelled, by_word, block_inside, compound, evaluate, by_maybe_word, statement_above, statement}
-use Rattle.c_readings.specs.Exact.{RunsOn, Finds, IsPiece, Exact, AreExact, nothing_more}
+use Rattle.c_readings.specs.Exact.{RunsOn, Finds, IsPiece, Exact, nothing_more}
+use Rattle.c_readings.proofs.Lows.{EachExact}
 use Rattle.c_readings.proofs.Steps.{Yields, yields_also, bind_yields, if_yields, exact_yields, exact_by, nothing_ends, nothing_stops, Takes, same_number, sign_taken, taken_used, taken_left, iff_then, iff_path, here_iff, token_iff, asked_iff, bind_finds, asked_yes, asked_no, here_is, here_finds, sign_next, beyond_runs, first_is_at}
 use Rattle.c_readings.proofs.Firsts.{starts_expr, expr_first, no_sign}
 use Rattle.c_readings.proofs.Rounds.{nothing_exact}
@@ -70,7 +71,7 @@ evaluate_begins : (x : MaybeExpr) (r : List Mark) (s : State) → FitsWhole x �
 evaluate_begins NoExpr r s f h = (ap word_at h.2, first_is_at (is_sign 4) (Sign 32) r s h)
 evaluate_begins (AnExpr x) r s f h = (expr_no_word s.names s.rest (expr_first x (Tok (Sign 32) ∷ r) s f.1 h), no_sign 4 x (Tok (Sign 32) ∷ r) s refl f.1 h)
 
-module _ (R : Readers) (e : AreExact R) (n : ℕ) (w : n ≤ R.limit) (ds : Exact marks.declarations FitsDeclarations nothing_more declarations_height n 0 (declarations R n)) (inner : State → Read StatementTree) (i : Exact marks.statement FitsStatement nothing_more statement_height n 1 inner) where
+module _ (R : ℕ → Readers) (e : EachExact R) (n : ℕ) (ds : Exact marks.declarations FitsDeclarations nothing_more declarations_height n 0 (declarations R n)) (inner : State → Read StatementTree) (i : Exact marks.statement FitsStatement nothing_more statement_height n 1 inner) where
   labelled_yields : (s : State) → answer IsLabel s ≡ true → Yields (labelled inner s) (IsStatement (suc n) s)
   unfolding labelled
   labelled_yields s a =
@@ -96,7 +97,7 @@ module _ (R : Readers) (e : AreExact R) (n : ℕ) (w : n ≤ R.limit) (ds : Exac
   evaluate_yields : (s : State) → answer IsLabel s ≡ false → Yields (evaluate R n s) (IsStatement (suc n) s)
   unfolding evaluate
   evaluate_yields s a =
-      bind_yields (maybe_before R n 32 s) _ _ _ (exact_yields _ _ _ _ _ _ _ (maybe_before_exact R e n w 32 semicolon_ends) s) (λ x t h.
+      bind_yields (maybe_before R n 32 s) _ _ _ (exact_yields _ _ _ _ _ _ _ (maybe_before_exact R e n 32 semicolon_ends) s) (λ x t h.
       let c = h.used in
       let l = h.low in
       record {
@@ -108,7 +109,7 @@ module _ (R : Readers) (e : AreExact R) (n : ℕ) (w : n ≤ R.limit) (ds : Exac
       })
 
   by_maybe_yields : (s : State) (o : Option StatementWord) → answer IsLabel s ≡ false → word_at s.rest ≡ o → Yields (by_maybe_word R n inner o s) (IsStatement (suc n) s)
-  by_maybe_yields s (Some k) a h = yields_also (by_word R n inner (here s) k (beyond s)) _ _ (by_word_yields R e n w inner i (here s) k (beyond s)) (λ x t b. with_word n s k x t (word_taken s.rest k h) b)
+  by_maybe_yields s (Some k) a h = yields_also (by_word R n inner (here s) k (beyond s)) _ _ (by_word_yields R e n inner i (here s) k (beyond s)) (λ x t b. with_word n s k x t (word_taken s.rest k h) b)
   by_maybe_yields s None a h = if_yields (answer (IsSign 4) s) _ _ _ (λ b. compound_yields s b) (λ b. evaluate_yields s a)
 
   statement_yields : (s : State) → Yields (statement_above R n inner s) (IsStatement (suc n) s)
@@ -146,25 +147,25 @@ module _ (R : Readers) (e : AreExact R) (n : ℕ) (w : n ≤ R.limit) (ds : Exac
       asked_no IsLabel s (labelled inner s) _ (Evaluate l x) r h.1.0
       (subst (λ o. Finds (by_maybe_word R n inner o s) (Evaluate l x) r) (sym b.0)
       (asked_no (IsSign 4) s (compound R n inner s) (evaluate R n s) (Evaluate l x) r b.1
-      (bind_finds (maybe_before R n 32 s) x r r _ (Evaluate l x) ((maybe_before_exact R e n w 32 semicolon_ends).found s x r f k (nothing_stops x r) h.1.1) (λ t j.
+      (bind_finds (maybe_before R n 32 s) x r r _ (Evaluate l x) ((maybe_before_exact R e n 32 semicolon_ends).found s x r f k (nothing_stops x r) h.1.1) (λ t j.
       (ap (λ a. Evaluate a x) (here_is l (Ask IsLabel false ∷ before 32 x r) s h), j)))))
 
   statement_found : (s : State) (x : StatementTree) (r : List Mark) → FitsStatement x → statement_height x ≤ suc n → RunsOn (marks.statement x r) s → Finds (statement_above R n inner s) x r
   statement_found s (Labelled l m x) r f k h = labelled_found l m x r s f (omega arith) h
-  statement_found s (Case l a x) r f k h = case_found R e n w inner i l a x r s f k h
-  statement_found s (Default l x) r f k h = default_found R e n w inner i l x r s f k h
+  statement_found s (Case l a x) r f k h = case_found R e n inner i l a x r s f k h
+  statement_found s (Default l x) r f k h = default_found R e n inner i l x r s f k h
   statement_found s (Evaluate l x) r f k h = evaluate_found l x r s f (omega arith) h
   statement_found s (Compound l x) r f k h = compound_found l x r s f k h
-  statement_found s (If l a x) r f k h = if_found R e n w inner i l a x r s f k h
-  statement_found s (IfElse l a x y) r f k h = if_else_found R e n w inner i l a x y r s f k h
-  statement_found s (Switch l a x) r f k h = switch_found R e n w inner i l a x r s f k h
-  statement_found s (While l a x) r f k h = while_found R e n w inner i l a x r s f k h
-  statement_found s (Do l x a) r f k h = do_found R e n w inner i l x a r s f k h
-  statement_found s (For l a b c x) r f k h = for_found R e n w inner i l a b c x r s f k h
-  statement_found s (Goto l a) r f k h = goto_found R e n w inner i l a r s f k h
-  statement_found s (Continue l) r f k h = continue_found R e n w inner i l r s f k h
-  statement_found s (Break l) r f k h = break_found R e n w inner i l r s f k h
-  statement_found s (Return l a) r f k h = return_found R e n w inner i l a r s f k h
+  statement_found s (If l a x) r f k h = if_found R e n inner i l a x r s f k h
+  statement_found s (IfElse l a x y) r f k h = if_else_found R e n inner i l a x y r s f k h
+  statement_found s (Switch l a x) r f k h = switch_found R e n inner i l a x r s f k h
+  statement_found s (While l a x) r f k h = while_found R e n inner i l a x r s f k h
+  statement_found s (Do l x a) r f k h = do_found R e n inner i l x a r s f k h
+  statement_found s (For l a b c x) r f k h = for_found R e n inner i l a b c x r s f k h
+  statement_found s (Goto l a) r f k h = goto_found R e n inner i l a r s f k h
+  statement_found s (Continue l) r f k h = continue_found R e n inner i l r s f k h
+  statement_found s (Break l) r f k h = break_found R e n inner i l r s f k h
+  statement_found s (Return l a) r f k h = return_found R e n inner i l a r s f k h
 
   -- one node more
   pub statement_above_exact : Exact marks.statement FitsStatement nothing_more statement_height (suc n) 1 (statement_above R n inner)
@@ -189,7 +190,7 @@ statement_height_some (Continue l) = omega arith
 statement_height_some (Break l) = omega arith
 statement_height_some (Return l a) = omega arith
 
-pub statement_exact : (R : Readers) → AreExact R → ((n : ℕ) → n ≤ R.limit → Exact marks.declarations FitsDeclarations nothing_more declarations_height n 0 (declarations R n)) → (n : ℕ) → n ≤ R.limit → Exact marks.statement FitsStatement nothing_more statement_height n 1 (statement R n)
+pub statement_exact : (R : ℕ → Readers) → EachExact R → ((n : ℕ) → Exact marks.declarations FitsDeclarations nothing_more declarations_height n 0 (declarations R n)) → (n : ℕ) → Exact marks.statement FitsStatement nothing_more statement_height n 1 (statement R n)
 unfolding statement
-statement_exact R e ds zero w = nothing_exact marks.statement FitsStatement nothing_more statement_height 1 (statement R zero) statement_height_some (λ s. refl)
-statement_exact R e ds (suc n) w = statement_above_exact R e n (omega arith) (ds n (omega arith)) (λ s. statement R n s) (statement_exact R e ds n (omega arith))
+statement_exact R e ds zero = nothing_exact marks.statement FitsStatement nothing_more statement_height 1 (statement R zero) statement_height_some (λ s. refl)
+statement_exact R e ds (suc n) = statement_above_exact R e n (ds n) (λ s. statement R n s) (statement_exact R e ds n)

@@ -77,7 +77,7 @@ goes first s = is_left s.rest
 abbrev IsUnit : ℕ → State → UnitTree → State → Type 0
 IsUnit n s u t = FitsUnit u × (unit_height u ≤ n) × RunsOn (marks.unit u) s
 
-module _ (R : Readers) (n : ℕ) (e : (first : Bool) → Exact marks.external (FitsAfter first) nothing_more external_height n 1 (external R n first)) where
+module _ (R : ℕ → Readers) (n : ℕ) (e : (first : Bool) → Exact marks.external (FitsAfter first) nothing_more external_height n 1 (external R n first)) where
   abbrev AreExternals : Bool → State → List ExternalTree → State → Type 0
   AreExternals first s xs t = IsList spelled_after (Fit FitsExternal external_height n) (EndsAt nothing_more) goes first s xs t
 
@@ -125,20 +125,20 @@ module _ (R : Readers) (n : ℕ) (e : (first : Bool) → Exact marks.external (F
 
 -- ---- all of it
 
-no_unit : (R : Readers) (s : State) → unit R zero s ≡ None
+no_unit : (R : ℕ → Readers) (s : State) → unit R zero s ≡ None
 unfolding unit
 no_unit R s = refl
 
-pub unit_fits : (R : Readers) (n : ℕ) → ((m : ℕ) → m ≤ n → Parts R m) → (s : State) (u : UnitTree) (t : State) → unit R n s ≡ Some (u, t) → IsUnit n s u t
+pub unit_fits : (R : ℕ → Readers) (n : ℕ) → ((m : ℕ) → m ≤ n → Parts R m) → (s : State) (u : UnitTree) (t : State) → unit R n s ≡ Some (u, t) → IsUnit n s u t
 unit_fits R zero p s u t h = let e = no_unit R s in absurd cc
 unit_fits R (suc n) p s u t h = read_so (unit R (suc n) s) (IsUnit (suc n) s) u t (unit_yields R n (external_exact R n (λ m w. p m (omega arith))) s) h
 
-pub unit_is_found : (R : Readers) (n : ℕ) → ((m : ℕ) → m ≤ n → Parts R m) → (s : State) (u : UnitTree) → FitsUnit u → unit_height u ≤ n → RunsOn (marks.unit u) s → (t : State) × (unit R n s ≡ Some (u, t))
+pub unit_is_found : (R : ℕ → Readers) (n : ℕ) → ((m : ℕ) → m ≤ n → Parts R m) → (s : State) (u : UnitTree) → FitsUnit u → unit_height u ≤ n → RunsOn (marks.unit u) s → (t : State) × (unit R n s ≡ Some (u, t))
 unit_is_found R zero p s u f w h = absurd (omega arith)
 unit_is_found R (suc n) p s u f w h = found_read (unit R (suc n) s) u [] (unit_found R n (external_exact R n (λ m v. p m (omega arith))) s u.line u.externals f (omega arith) h)
 
 -- where the readers of parts up to each limit are exact, so are those of units
-pub units_are_exact : (R : Readers) (n : ℕ) → ((m : ℕ) → m ≤ n → Parts R m) → UnitsAreExact R n
+pub units_are_exact : (R : ℕ → Readers) (n : ℕ) → ((m : ℕ) → m ≤ n → Parts R m) → UnitsAreExact R n
 units_are_exact R n p =
     let q = p n (omega arith) in
     record {

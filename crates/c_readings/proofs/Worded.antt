@@ -7,10 +7,11 @@ use Rattle.c_ast.specs.UnitMarks.{statement}
 use Rattle.c_ast.specs.Trees.{ExprTree, MaybeExpr, StatementTree, Case, Default, If, IfElse, Switch, While, Do, For, Goto, Continue, Break, Return}
 use Rattle.c_ast.specs.Levels.{FitsStatement}
 use Rattle.c_ast.specs.Heights.{height, maybe_height, statement_height}
-use Rattle.c_readings.specs.Reading.{State, Read, gives, bind, answer, tail, beyond, one_sign, no_higher}
+use Rattle.c_readings.specs.Reading.{State, Read, gives, bind, answer, tail, beyond, one_sign}
 use Rattle.c_readings.specs.Readers.{Readers}
 use Rattle.c_readings.specs.StatementReaders.{StatementWord, CaseWord, DefaultWord, IfWord, SwitchWord, WhileWord, DoWord, ForWord, GotoWord, ContinueWord, BreakWord, ReturnWord, maybe_before, condition, behind_colon, guarded, name_before, labelled, if_behind, do_behind, for_behind, by_word, by_maybe_word, statement_above}
-use Rattle.c_readings.specs.Exact.{RunsOn, Finds, IsPiece, Exact, AreExact, nothing_more}
+use Rattle.c_readings.specs.Exact.{RunsOn, Finds, IsPiece, Exact, nothing_more}
+use Rattle.c_readings.proofs.Lows.{EachExact}
 use Rattle.c_readings.proofs.Steps.{Yields, bind_yields, if_yields, exact_yields, nothing_stops, sign_yields, taken_used, iff_same, iff_then, token_iff, asked_iff, bind_finds, asked_yes, asked_no, here_finds, sign_finds, beyond_runs, first_is_at}
 use Rattle.c_readings.proofs.Operators.{stops_at}
 use Rattle.c_readings.proofs.StatementWords.{number_of, keyword_taken, keyword_no_label, word_next}
@@ -38,26 +39,26 @@ semicolon_yields n line k x f l same s =
     record { fits = f; low = l; used = let u = taken_used s.rest (tail s.rest) (Sign 32) a in omega arith; runs = λ r. (Tok (Sign 32) ∷ r, same r, token_iff (Sign 32) r s (tail s.rest) a iff_same) })
 
 -- behind `for (`
-abbrev for_then : Readers → ℕ → (State → Read StatementTree) → ℕ → State → Read StatementTree
+abbrev for_then : (ℕ → Readers) → ℕ → (State → Read StatementTree) → ℕ → State → Read StatementTree
 for_then R n inner line s =
     bind (maybe_before R n 32 s) (λ a t. bind (maybe_before R n 32 t) (λ b u. bind (maybe_before R n 3 u) (λ c v. bind (inner v) (λ x z. gives (For line a b c x) z))))
 
-module _ (R : Readers) (e : AreExact R) (n : ℕ) (w : n ≤ R.limit) (inner : State → Read StatementTree) (i : Exact statement FitsStatement nothing_more statement_height n 1 inner) where
+module _ (R : ℕ → Readers) (e : EachExact R) (n : ℕ) (inner : State → Read StatementTree) (i : Exact statement FitsStatement nothing_more statement_height n 1 inner) where
   inner_yields : (s : State) → Yields (inner s) (IsPiece statement FitsStatement nothing_more statement_height n 1 s)
   inner_yields s = exact_yields _ _ _ _ _ _ inner i s
 
   before_yields : (k : ℕ) (d : EndsExpr k) (s : State) → Yields (maybe_before R n k s) (IsPiece (before k) FitsWhole nothing_more maybe_height n 1 s)
-  before_yields k d s = exact_yields _ _ _ _ _ _ (maybe_before R n k) (maybe_before_exact R e n w k d) s
+  before_yields k d s = exact_yields _ _ _ _ _ _ (maybe_before R n k) (maybe_before_exact R e n k d) s
 
   guarded_yields : (s : State) → Yields (guarded R n inner s) (IsPiece guard FitsGuard nothing_more guard_height n 4 s)
-  guarded_yields s = exact_yields _ _ _ _ _ _ (guarded R n inner) (guarded_exact R e n w inner i) s
+  guarded_yields s = exact_yields _ _ _ _ _ _ (guarded R n inner) (guarded_exact R e n inner i) s
 
   colon_yields : (s : State) → Yields (behind_colon inner s) (IsPiece colon_then FitsStatement nothing_more statement_height n 2 s)
   colon_yields s = exact_yields _ _ _ _ _ _ (behind_colon inner) (behind_colon_exact n inner i) s
 
   case_yields : (line : ℕ) (s : State) → Yields (by_word R n inner line CaseWord s) (IsBehindWord n line CaseWord s)
   case_yields line s =
-      bind_yields (no_higher height n (R.piece 2 s)) _ _ _ (exact_yields _ _ _ _ _ _ _ (low_piece_exact R e n w) s) (λ a t h.
+      bind_yields ((R n).piece 2 s) _ _ _ (exact_yields _ _ _ _ _ _ _ (low_piece_exact R e n) s) (λ a t h.
       bind_yields (behind_colon inner t) _ _ _ (colon_yields t) (λ x u k.
       let p = h.low in
       let q = k.low in
@@ -101,7 +102,7 @@ module _ (R : Readers) (e : AreExact R) (n : ℕ) (w : n ≤ R.limit) (inner : S
       bind_yields (inner s) _ _ _ (inner_yields s) (λ x t h.
       if_yields (answer (IsKeyword 31) t) _ None _
       (λ a. let q = keyword_taken 31 t.rest a in
-      bind_yields (condition R n (beyond t)) _ _ _ (exact_yields _ _ _ _ _ _ _ (condition_exact R e n w) (beyond t)) (λ c u k.
+      bind_yields (condition R n (beyond t)) _ _ _ (exact_yields _ _ _ _ _ _ _ (condition_exact R e n) (beyond t)) (λ c u k.
       sign_yields 32 u (λ v. gives (Do line x c) v) _ (λ j.
       let b = h.low in
       let d = k.low in
@@ -149,19 +150,19 @@ module _ (R : Readers) (e : AreExact R) (n : ℕ) (w : n ≤ R.limit) (inner : S
   by_word_yields line CaseWord s = case_yields line s
   by_word_yields line DefaultWord s = alone_yields colon_then FitsStatement statement_height n 2 (behind_colon inner) (behind_colon_exact n inner i) line DefaultWord (λ x. Default line x) (λ x f. f) (λ x l. omega arith) (λ x r. refl) s
   by_word_yields line IfWord s = choice_yields line s
-  by_word_yields line SwitchWord s = alone_yields guard FitsGuard guard_height n 4 (guarded R n inner) (guarded_exact R e n w inner i) line SwitchWord (λ p. Switch line p.0 p.1) (λ p f. f) (λ p l. omega arith) (λ p r. refl) s
-  by_word_yields line WhileWord s = alone_yields guard FitsGuard guard_height n 4 (guarded R n inner) (guarded_exact R e n w inner i) line WhileWord (λ p. While line p.0 p.1) (λ p f. f) (λ p l. omega arith) (λ p r. refl) s
+  by_word_yields line SwitchWord s = alone_yields guard FitsGuard guard_height n 4 (guarded R n inner) (guarded_exact R e n inner i) line SwitchWord (λ p. Switch line p.0 p.1) (λ p f. f) (λ p l. omega arith) (λ p r. refl) s
+  by_word_yields line WhileWord s = alone_yields guard FitsGuard guard_height n 4 (guarded R n inner) (guarded_exact R e n inner i) line WhileWord (λ p. While line p.0 p.1) (λ p f. f) (λ p l. omega arith) (λ p r. refl) s
   by_word_yields line DoWord s = do_yields line s
   by_word_yields line ForWord s = for_yields line s
   by_word_yields line GotoWord s = alone_yields (named_then 32) FitsAny no_height n 2 (λ t. name_before 32 t) (name_before_exact 32 n) line GotoWord (λ a. Goto line a) (λ a f. f) (λ a l. omega arith) (λ a r. refl) s
   by_word_yields line ContinueWord s = semicolon_yields n line ContinueWord (Continue line) tt (omega arith) (λ r. refl) s
   by_word_yields line BreakWord s = semicolon_yields n line BreakWord (Break line) tt (omega arith) (λ r. refl) s
-  by_word_yields line ReturnWord s = alone_yields (before 32) FitsWhole maybe_height n 1 (maybe_before R n 32) (maybe_before_exact R e n w 32 semicolon_ends) line ReturnWord (λ a. Return line a) (λ a f. f) (λ a l. omega arith) (λ a r. refl) s
+  by_word_yields line ReturnWord s = alone_yields (before 32) FitsWhole maybe_height n 1 (maybe_before R n 32) (maybe_before_exact R e n 32 semicolon_ends) line ReturnWord (λ a. Return line a) (λ a f. f) (λ a l. omega arith) (λ a r. refl) s
 
 -- ---- what stands there is read
 
 -- a statement that begins with the word is read where the rest of it is
-word_found : (R : Readers) (n : ℕ) (inner : State → Read StatementTree) (l : ℕ) (k : StatementWord) (x : StatementTree) (m r : List Mark) (s : State) → RunsOn (Here l ∷ Tok (Keyword (number_of k)) ∷ m) s → (RunsOn m (beyond s) → Finds (by_word R n inner l k (beyond s)) x r) → Finds (statement_above R n inner s) x r
+word_found : (R : ℕ → Readers) (n : ℕ) (inner : State → Read StatementTree) (l : ℕ) (k : StatementWord) (x : StatementTree) (m r : List Mark) (s : State) → RunsOn (Here l ∷ Tok (Keyword (number_of k)) ∷ m) s → (RunsOn m (beyond s) → Finds (by_word R n inner l k (beyond s)) x r) → Finds (statement_above R n inner s) x r
 unfolding statement_above
 word_found R n inner l k x m r s h g =
     asked_no IsLabel s (labelled inner s) _ x r (keyword_no_label (number_of k) m s h.1)
@@ -172,7 +173,7 @@ word_found R n inner l k x m r s h g =
 alone_found : {A : Type 0} (spelled : A → List Mark → List Mark) (Fits : A → Type 0) (high : A → ℕ) (n least : ℕ) (read : State → Read A) → Exact spelled Fits nothing_more high n least read → (f : A → StatementTree) (x : A) (r : List Mark) (s : State) → Fits x → high x ≤ n → RunsOn (spelled x r) s → Finds (bind (read s) (λ y t. gives (f y) t)) (f x) r
 alone_found spelled Fits high n least read e f x r s p l h = bind_finds (read s) x r r (λ y t. gives (f y) t) (f x) (e.found s x r p l (nothing_stops x r) h) (λ t g. (refl, g))
 
-module _ (R : Readers) (e : AreExact R) (n : ℕ) (w : n ≤ R.limit) (inner : State → Read StatementTree) (i : Exact statement FitsStatement nothing_more statement_height n 1 inner) where
+module _ (R : ℕ → Readers) (e : EachExact R) (n : ℕ) (inner : State → Read StatementTree) (i : Exact statement FitsStatement nothing_more statement_height n 1 inner) where
   -- it stands there and is read where it fits and is low enough
   abbrev Found : StatementTree → Type 0
   Found x = (r : List Mark) (s : State) → FitsStatement x → statement_height x ≤ suc n → RunsOn (statement x r) s → Finds (statement_above R n inner s) x r
@@ -185,12 +186,12 @@ module _ (R : Readers) (e : AreExact R) (n : ℕ) (w : n ≤ R.limit) (inner : S
   colon_found x f r s p l h = alone_found colon_then FitsStatement statement_height n 2 (behind_colon inner) (behind_colon_exact n inner i) f x r s p l h
 
   guard_found : (p : ExprTree × StatementTree) (f : ExprTree × StatementTree → StatementTree) (r : List Mark) (s : State) → FitsGuard p → guard_height p ≤ n → RunsOn (guard p r) s → Finds (bind (guarded R n inner s) (λ q t. gives (f q) t)) (f p) r
-  guard_found p f r s q l h = alone_found guard FitsGuard guard_height n 4 (guarded R n inner) (guarded_exact R e n w inner i) f p r s q l h
+  guard_found p f r s q l h = alone_found guard FitsGuard guard_height n 4 (guarded R n inner) (guarded_exact R e n inner i) f p r s q l h
 
   pub case_found : (l : ℕ) (a : ExprTree) (x : StatementTree) → Found (Case l a x)
   case_found l a x r s f k h =
       word_found R n inner l CaseWord (Case l a x) (expr a (colon_then x r)) r s h (λ g.
-      bind_finds (no_higher height n (R.piece 2 (beyond s))) a (colon_then x r) r _ (Case l a x) ((low_piece_exact R e n w).found (beyond s) a (colon_then x r) (f.0, f.1) (omega arith) (stops_at a 2 (Sign 31) (statement x r) refl) g) (λ t j.
+      bind_finds ((R n).piece 2 (beyond s)) a (colon_then x r) r _ (Case l a x) ((low_piece_exact R e n).found (beyond s) a (colon_then x r) (f.0, f.1) (omega arith) (stops_at a 2 (Sign 31) (statement x r) refl) g) (λ t j.
       colon_found x (λ y. Case l a y) r t f.2 (omega arith) j))
 
   pub default_found : (l : ℕ) (x : StatementTree) → Found (Default l x)
@@ -202,7 +203,7 @@ module _ (R : Readers) (e : AreExact R) (n : ℕ) (w : n ≤ R.limit) (inner : S
       let m : List Mark = Ask (IsKeyword 9) false ∷ r in
       let p : ExprTree × StatementTree = (a, x) in
       word_found R n inner l IfWord (If l a x) (guard p m) r s h (λ g.
-      bind_finds (guarded R n inner (beyond s)) p m r _ (If l a x) ((guarded_exact R e n w inner i).found (beyond s) p m f (omega arith) (nothing_stops p m) g) (λ t j.
+      bind_finds (guarded R n inner (beyond s)) p m r _ (If l a x) ((guarded_exact R e n inner i).found (beyond s) p m f (omega arith) (nothing_stops p m) g) (λ t j.
       asked_no (IsKeyword 9) t _ _ (If l a x) r j.0 (refl, j.1)))
 
   pub if_else_found : (l : ℕ) (a : ExprTree) (x y : StatementTree) → Found (IfElse l a x y)
@@ -211,7 +212,7 @@ module _ (R : Readers) (e : AreExact R) (n : ℕ) (w : n ≤ R.limit) (inner : S
       let m : List Mark = Tok (Keyword 9) ∷ statement y r in
       let p : ExprTree × StatementTree = (a, x) in
       word_found R n inner l IfWord (IfElse l a x y) (guard p m) r s h (λ g.
-      bind_finds (guarded R n inner (beyond s)) p m r _ (IfElse l a x y) ((guarded_exact R e n w inner i).found (beyond s) p m (f.0, f.1) (omega arith) (nothing_stops p m) g) (λ t j.
+      bind_finds (guarded R n inner (beyond s)) p m r _ (IfElse l a x y) ((guarded_exact R e n inner i).found (beyond s) p m (f.0, f.1) (omega arith) (nothing_stops p m) g) (λ t j.
       asked_yes (IsKeyword 9) t _ _ (IfElse l a x y) r (first_is_at (is_keyword 9) (Keyword 9) (statement y r) t j)
       (inner_found y (λ z. IfElse l a x z) r (beyond t) f.2 (omega arith) (beyond_runs (Keyword 9) (statement y r) t j))))
 
@@ -229,7 +230,7 @@ module _ (R : Readers) (e : AreExact R) (n : ℕ) (w : n ≤ R.limit) (inner : S
       word_found R n inner l DoWord (Do l x a) (statement x m) r s h (λ g.
       bind_finds (inner (beyond s)) x m r _ (Do l x a) (i.found (beyond s) x m f.0 (omega arith) (nothing_stops x m) g) (λ t j.
       asked_yes (IsKeyword 31) t _ None (Do l x a) r (first_is_at (is_keyword 31) (Keyword 31) c t j)
-      (bind_finds (condition R n (beyond t)) a (Tok (Sign 32) ∷ r) r _ (Do l x a) ((condition_exact R e n w).found (beyond t) a (Tok (Sign 32) ∷ r) f.1 (omega arith) (nothing_stops a (Tok (Sign 32) ∷ r)) (beyond_runs (Keyword 31) c t j)) (λ u p.
+      (bind_finds (condition R n (beyond t)) a (Tok (Sign 32) ∷ r) r _ (Do l x a) ((condition_exact R e n).found (beyond t) a (Tok (Sign 32) ∷ r) f.1 (omega arith) (nothing_stops a (Tok (Sign 32) ∷ r)) (beyond_runs (Keyword 31) c t j)) (λ u p.
       sign_finds 32 r r u (λ v. gives (Do l x a) v) (Do l x a) p (λ q. (refl, q))))))
 
   pub for_found : (l : ℕ) (a b c : MaybeExpr) (x : StatementTree) → Found (For l a b c x)
@@ -241,9 +242,9 @@ module _ (R : Readers) (e : AreExact R) (n : ℕ) (w : n ≤ R.limit) (inner : S
       let ma : List Mark = before 32 a mb in
       word_found R n inner l ForWord z (Tok (Sign 2) ∷ ma) r s h (λ g.
       sign_finds 2 ma r (beyond s) (for_then R n inner l) z g (λ g1.
-      bind_finds (maybe_before R n 32 (beyond (beyond s))) a mb r _ z ((maybe_before_exact R e n w 32 semicolon_ends).found (beyond (beyond s)) a mb f.0 (omega arith) (nothing_stops a mb) g1) (λ t g2.
-      bind_finds (maybe_before R n 32 t) b mc r _ z ((maybe_before_exact R e n w 32 semicolon_ends).found t b mc f.1 (omega arith) (nothing_stops b mc) g2) (λ u g3.
-      bind_finds (maybe_before R n 3 u) c (statement x r) r _ z ((maybe_before_exact R e n w 3 parenthesis_ends).found u c (statement x r) f.2 (omega arith) (nothing_stops c (statement x r)) g3) (λ v g4.
+      bind_finds (maybe_before R n 32 (beyond (beyond s))) a mb r _ z ((maybe_before_exact R e n 32 semicolon_ends).found (beyond (beyond s)) a mb f.0 (omega arith) (nothing_stops a mb) g1) (λ t g2.
+      bind_finds (maybe_before R n 32 t) b mc r _ z ((maybe_before_exact R e n 32 semicolon_ends).found t b mc f.1 (omega arith) (nothing_stops b mc) g2) (λ u g3.
+      bind_finds (maybe_before R n 3 u) c (statement x r) r _ z ((maybe_before_exact R e n 3 parenthesis_ends).found u c (statement x r) f.2 (omega arith) (nothing_stops c (statement x r)) g3) (λ v g4.
       inner_found x (λ y. For l a b c y) r v f.3 (omega arith) g4)))))
 
   pub goto_found : (l : ℕ) (a : List ℕ) → Found (Goto l a)
@@ -256,4 +257,4 @@ module _ (R : Readers) (e : AreExact R) (n : ℕ) (w : n ≤ R.limit) (inner : S
   break_found l r s f k h = word_found R n inner l BreakWord (Break l) (Tok (Sign 32) ∷ r) r s h (λ g. sign_finds 32 r r (beyond s) (λ t. gives (Break l) t) (Break l) g (λ j. (refl, j)))
 
   pub return_found : (l : ℕ) (a : MaybeExpr) → Found (Return l a)
-  return_found l a r s f k h = word_found R n inner l ReturnWord (Return l a) (before 32 a r) r s h (λ g. alone_found (before 32) FitsWhole maybe_height n 1 (maybe_before R n 32) (maybe_before_exact R e n w 32 semicolon_ends) (λ b. Return l b) a r (beyond s) f (omega arith) g)
+  return_found l a r s f k h = word_found R n inner l ReturnWord (Return l a) (before 32 a r) r s h (λ g. alone_found (before 32) FitsWhole maybe_height n 1 (maybe_before R n 32) (maybe_before_exact R e n 32 semicolon_ends) (λ b. Return l b) a r (beyond s) f (omega arith) g)

@@ -1,13 +1,12 @@
--- What a reader of initialisers and declarations gives, for trees up to a limit; R reads their expressions, specifiers and
--- declarators.
+-- What a reader of initialisers and declarations gives, for trees up to a limit; R n reads their expressions, specifiers
+-- and declarators up to n.
 -- Source: C89 3.5 and 3.5.7.
 use Rattle.std.specs.Prelude.{ℕ, zero, suc, Bool, true, false, Option, Some, None, List, [], ◌∷◌}
 use Rattle.c_ast.specs.Marks.{IsSign, IsDeclaration}
 use Rattle.c_ast.specs.ExprMarks.{declared_name, has_typedef}
-use Rattle.c_ast.specs.Heights.{height, specifiers_height, declarator_height}
 use Rattle.c_ast.specs.UnitViews.{initialisers_of}
 use Rattle.c_ast.specs.Trees.{SpecifiersTree, DeclaratorTree, InitialiserTree, ByExpr, Braced, InitialiserTrees, InitTree, DeclarationTree}
-use Rattle.c_readings.specs.Reading.{State, Read, gives, bind, ask, answer, here, beyond, one_sign, put_state, forget_state, no_higher, all_of, commas}
+use Rattle.c_readings.specs.Reading.{State, Read, gives, bind, ask, answer, here, beyond, one_sign, put_state, forget_state, all_of, commas}
 use Rattle.c_readings.specs.Readers.{Readers, specifiers, goes_on_without}
 use Rattle.c_readings.specs.Exact.{where_left}
 
@@ -21,39 +20,39 @@ initialisers item s =
     (one_sign 5 (beyond u) (λ v. gives (initialisers_of (i ∷ is), true) v))
     (one_sign 5 u (λ v. gives (initialisers_of (i ∷ is), false) v))))
 
-abbrev pub initialiser_above : Readers → ℕ → (State → Read InitialiserTree) → State → Read InitialiserTree
+abbrev pub initialiser_above : (ℕ → Readers) → ℕ → (State → Read InitialiserTree) → State → Read InitialiserTree
 initialiser_above R n item s =
     ask (IsSign 4) s
     (bind (initialisers item (beyond s)) (λ is t. gives (Braced (here s) is.0 is.1) t))
-    (bind (no_higher height n (R.piece 1 s)) (λ e t. gives (ByExpr (here s) e) t))
+    (bind ((R n).piece 1 s) (λ e t. gives (ByExpr (here s) e) t))
 
-unfoldable pub initialiser : Readers → ℕ → State → Read InitialiserTree
+unfoldable pub initialiser : (ℕ → Readers) → ℕ → State → Read InitialiserTree
 initialiser R zero s = None
 initialiser R (suc n) s = initialiser_above R n (λ t. initialiser R n t) s
 
-unfoldable pub maybe_initialiser : Readers → ℕ → State → Read (Option InitialiserTree)
+unfoldable pub maybe_initialiser : (ℕ → Readers) → ℕ → State → Read (Option InitialiserTree)
 maybe_initialiser R n s = ask (IsSign 34) s (bind (initialiser R n (beyond s)) (λ i t. gives (Some i) t)) (gives None s)
 
 -- ---- declarators
 
 -- a declarator that is no part of another, whose name is in force from its end
-unfoldable pub whole_declarator : Readers → ℕ → Bool → State → Read DeclaratorTree
+unfoldable pub whole_declarator : (ℕ → Readers) → ℕ → Bool → State → Read DeclaratorTree
 whole_declarator R n typedef s =
-    bind (no_higher declarator_height n (where_left s.rest (R.declarator false true (forget_state s)))) (λ d t. gives d (put_state (declared_name d) typedef t))
+    bind (where_left s.rest ((R n).declarator false true (forget_state s))) (λ d t. gives d (put_state (declared_name d) typedef t))
 
 -- an initialiser, or none, behind the declarator on this line
-unfoldable pub init_behind : Readers → ℕ → ℕ → DeclaratorTree → State → Read InitTree
+unfoldable pub init_behind : (ℕ → Readers) → ℕ → ℕ → DeclaratorTree → State → Read InitTree
 init_behind R n line d s = bind (maybe_initialiser R n s) (λ i t. gives record { line = line; declarator = d; initialiser = i } t)
 
-unfoldable pub init : Readers → ℕ → Bool → State → Read InitTree
+unfoldable pub init : (ℕ → Readers) → ℕ → Bool → State → Read InitTree
 init R n typedef s = bind (whole_declarator R n typedef s) (λ d t. init_behind R n (here s) d t)
 
 -- the rest of a declaration behind its first declarator
-unfoldable pub inits_behind : Readers → ℕ → Bool → ℕ → DeclaratorTree → State → Read (List InitTree)
+unfoldable pub inits_behind : (ℕ → Readers) → ℕ → Bool → ℕ → DeclaratorTree → State → Read (List InitTree)
 inits_behind R n typedef line d s =
     bind (init_behind R n line d s) (λ i t. bind (commas (init R n typedef) t) (λ is u. one_sign 32 u (λ v. gives (i ∷ is) v)))
 
-unfoldable pub inits : Readers → ℕ → Bool → State → Read (List InitTree)
+unfoldable pub inits : (ℕ → Readers) → ℕ → Bool → State → Read (List InitTree)
 inits R n typedef s =
     ask (IsSign 32) s
     (gives [] (beyond s))
@@ -61,15 +60,15 @@ inits R n typedef s =
 
 -- ---- declarations
 
-unfoldable pub low_specifiers : Readers → ℕ → State → Read SpecifiersTree
-low_specifiers R n s = no_higher specifiers_height n (specifiers R s)
+unfoldable pub low_specifiers : (ℕ → Readers) → ℕ → State → Read SpecifiersTree
+low_specifiers R n s = specifiers (R n) s
 
-unfoldable pub declaration : Readers → ℕ → State → Read DeclarationTree
+unfoldable pub declaration : (ℕ → Readers) → ℕ → State → Read DeclarationTree
 declaration R zero s = None
 declaration R (suc n) s =
     bind (low_specifiers R n s) (λ ss t. bind (inits R n (has_typedef ss) t) (λ is u.
     gives record { line = here s; specifiers = ss; declarators = is } u))
 
 -- as long as one is next
-unfoldable pub declarations : Readers → ℕ → State → Read (List DeclarationTree)
+unfoldable pub declarations : (ℕ → Readers) → ℕ → State → Read (List DeclarationTree)
 declarations R n s = all_of (λ b t. answer IsDeclaration t) (λ b t. declaration R n t) (λ b x. b) true s

@@ -20,10 +20,6 @@ abbrev pub bind : {A B : Type 0} → Read A → (A → State → Read B) → Rea
 bind None k = None
 bind (Some p) k = k p.0 p.1
 
--- where it is no higher than so much
-abbrev pub no_higher : {A : Type 0} → (A → ℕ) → ℕ → Read A → Read A
-no_higher high limit o = bind o (λ x s. if nat_le (high x) limit then gives x s else None)
-
 -- ---- what is next
 
 abbrev pub answer : Test → State → Bool

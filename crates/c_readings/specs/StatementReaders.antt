@@ -1,12 +1,12 @@
--- What a reader of statements and blocks gives, for trees up to a limit; R reads their expressions and declarations.
+-- What a reader of statements and blocks gives, for trees up to a limit; R n reads their expressions and declarations up
+-- to n.
 -- Source: C89 3.6.
 use Rattle.std.specs.Prelude.{◌==◌, if◌then◌else◌, not, ℕ, zero, suc, true, false, Option, Some, None, List, [], ◌∷◌}
 use Rattle.c_ast.specs.Lexemes.{Lexeme, Name, Keyword, Integer, Character, Text, Sign, Placed}
 use Rattle.c_ast.specs.Marks.{IsSign, IsKeyword, IsLabel}
-use Rattle.c_ast.specs.Heights.{height}
 use Rattle.c_ast.specs.UnitViews.{statements_of}
 use Rattle.c_ast.specs.Trees.{ExprTree, MaybeExpr, NoExpr, AnExpr, StatementTree, Labelled, Case, Default, Evaluate, Compound, If, IfElse, Switch, While, Do, For, Goto, Continue, Break, Return, BlockTree, Block}
-use Rattle.c_readings.specs.Reading.{State, Read, gives, bind, ask, answer, here, beyond, one_sign, one_name, open_state, close_state, no_higher, all_of}
+use Rattle.c_readings.specs.Reading.{State, Read, gives, bind, ask, answer, here, beyond, one_sign, one_name, open_state, close_state, all_of}
 use Rattle.c_readings.specs.Readers.{Readers}
 use Rattle.c_readings.specs.DeclarationReaders.{declarations}
 
@@ -52,18 +52,18 @@ word_at (t ∷ ts) = word_as t.lexeme
 
 -- ---- expressions in statements
 
-unfoldable pub low_expression : Readers → ℕ → State → Read ExprTree
-low_expression R n s = no_higher height n (R.whole s)
+unfoldable pub low_expression : (ℕ → Readers) → ℕ → State → Read ExprTree
+low_expression R n s = (R n).whole s
 
 -- an expression or none, and this sign
-unfoldable pub maybe_before : Readers → ℕ → ℕ → State → Read MaybeExpr
+unfoldable pub maybe_before : (ℕ → Readers) → ℕ → ℕ → State → Read MaybeExpr
 maybe_before R n k s =
     ask (IsSign k) s
     (gives NoExpr (beyond s))
     (bind (low_expression R n s) (λ e t. one_sign k t (λ u. gives (AnExpr e) u)))
 
 -- an expression in parentheses
-unfoldable pub condition : Readers → ℕ → State → Read ExprTree
+unfoldable pub condition : (ℕ → Readers) → ℕ → State → Read ExprTree
 condition R n s = one_sign 2 s (λ t. bind (low_expression R n t) (λ e u. one_sign 3 u (λ v. gives e v)))
 
 -- ---- statements, one level above those that inner reads
@@ -73,7 +73,7 @@ unfoldable pub behind_colon : (State → Read StatementTree) → State → Read 
 behind_colon inner s = one_sign 31 s (λ t. bind (inner t) (λ x u. gives x u))
 
 -- a statement behind a condition
-unfoldable pub guarded : Readers → ℕ → (State → Read StatementTree) → State → Read (ExprTree × StatementTree)
+unfoldable pub guarded : (ℕ → Readers) → ℕ → (State → Read StatementTree) → State → Read (ExprTree × StatementTree)
 guarded R n inner s = bind (condition R n s) (λ e t. bind (inner t) (λ x u. gives (e, x) u))
 
 -- a name, and this sign
@@ -83,25 +83,25 @@ name_before k s = one_name s (λ n t. one_sign k t (λ u. gives n u))
 unfoldable pub labelled : (State → Read StatementTree) → State → Read StatementTree
 labelled inner s = bind (name_before 31 s) (λ n t. bind (inner t) (λ x u. gives (Labelled (here s) n x) u))
 
-unfoldable pub if_behind : Readers → ℕ → (State → Read StatementTree) → ℕ → State → Read StatementTree
+unfoldable pub if_behind : (ℕ → Readers) → ℕ → (State → Read StatementTree) → ℕ → State → Read StatementTree
 if_behind R n inner line s =
     bind (guarded R n inner s) (λ p t.
     ask (IsKeyword 9) t
     (bind (inner (beyond t)) (λ y u. gives (IfElse line p.0 p.1 y) u))
     (gives (If line p.0 p.1) t))
 
-unfoldable pub do_behind : Readers → ℕ → (State → Read StatementTree) → ℕ → State → Read StatementTree
+unfoldable pub do_behind : (ℕ → Readers) → ℕ → (State → Read StatementTree) → ℕ → State → Read StatementTree
 do_behind R n inner line s =
     bind (inner s) (λ x t. ask (IsKeyword 31) t (bind (condition R n (beyond t)) (λ e u. one_sign 32 u (λ v. gives (Do line x e) v))) None)
 
-unfoldable pub for_behind : Readers → ℕ → (State → Read StatementTree) → ℕ → State → Read StatementTree
+unfoldable pub for_behind : (ℕ → Readers) → ℕ → (State → Read StatementTree) → ℕ → State → Read StatementTree
 for_behind R n inner line s =
     one_sign 2 s (λ t. bind (maybe_before R n 32 t) (λ a u. bind (maybe_before R n 32 u) (λ b v. bind (maybe_before R n 3 v) (λ c w. bind (inner w) (λ x z.
     gives (For line a b c x) z)))))
 
 -- behind its keyword
-abbrev pub by_word : Readers → ℕ → (State → Read StatementTree) → ℕ → StatementWord → State → Read StatementTree
-by_word R n inner line CaseWord s = bind (no_higher height n (R.piece 2 s)) (λ e t. bind (behind_colon inner t) (λ x u. gives (Case line e x) u))
+abbrev pub by_word : (ℕ → Readers) → ℕ → (State → Read StatementTree) → ℕ → StatementWord → State → Read StatementTree
+by_word R n inner line CaseWord s = bind ((R n).piece 2 s) (λ e t. bind (behind_colon inner t) (λ x u. gives (Case line e x) u))
 by_word R n inner line DefaultWord s = bind (behind_colon inner s) (λ x t. gives (Default line x) t)
 by_word R n inner line IfWord s = if_behind R n inner line s
 by_word R n inner line SwitchWord s = bind (guarded R n inner s) (λ p t. gives (Switch line p.0 p.1) t)
@@ -114,24 +114,24 @@ by_word R n inner line BreakWord s = one_sign 32 s (λ t. gives (Break line) t)
 by_word R n inner line ReturnWord s = bind (maybe_before R n 32 s) (λ e t. gives (Return line e) t)
 
 -- behind `{`, where the scope is open: declarations, statements, and `}`
-unfoldable pub block_inside : Readers → ℕ → (State → Read StatementTree) → ℕ → State → Read BlockTree
+unfoldable pub block_inside : (ℕ → Readers) → ℕ → (State → Read StatementTree) → ℕ → State → Read BlockTree
 block_inside R n inner line s =
     bind (declarations R n s) (λ ds t. bind (all_of (λ b u. not (answer (IsSign 5) u)) (λ b u. inner u) (λ b x. b) true t) (λ ss u.
     one_sign 5 u (λ v. gives (Block line ds (statements_of ss)) (close_state false v))))
 
-unfoldable pub compound : Readers → ℕ → (State → Read StatementTree) → State → Read StatementTree
+unfoldable pub compound : (ℕ → Readers) → ℕ → (State → Read StatementTree) → State → Read StatementTree
 compound R n inner s = bind (block_inside R n inner (here s) (open_state (beyond s))) (λ b t. gives (Compound (here s) b) t)
 
-unfoldable pub evaluate : Readers → ℕ → State → Read StatementTree
+unfoldable pub evaluate : (ℕ → Readers) → ℕ → State → Read StatementTree
 evaluate R n s = bind (maybe_before R n 32 s) (λ e t. gives (Evaluate (here s) e) t)
 
-abbrev pub by_maybe_word : Readers → ℕ → (State → Read StatementTree) → Option StatementWord → State → Read StatementTree
+abbrev pub by_maybe_word : (ℕ → Readers) → ℕ → (State → Read StatementTree) → Option StatementWord → State → Read StatementTree
 by_maybe_word R n inner (Some w) s = by_word R n inner (here s) w (beyond s)
 by_maybe_word R n inner None s = ask (IsSign 4) s (compound R n inner s) (evaluate R n s)
 
-unfoldable pub statement_above : Readers → ℕ → (State → Read StatementTree) → State → Read StatementTree
+unfoldable pub statement_above : (ℕ → Readers) → ℕ → (State → Read StatementTree) → State → Read StatementTree
 statement_above R n inner s = ask IsLabel s (labelled inner s) (by_maybe_word R n inner (word_at s.rest) s)
 
-unfoldable pub statement : Readers → ℕ → State → Read StatementTree
+unfoldable pub statement : (ℕ → Readers) → ℕ → State → Read StatementTree
 statement R zero s = None
 statement R (suc n) s = statement_above R n (λ t. statement R n t) s

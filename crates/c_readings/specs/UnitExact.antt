@@ -20,7 +20,7 @@ goes_on_initialiser (ByExpr l e) t = goes_on 1 e t
 goes_on_initialiser (Braced l is comma) t = false
 
 -- with R, the readers up to n give pieces alone, and each piece; a unit's goes up to the end
-pub record UnitsAreExact (R : Readers) (n : ℕ) : Type 0 where
+pub record UnitsAreExact (R : ℕ → Readers) (n : ℕ) : Type 0 where
   pub initialiser : Exact marks.initialiser FitsInitialiser goes_on_initialiser initialiser_height n 1 (initialiser R n)
   pub declaration : Exact marks.declaration FitsDeclaration nothing_more declaration_height n 1 (declaration R n)
   pub declarations : Exact marks.declarations FitsDeclarations nothing_more declarations_height n 0 (declarations R n)

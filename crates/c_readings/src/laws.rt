@@ -1,4 +1,4 @@
-ghost use Rattle.std.specs.Prelude.{◌≡◌, ◌≤◌, Bool, ℕ};
+ghost use Rattle.std.specs.Prelude.{◌≡◌, Bool, ℕ};
 ghost use Rattle.c_ast.specs.ExprMarks as marks;
 ghost use Rattle.c_readings.specs.Readers.{readers};
 ghost use Rattle.c_readings.specs.Exact.{AreExact, TypesAreExact};
@@ -21,8 +21,8 @@ pub fn pieces_are_fronts()
     ensures declarator { (free outer : Bool) → AreFronts (marks.declarator free outer) }
 {}
 
-/// Over the readers at a limit, those of initialisers, declarations, statements and units up to no
-/// greater a limit give each piece that is no higher, and nothing else.
+/// At each limit on height, the readers of initialisers, declarations, statements and units give each
+/// piece that is no higher, and nothing else.
 pub fn units_are_exact()
-    ensures { (limit n : ℕ) → n ≤ limit → UnitsAreExact (readers limit) n }
+    ensures { (n : ℕ) → UnitsAreExact readers n }
 {}

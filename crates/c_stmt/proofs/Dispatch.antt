@@ -1,5 +1,5 @@
 -- Which statement is next, as the first tokens tell.
-use Rattle.std.proofs.Common.{◌≡◌, ◌≤◌, ◌-◌, ◌+◌, ◌++◌, ℕ, zero, suc, Bool, true, false, Option, None, Some, List, [], ◌∷◌, length, subst, sym, Result, Ok, Err, IfOk, IfErr, refl, ◌∙◌, arith}
+use Rattle.std.proofs.Common.{◌≡◌, ◌≤◌, ◌-◌, ℕ, zero, suc, true, false, None, Some, Result, Ok, Err, IfOk, IfErr, refl, ◌∙◌, arith}
 use native.Mathlib.Numerals.{unary_clauses}
 use Rattle.c_ast.specs.Marks.{IsLabel, IsSign}
 use Rattle.c_ast.specs.Trees.{Compound}
@@ -10,7 +10,7 @@ use Rattle.c_readings.specs.Reading.{State, Read, answer, beyond, bind, gives, h
 use Rattle.c_readings.specs.Readers.{Readers}
 use Rattle.c_readings.specs.StatementReaders.{StatementWord, word_at, statement, statement_above, labelled, by_word, compound, block_inside, evaluate}
 
-module _ (R : Readers) where
+module _ (R : ℕ → Readers) where
   pub label_next : (n : ℕ) (s : State) → 1 ≤ n → answer IsLabel s ≡ true → statement R n s ≡ labelled (statement R (n - 1)) s
   unfolding statement statement_above
   label_next zero s w h = absurd (omega (arith, w))

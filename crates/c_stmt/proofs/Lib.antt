@@ -1,5 +1,6 @@
 mod SeenNodes
 mod Declared
+mod OldFunctions
 mod Dispatch
 mod ExternalLists
 mod Denoted

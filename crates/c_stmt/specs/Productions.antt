@@ -10,4 +10,4 @@ use Rattle.c_readings.specs.StatementReaders as reader
 use Rattle.c_expr.specs.Productions.{Production}
 
 abbrev pub statement : Production
-statement = record { Tree = StatementTree; spelled = marks.statement; Fits = FitsStatement; goes_on = nothing_more; high = statement_height; least = 1; read = reader.statement (readers 500) 500 }
+statement = record { Tree = StatementTree; spelled = marks.statement; Fits = FitsStatement; goes_on = nothing_more; high = statement_height; most = 500; least = 1; read = reader.statement readers 500 }

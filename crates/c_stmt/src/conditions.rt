@@ -16,8 +16,8 @@ use lcc_base::Bytes;
 pub(crate) fn condition_at(p: &mut Parser, limit: u32) -> Result<Expr, SyntaxFault>
     requires sound { p.old.fault ≡ None }
     requires limit { limit ≤ 500 }
-    ensures ok { IfOk result (λ e. reader.condition (readers 500) limit (ahead p.old) ≡ Some (expr_seen e, ahead p.new)) }
-    ensures none { IfErr result (λ e. Fails e (reader.condition (readers 500) limit (ahead p.old))) }
+    ensures ok { IfOk result (λ e. reader.condition readers limit (ahead p.old) ≡ Some (expr_seen e, ahead p.new)) }
+    ensures none { IfErr result (λ e. Fails e (reader.condition readers limit (ahead p.old))) }
     ensures going { IfOk result (λ e. Goes 1 p.old p.new) }
     ensures broken { IfErr result (λ e. Breaks p.old p.new e) }
 {
@@ -36,8 +36,8 @@ pub(crate) fn maybe_before(
 ) -> Result<Option<Expr>, SyntaxFault>
     requires sound { p.old.fault ≡ None }
     requires limit { limit ≤ 500 }
-    ensures ok { IfOk result (λ o. reader.maybe_before (readers 500) limit number (ahead p.old) ≡ Some (maybe_expr_seen o, ahead p.new)) }
-    ensures none { IfErr result (λ e. Fails e (reader.maybe_before (readers 500) limit number (ahead p.old))) }
+    ensures ok { IfOk result (λ o. reader.maybe_before readers limit number (ahead p.old) ≡ Some (maybe_expr_seen o, ahead p.new)) }
+    ensures none { IfErr result (λ e. Fails e (reader.maybe_before readers limit number (ahead p.old))) }
     ensures going { IfOk result (λ o. Goes 1 p.old p.new) }
     ensures broken { IfErr result (λ e. Breaks p.old p.new e) }
 {

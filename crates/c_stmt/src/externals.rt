@@ -1,9 +1,10 @@
 //! Readers of external declarations.
-ghost use Rattle.std.specs.Prelude.{◌≡◌, ◌≤◌, None, Some, map, IfOk, IfErr};
+ghost use Rattle.std.specs.Prelude.{◌≡◌, ◌≤◌, None, Some, true, IfOk, IfErr};
+ghost use Rattle.c_ast.specs.Marks.{IsSign};
 ghost use Rattle.c_ast.specs.UnitMarks.{maybe_typedef as has_any_typedef};
 ghost use Rattle.c_ast.specs.UnitViews.{option_of};
 ghost use Rattle.c_ast.specs.Seen.{declarator_seen, specifiers_seen};
-ghost use Rattle.c_ast.specs.SeenUnits.{init_seen};
+ghost use Rattle.c_readings.specs.Reading.{answer, beyond};
 ghost use Rattle.c_readings.specs.Readers.{readers};
 ghost use Rattle.c_readings.specs.UnitReaders as reader;
 ghost use Rattle.c_expr.specs.State.{ahead};
@@ -13,12 +14,12 @@ ghost use Rattle.c_stmt.specs.Seen.{block_seen, external_seen};
 use crate::nodes::{declares, empty, function};
 use crate::statements::block_inside;
 use c_ast::{
-    Block, Declarator, External, FunctionDefinition, InitDeclarator, Specifiers,
-    declaration_height, sign,
+    Block, Declarator, External, FunctionDefinition, Specifiers, declarator_height, sign,
+    specifiers_height,
 };
 use c_decl::{
-    begins_specifier, boxed, declarations_to, declared, expect, inits_behind, is_sign, line_at,
-    low_specifiers, refuse, reopen_scope, takes, whole_declarator,
+    begins_specifier, boxed, declared, expect, inits_behind, is_sign, line_at, low_specifiers,
+    old_parameters_to, refuse, reopen_scope, takes, whole_declarator,
 };
 use c_expr::{Parser, SyntaxFault, has_typedef};
 use lcc_base::Items;
@@ -28,8 +29,8 @@ use lcc_base::Items;
 fn function_body(p: &mut Parser, limit: u32) -> Result<Block, SyntaxFault>
     requires sound { p.old.fault ≡ None }
     requires limit { limit ≤ 500 }
-    ensures ok { IfOk result (λ b. reader.function_body (readers 500) limit (ahead p.old) ≡ Some (block_seen b, ahead p.new)) }
-    ensures none { IfErr result (λ e. Fails e (reader.function_body (readers 500) limit (ahead p.old))) }
+    ensures ok { IfOk result (λ b. reader.function_body readers limit (ahead p.old) ≡ Some (block_seen b, ahead p.new)) }
+    ensures none { IfErr result (λ e. Fails e (reader.function_body readers limit (ahead p.old))) }
     ensures going { IfOk result (λ b. Goes 1 p.old p.new) }
     ensures broken { IfErr result (λ e. Breaks p.old p.new e) }
 {
@@ -53,13 +54,13 @@ fn function_at(
 ) -> Result<External, SyntaxFault>
     requires sound { p.old.fault ≡ None }
     requires limit { limit ≤ 500 }
-    ensures ok { IfOk result (λ x. reader.function (readers 500) limit line (option_of specifiers_seen specifiers) (declarator_seen declarator) (ahead p.old) ≡ Some (external_seen x, ahead p.new)) }
-    ensures none { IfErr result (λ e. Fails e (reader.function (readers 500) limit line (option_of specifiers_seen specifiers) (declarator_seen declarator) (ahead p.old))) }
+    ensures ok { IfOk result (λ x. reader.function readers limit line (option_of specifiers_seen specifiers) (declarator_seen declarator) (ahead p.old) ≡ Some (external_seen x, ahead p.new)) }
+    ensures none { IfErr result (λ e. Fails e (reader.function readers limit line (option_of specifiers_seen specifiers) (declarator_seen declarator) (ahead p.old))) }
     ensures going { IfOk result (λ x. Goes 1 p.old p.new) }
     ensures broken { IfErr result (λ e. Breaks p.old p.new e) }
 {
     reopen_scope(p)?;
-    let parameters = declarations_to(p, limit)?;
+    let parameters = old_parameters_to(p, limit)?;
     let body = function_body(p, limit)?;
     let definition = FunctionDefinition {
         specifiers,
@@ -70,28 +71,63 @@ fn function_at(
     Ok(function(line, boxed(p, definition)?))
 }
 
-/// The declaration of these parts, which has specifiers and is no higher than the limit.
-fn declares_at(
+/// The declaration without declarators behind specifiers, if it has some and is no higher than the
+/// limit, where `;` is next.
+fn declares_none_at(
     p: &mut Parser,
     limit: u32,
     line: u32,
     specifiers: Option<Specifiers>,
-    declarators: Items<InitDeclarator>,
 ) -> Result<External, SyntaxFault>
     requires sound { p.old.fault ≡ None }
     requires limit { limit ≤ 500 }
-    ensures ok { IfOk result (λ x. reader.declares limit line (option_of specifiers_seen specifiers) (map init_seen declarators) (ahead p.old) ≡ Some (external_seen x, ahead p.new)) }
-    ensures none { IfErr result (λ e. Fails e (reader.declares limit line (option_of specifiers_seen specifiers) (map init_seen declarators) (ahead p.old))) }
-    ensures going { IfOk result (λ x. Goes 0 p.old p.new) }
+    requires next { answer (IsSign 32) (ahead p.old) ≡ true }
+    ensures ok { IfOk result (λ x. reader.declares_none limit line (option_of specifiers_seen specifiers) (beyond (ahead p.old)) ≡ Some (external_seen x, ahead p.new)) }
+    ensures none { IfErr result (λ e. Fails e (reader.declares_none limit line (option_of specifiers_seen specifiers) (beyond (ahead p.old)))) }
+    ensures going { IfOk result (λ x. Goes 1 p.old p.new) }
     ensures broken { IfErr result (λ e. Breaks p.old p.new e) }
 {
     let Some(specifiers) = specifiers else {
         return Err(refuse(p));
     };
-    let declaration = declared(line, specifiers, declarators);
-    if declaration_height(&declaration) > limit {
+    if specifiers_height(&specifiers) >= limit {
         return Err(refuse(p));
     }
+    expect(p, sign::SEMICOLON)?;
+    let declarators = Items::new(p.alloc());
+    let declaration = declared(line, specifiers, declarators);
+    Ok(declares(line, declaration))
+}
+
+/// The declaration behind its first declarator, which stands on the line `at`, if it has specifiers
+/// and is no higher than the limit.
+fn declares_at(
+    p: &mut Parser,
+    limit: u32,
+    line: u32,
+    specifiers: Option<Specifiers>,
+    at: u32,
+    declarator: Declarator,
+) -> Result<External, SyntaxFault>
+    requires sound { p.old.fault ≡ None }
+    requires limit { limit ≤ 500 }
+    ensures ok { IfOk result (λ x. reader.declares readers limit line (option_of specifiers_seen specifiers) at (declarator_seen declarator) (ahead p.old) ≡ Some (external_seen x, ahead p.new)) }
+    ensures none { IfErr result (λ e. Fails e (reader.declares readers limit line (option_of specifiers_seen specifiers) at (declarator_seen declarator) (ahead p.old))) }
+    ensures going { IfOk result (λ x. Goes 1 p.old p.new) }
+    ensures broken { IfErr result (λ e. Breaks p.old p.new e) }
+{
+    let Some(specifiers) = specifiers else {
+        return Err(refuse(p));
+    };
+    if specifiers_height(&specifiers) >= limit {
+        return Err(refuse(p));
+    }
+    if declarator_height(&declarator) >= limit {
+        return Err(refuse(p));
+    }
+    let typedef = has_typedef(&specifiers);
+    let declarators = inits_behind(p, limit - 1, typedef, at, declarator)?;
+    let declaration = declared(line, specifiers, declarators);
     Ok(declares(line, declaration))
 }
 
@@ -122,22 +158,21 @@ fn external_behind(
 ) -> Result<External, SyntaxFault>
     requires sound { p.old.fault ≡ None }
     requires limit { limit ≤ 500 }
-    ensures ok { IfOk result (λ x. reader.external_behind (readers 500) limit line (option_of specifiers_seen specifiers) (ahead p.old) ≡ Some (external_seen x, ahead p.new)) }
-    ensures none { IfErr result (λ e. Fails e (reader.external_behind (readers 500) limit line (option_of specifiers_seen specifiers) (ahead p.old))) }
+    ensures ok { IfOk result (λ x. reader.external_behind readers limit line (option_of specifiers_seen specifiers) (ahead p.old) ≡ Some (external_seen x, ahead p.new)) }
+    ensures none { IfErr result (λ e. Fails e (reader.external_behind readers limit line (option_of specifiers_seen specifiers) (ahead p.old))) }
     ensures going { IfOk result (λ x. Goes 1 p.old p.new) }
     ensures broken { IfErr result (λ e. Breaks p.old p.new e) }
 {
-    if takes(p, sign::SEMICOLON) {
-        return declares_at(p, limit, line, specifiers, Items::new(p.alloc()));
+    if is_sign(p, sign::SEMICOLON) {
+        return declares_none_at(p, limit, line, specifiers);
     }
     let at = line_at(p);
     let typedef = maybe_typedef(&specifiers);
     let declarator = whole_declarator(p, limit, typedef)?;
-    if !is_declaring(p) {
-        return function_at(p, limit, line, specifiers, declarator);
+    if is_declaring(p) {
+        return declares_at(p, limit, line, specifiers, at, declarator);
     }
-    let declarators = inits_behind(p, limit, typedef, at, declarator)?;
-    declares_at(p, limit, line, specifiers, declarators)
+    function_at(p, limit, line, specifiers, declarator)
 }
 
 /// The specifiers that are next, if any are.
@@ -145,8 +180,8 @@ fn external_behind(
 fn maybe_specifiers(p: &mut Parser, limit: u32) -> Result<Option<Specifiers>, SyntaxFault>
     requires sound { p.old.fault ≡ None }
     requires limit { limit ≤ 500 }
-    ensures ok { IfOk result (λ s. reader.maybe_specifiers (readers 500) limit (ahead p.old) ≡ Some (option_of specifiers_seen s, ahead p.new)) }
-    ensures none { IfErr result (λ e. Fails e (reader.maybe_specifiers (readers 500) limit (ahead p.old))) }
+    ensures ok { IfOk result (λ s. reader.maybe_specifiers readers limit (ahead p.old) ≡ Some (option_of specifiers_seen s, ahead p.new)) }
+    ensures none { IfErr result (λ e. Fails e (reader.maybe_specifiers readers limit (ahead p.old))) }
     ensures going { IfOk result (λ s. Goes 0 p.old p.new) }
     ensures broken { IfErr result (λ e. Breaks p.old p.new e) }
 {
@@ -166,8 +201,8 @@ pub(crate) fn external_at(
 ) -> Result<External, SyntaxFault>
     requires sound { p.old.fault ≡ None }
     requires limit { limit ≤ 500 }
-    ensures ok { IfOk result (λ x. reader.external (readers 500) limit is_first (ahead p.old) ≡ Some (external_seen x, ahead p.new)) }
-    ensures none { IfErr result (λ e. Fails e (reader.external (readers 500) limit is_first (ahead p.old))) }
+    ensures ok { IfOk result (λ x. reader.external readers limit is_first (ahead p.old) ≡ Some (external_seen x, ahead p.new)) }
+    ensures none { IfErr result (λ e. Fails e (reader.external readers limit is_first (ahead p.old))) }
     ensures going { IfOk result (λ x. Goes 1 p.old p.new) }
     ensures broken { IfErr result (λ e. Breaks p.old p.new e) }
 {

@@ -6,9 +6,8 @@ ghost use Rattle.c_ast.specs.Seen.{expr_seen};
 ghost use Rattle.c_readings.specs.Reading.{answer, bind, gives, open_state};
 ghost use Rattle.c_readings.specs.Readers.{readers};
 ghost use Rattle.c_readings.specs.StatementReaders as reader;
-ghost use Rattle.c_expr.specs.State.{ahead, Took};
+ghost use Rattle.c_expr.specs.State.{ahead, Refused, Took};
 ghost use Rattle.c_decl.specs.Going.{Goes, Breaks, Fails};
-ghost use Rattle.c_decl.specs.Stopping.{Stopped};
 ghost use Rattle.c_stmt.specs.Listed.{statements_in};
 ghost use Rattle.c_stmt.specs.Productions as production;
 ghost use Rattle.c_stmt.specs.Seen.{block_seen, statement_seen};
@@ -39,11 +38,12 @@ struct Guarded {
 /// The statement at the place. Source: C89 3.6.
 ///
 /// The call takes the longest statement at the place, no higher than 500: an `else` goes with the
-/// nearest `if`. NoParse comes exactly where none stands there, with the line of a token, and Memory
-/// where an allocation is refused; the fault is answered again by each later call.
+/// nearest `if`. NoParse comes exactly where none stands there, with the line of the token by which
+/// nothing goes on, which is at the place from there on; and Memory where an allocation is refused.
+/// The fault is answered again by each later call.
 pub fn statement(p: &mut Parser) -> Result<Statement, SyntaxFault>
     ensures ok { IfOk result (λ s. Took production.statement (ahead p.old) p.old (statement_seen s) p.new) }
-    ensures err { IfErr result (λ e. Stopped production.statement (ahead p.old) p.old p.new e) }
+    ensures err { IfErr result (λ e. Refused production.statement (ahead p.old) p.old p.new e) }
 {
     units_are_exact();
     if let Some(fault) = p.fault() {
@@ -58,8 +58,8 @@ pub fn statement(p: &mut Parser) -> Result<Statement, SyntaxFault>
 fn statement_at(p: &mut Parser, limit: u32) -> Result<Statement, SyntaxFault>
     requires sound { p.old.fault ≡ None }
     requires limit { limit ≤ 500 }
-    ensures ok { IfOk result (λ s. reader.statement (readers 500) limit (ahead p.old) ≡ Some (statement_seen s, ahead p.new)) }
-    ensures none { IfErr result (λ e. Fails e (reader.statement (readers 500) limit (ahead p.old))) }
+    ensures ok { IfOk result (λ s. reader.statement readers limit (ahead p.old) ≡ Some (statement_seen s, ahead p.new)) }
+    ensures none { IfErr result (λ e. Fails e (reader.statement readers limit (ahead p.old))) }
     ensures going { IfOk result (λ s. Goes 1 p.old p.new) }
     ensures broken { IfErr result (λ e. Breaks p.old p.new e) }
 {
@@ -85,8 +85,8 @@ fn statement_at(p: &mut Parser, limit: u32) -> Result<Statement, SyntaxFault>
 fn labelled_at(p: &mut Parser, limit: u32) -> Result<Statement, SyntaxFault>
     requires sound { p.old.fault ≡ None }
     requires limit { limit ≤ 500 }
-    ensures ok { IfOk result (λ s. reader.labelled (reader.statement (readers 500) limit) (ahead p.old) ≡ Some (statement_seen s, ahead p.new)) }
-    ensures none { IfErr result (λ e. Fails e (reader.labelled (reader.statement (readers 500) limit) (ahead p.old))) }
+    ensures ok { IfOk result (λ s. reader.labelled (reader.statement readers limit) (ahead p.old) ≡ Some (statement_seen s, ahead p.new)) }
+    ensures none { IfErr result (λ e. Fails e (reader.labelled (reader.statement readers limit) (ahead p.old))) }
     ensures going { IfOk result (λ s. Goes 1 p.old p.new) }
     ensures broken { IfErr result (λ e. Breaks p.old p.new e) }
 {
@@ -101,8 +101,8 @@ fn labelled_at(p: &mut Parser, limit: u32) -> Result<Statement, SyntaxFault>
 fn inner_at(p: &mut Parser, limit: u32) -> Result<Box<Statement>, SyntaxFault>
     requires sound { p.old.fault ≡ None }
     requires limit { limit ≤ 500 }
-    ensures ok { IfOk result (λ s. reader.statement (readers 500) limit (ahead p.old) ≡ Some (statement_seen s.value, ahead p.new)) }
-    ensures none { IfErr result (λ e. Fails e (reader.statement (readers 500) limit (ahead p.old))) }
+    ensures ok { IfOk result (λ s. reader.statement readers limit (ahead p.old) ≡ Some (statement_seen s.value, ahead p.new)) }
+    ensures none { IfErr result (λ e. Fails e (reader.statement readers limit (ahead p.old))) }
     ensures going { IfOk result (λ s. Goes 1 p.old p.new) }
     ensures broken { IfErr result (λ e. Breaks p.old p.new e) }
 {
@@ -116,8 +116,8 @@ fn inner_at(p: &mut Parser, limit: u32) -> Result<Box<Statement>, SyntaxFault>
 fn behind_colon(p: &mut Parser, limit: u32) -> Result<Box<Statement>, SyntaxFault>
     requires sound { p.old.fault ≡ None }
     requires limit { limit ≤ 500 }
-    ensures ok { IfOk result (λ s. reader.behind_colon (reader.statement (readers 500) limit) (ahead p.old) ≡ Some (statement_seen s.value, ahead p.new)) }
-    ensures none { IfErr result (λ e. Fails e (reader.behind_colon (reader.statement (readers 500) limit) (ahead p.old))) }
+    ensures ok { IfOk result (λ s. reader.behind_colon (reader.statement readers limit) (ahead p.old) ≡ Some (statement_seen s.value, ahead p.new)) }
+    ensures none { IfErr result (λ e. Fails e (reader.behind_colon (reader.statement readers limit) (ahead p.old))) }
     ensures going { IfOk result (λ s. Goes 1 p.old p.new) }
     ensures broken { IfErr result (λ e. Breaks p.old p.new e) }
 {
@@ -131,8 +131,8 @@ fn behind_colon(p: &mut Parser, limit: u32) -> Result<Box<Statement>, SyntaxFaul
 fn guarded_at(p: &mut Parser, limit: u32) -> Result<Guarded, SyntaxFault>
     requires sound { p.old.fault ≡ None }
     requires limit { limit ≤ 500 }
-    ensures ok { IfOk result (λ g. reader.guarded (readers 500) limit (reader.statement (readers 500) limit) (ahead p.old) ≡ Some ((expr_seen g.condition, statement_seen g.inner.value), ahead p.new)) }
-    ensures none { IfErr result (λ e. Fails e (reader.guarded (readers 500) limit (reader.statement (readers 500) limit) (ahead p.old))) }
+    ensures ok { IfOk result (λ g. reader.guarded readers limit (reader.statement readers limit) (ahead p.old) ≡ Some ((expr_seen g.condition, statement_seen g.inner.value), ahead p.new)) }
+    ensures none { IfErr result (λ e. Fails e (reader.guarded readers limit (reader.statement readers limit) (ahead p.old))) }
     ensures going { IfOk result (λ g. Goes 1 p.old p.new) }
     ensures broken { IfErr result (λ e. Breaks p.old p.new e) }
 {
@@ -146,8 +146,8 @@ fn guarded_at(p: &mut Parser, limit: u32) -> Result<Guarded, SyntaxFault>
 fn by_word(p: &mut Parser, limit: u32, line: u32, word: Word) -> Result<Statement, SyntaxFault>
     requires sound { p.old.fault ≡ None }
     requires limit { limit ≤ 500 }
-    ensures ok { IfOk result (λ s. reader.by_word (readers 500) limit (reader.statement (readers 500) limit) line (seen_word word) (ahead p.old) ≡ Some (statement_seen s, ahead p.new)) }
-    ensures none { IfErr result (λ e. Fails e (reader.by_word (readers 500) limit (reader.statement (readers 500) limit) line (seen_word word) (ahead p.old))) }
+    ensures ok { IfOk result (λ s. reader.by_word readers limit (reader.statement readers limit) line (seen_word word) (ahead p.old) ≡ Some (statement_seen s, ahead p.new)) }
+    ensures none { IfErr result (λ e. Fails e (reader.by_word readers limit (reader.statement readers limit) line (seen_word word) (ahead p.old))) }
     ensures going { IfOk result (λ s. Goes 1 p.old p.new) }
     ensures broken { IfErr result (λ e. Breaks p.old p.new e) }
 {
@@ -197,8 +197,8 @@ fn by_word(p: &mut Parser, limit: u32, line: u32, word: Word) -> Result<Statemen
 fn if_at(p: &mut Parser, limit: u32, line: u32) -> Result<Statement, SyntaxFault>
     requires sound { p.old.fault ≡ None }
     requires limit { limit ≤ 500 }
-    ensures ok { IfOk result (λ s. reader.if_behind (readers 500) limit (reader.statement (readers 500) limit) line (ahead p.old) ≡ Some (statement_seen s, ahead p.new)) }
-    ensures none { IfErr result (λ e. Fails e (reader.if_behind (readers 500) limit (reader.statement (readers 500) limit) line (ahead p.old))) }
+    ensures ok { IfOk result (λ s. reader.if_behind readers limit (reader.statement readers limit) line (ahead p.old) ≡ Some (statement_seen s, ahead p.new)) }
+    ensures none { IfErr result (λ e. Fails e (reader.if_behind readers limit (reader.statement readers limit) line (ahead p.old))) }
     ensures going { IfOk result (λ s. Goes 1 p.old p.new) }
     ensures broken { IfErr result (λ e. Breaks p.old p.new e) }
 {
@@ -216,8 +216,8 @@ fn if_at(p: &mut Parser, limit: u32, line: u32) -> Result<Statement, SyntaxFault
 fn do_at(p: &mut Parser, limit: u32, line: u32) -> Result<Statement, SyntaxFault>
     requires sound { p.old.fault ≡ None }
     requires limit { limit ≤ 500 }
-    ensures ok { IfOk result (λ s. reader.do_behind (readers 500) limit (reader.statement (readers 500) limit) line (ahead p.old) ≡ Some (statement_seen s, ahead p.new)) }
-    ensures none { IfErr result (λ e. Fails e (reader.do_behind (readers 500) limit (reader.statement (readers 500) limit) line (ahead p.old))) }
+    ensures ok { IfOk result (λ s. reader.do_behind readers limit (reader.statement readers limit) line (ahead p.old) ≡ Some (statement_seen s, ahead p.new)) }
+    ensures none { IfErr result (λ e. Fails e (reader.do_behind readers limit (reader.statement readers limit) line (ahead p.old))) }
     ensures going { IfOk result (λ s. Goes 1 p.old p.new) }
     ensures broken { IfErr result (λ e. Breaks p.old p.new e) }
 {
@@ -236,8 +236,8 @@ fn do_at(p: &mut Parser, limit: u32, line: u32) -> Result<Statement, SyntaxFault
 fn for_at(p: &mut Parser, limit: u32, line: u32) -> Result<Statement, SyntaxFault>
     requires sound { p.old.fault ≡ None }
     requires limit { limit ≤ 500 }
-    ensures ok { IfOk result (λ s. reader.for_behind (readers 500) limit (reader.statement (readers 500) limit) line (ahead p.old) ≡ Some (statement_seen s, ahead p.new)) }
-    ensures none { IfErr result (λ e. Fails e (reader.for_behind (readers 500) limit (reader.statement (readers 500) limit) line (ahead p.old))) }
+    ensures ok { IfOk result (λ s. reader.for_behind readers limit (reader.statement readers limit) line (ahead p.old) ≡ Some (statement_seen s, ahead p.new)) }
+    ensures none { IfErr result (λ e. Fails e (reader.for_behind readers limit (reader.statement readers limit) line (ahead p.old))) }
     ensures going { IfOk result (λ s. Goes 1 p.old p.new) }
     ensures broken { IfErr result (λ e. Breaks p.old p.new e) }
 {
@@ -254,8 +254,8 @@ fn for_at(p: &mut Parser, limit: u32, line: u32) -> Result<Statement, SyntaxFaul
 fn evaluate_at(p: &mut Parser, limit: u32) -> Result<Statement, SyntaxFault>
     requires sound { p.old.fault ≡ None }
     requires limit { limit ≤ 500 }
-    ensures ok { IfOk result (λ s. reader.evaluate (readers 500) limit (ahead p.old) ≡ Some (statement_seen s, ahead p.new)) }
-    ensures none { IfErr result (λ e. Fails e (reader.evaluate (readers 500) limit (ahead p.old))) }
+    ensures ok { IfOk result (λ s. reader.evaluate readers limit (ahead p.old) ≡ Some (statement_seen s, ahead p.new)) }
+    ensures none { IfErr result (λ e. Fails e (reader.evaluate readers limit (ahead p.old))) }
     ensures going { IfOk result (λ s. Goes 1 p.old p.new) }
     ensures broken { IfErr result (λ e. Breaks p.old p.new e) }
 {
@@ -269,8 +269,8 @@ fn evaluate_at(p: &mut Parser, limit: u32) -> Result<Statement, SyntaxFault>
 fn compound_at(p: &mut Parser, limit: u32, line: u32) -> Result<Statement, SyntaxFault>
     requires sound { p.old.fault ≡ None }
     requires limit { limit ≤ 500 }
-    ensures ok { IfOk result (λ s. bind (reader.block_inside (readers 500) limit (reader.statement (readers 500) limit) line (open_state (ahead p.old))) (λ b t. gives (Compound line b) t) ≡ Some (statement_seen s, ahead p.new)) }
-    ensures none { IfErr result (λ e. Fails e (bind (reader.block_inside (readers 500) limit (reader.statement (readers 500) limit) line (open_state (ahead p.old))) (λ b t. gives (Compound line b) t))) }
+    ensures ok { IfOk result (λ s. bind (reader.block_inside readers limit (reader.statement readers limit) line (open_state (ahead p.old))) (λ b t. gives (Compound line b) t) ≡ Some (statement_seen s, ahead p.new)) }
+    ensures none { IfErr result (λ e. Fails e (bind (reader.block_inside readers limit (reader.statement readers limit) line (open_state (ahead p.old))) (λ b t. gives (Compound line b) t))) }
     ensures going { IfOk result (λ s. Goes 1 p.old p.new) }
     ensures broken { IfErr result (λ e. Breaks p.old p.new e) }
 {
@@ -291,8 +291,8 @@ fn goes_on(p: &Parser) -> bool
 fn statements_at(p: &mut Parser, limit: u32) -> Result<Items<Statement>, SyntaxFault>
     requires sound { p.old.fault ≡ None }
     requires limit { limit ≤ 500 }
-    ensures ok { IfOk result (λ ss. statements_in (reader.statement (readers 500) limit) (ahead p.old) ≡ Some (map statement_seen ss, ahead p.new)) }
-    ensures none { IfErr result (λ e. Fails e (statements_in (reader.statement (readers 500) limit) (ahead p.old))) }
+    ensures ok { IfOk result (λ ss. statements_in (reader.statement readers limit) (ahead p.old) ≡ Some (map statement_seen ss, ahead p.new)) }
+    ensures none { IfErr result (λ e. Fails e (statements_in (reader.statement readers limit) (ahead p.old))) }
     ensures going { IfOk result (λ ss. Goes 0 p.old p.new) }
     ensures broken { IfErr result (λ e. Breaks p.old p.new e) }
 {
@@ -310,8 +310,8 @@ fn statements_at(p: &mut Parser, limit: u32) -> Result<Items<Statement>, SyntaxF
 pub(crate) fn block_inside(p: &mut Parser, limit: u32, line: u32) -> Result<Block, SyntaxFault>
     requires sound { p.old.fault ≡ None }
     requires limit { limit ≤ 500 }
-    ensures ok { IfOk result (λ b. reader.block_inside (readers 500) limit (reader.statement (readers 500) limit) line (ahead p.old) ≡ Some (block_seen b, ahead p.new)) }
-    ensures none { IfErr result (λ e. Fails e (reader.block_inside (readers 500) limit (reader.statement (readers 500) limit) line (ahead p.old))) }
+    ensures ok { IfOk result (λ b. reader.block_inside readers limit (reader.statement readers limit) line (ahead p.old) ≡ Some (block_seen b, ahead p.new)) }
+    ensures none { IfErr result (λ e. Fails e (reader.block_inside readers limit (reader.statement readers limit) line (ahead p.old))) }
     ensures going { IfOk result (λ b. Goes 1 p.old p.new) }
     ensures broken { IfErr result (λ e. Breaks p.old p.new e) }
 {

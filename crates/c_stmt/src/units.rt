@@ -20,8 +20,9 @@ use lcc_base::Items;
 use std::alloc::Global;
 
 /// The unit that a source denotes. Lex comes exactly where the source can't be cut into tokens, NoParse
-/// exactly where it is cut and denotes no unit of a height of at most 500, with the line of a token or
-/// the first, and Memory where an allocation is refused. Source: C89 3.7.
+/// exactly where it is cut and denotes no unit of a height of at most 500, with the line of the token by
+/// which nothing goes on, at the end that of the last token, and 1 where there is none; and Memory where
+/// an allocation is refused. Source: C89 3.7.
 pub fn unit(alloc: Global, source: &[u8]) -> Result<Unit, SyntaxFault>
     requires { length source.now ≤ 16777216 }
     ensures ok { IfOk result (λ u. DenotesUnit source.now (unit_tree u)) }
@@ -41,8 +42,8 @@ pub fn unit(alloc: Global, source: &[u8]) -> Result<Unit, SyntaxFault>
 fn unit_at(p: &mut Parser, limit: u32) -> Result<Unit, SyntaxFault>
     requires sound { p.old.fault ≡ None }
     requires limit { limit ≤ 500 }
-    ensures ok { IfOk result (λ u. reader.unit (readers 500) limit (ahead p.old) ≡ Some (unit_seen u, ahead p.new)) }
-    ensures none { IfErr result (λ e. Fails e (reader.unit (readers 500) limit (ahead p.old))) }
+    ensures ok { IfOk result (λ u. reader.unit readers limit (ahead p.old) ≡ Some (unit_seen u, ahead p.new)) }
+    ensures none { IfErr result (λ e. Fails e (reader.unit readers limit (ahead p.old))) }
     ensures going { IfOk result (λ u. Goes 1 p.old p.new) }
     ensures broken { IfErr result (λ e. Breaks p.old p.new e) }
 {

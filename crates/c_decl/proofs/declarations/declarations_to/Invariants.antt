@@ -13,7 +13,7 @@ use Rattle.c_decl.proofs.declarations.declarations_to.Given as goal
 abbrev pub invariant-loop-p : goal.invariant-loop-p
 invariant-loop-p l =
     Goes 0 l.fn.p l.p
-    × Left (λ (b : Bool) t. answer IsDeclaration t) (λ (b : Bool) t. reader.declaration (readers 500) l.fn.limit t) (λ (b : Bool) x. b) (λ ds t. gives ds t) (reader.declarations (readers 500) l.fn.limit (ahead l.fn.p)) (map declaration_seen l.list) true (ahead l.p)
+    × Left (λ (b : Bool) t. answer IsDeclaration t) (λ (b : Bool) t. reader.declaration readers l.fn.limit t) (λ (b : Bool) x. b) (λ ds t. gives ds t) (reader.declarations readers l.fn.limit (ahead l.fn.p)) (map declaration_seen l.list) true (ahead l.p)
 
 abbrev pub decreases-loop-p : goal.decreases-loop-p
 decreases-loop-p l = length (ahead l.p).rest

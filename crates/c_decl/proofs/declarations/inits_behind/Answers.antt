@@ -16,11 +16,11 @@ unfolding inits_behind
 loop-p-init c =
     rw (c.in_ok-list.ensures.same, c.in_ok-list.ensures.list) (
       c.in_ok-first.ensures.going,
-      commas_on (reader.init (readers 500) c.args.limit c.args.typedef) (λ is u. one_sign 32 u (λ v. gives is v)) (inits_behind (readers 500) c.args.limit c.args.typedef c.args.line (declarator_seen c.args.declarator) (ahead c.args.p.now)) (ahead c.init_behind.new.p) (init_seen c.in_ok-first.first) (rw c.in_ok-first.ensures.ok refl),
+      commas_on (reader.init readers c.args.limit c.args.typedef) (λ is u. one_sign 32 u (λ v. gives is v)) (inits_behind readers c.args.limit c.args.typedef c.args.line (declarator_seen c.args.declarator) (ahead c.args.p.now)) (ahead c.init_behind.new.p) (init_seen c.in_ok-first.first) (rw c.in_ok-first.ensures.ok refl),
     )
 
 pub returns-in_err-other-clause-none : goal.returns-in_err-other-clause-none
-returns-in_err-other-clause-none c = passed c.from_residual-in_err-other.result c.from_residual-in_err-other.ensures.1 (err c.in_err-other.ensures.none (λ z. commas_stop c.loop-p.invariant.1 (sym c.takes.ensures.next ∙ c.loop-p-test.true) (ap (reader.init (readers 500) c.args.limit c.args.typedef) (sym (c.takes.ensures.beyond c.loop-p-test.true)) ∙ z)))
+returns-in_err-other-clause-none c = passed c.from_residual-in_err-other.result c.from_residual-in_err-other.ensures.1 (err c.in_err-other.ensures.none (λ z. commas_stop c.loop-p.invariant.1 (sym c.takes.ensures.next ∙ c.loop-p-test.true) (ap (reader.init readers c.args.limit c.args.typedef) (sym (c.takes.ensures.beyond c.loop-p-test.true)) ∙ z)))
 
 pub loop-p-preserved : goal.loop-p-preserved
 loop-p-preserved c =
@@ -28,7 +28,7 @@ loop-p-preserved c =
     let other = c.in_ok-other.ensures.going in
     rw (c.in_ok-keep.ensures.same, c.in_ok-keep.ensures.list) (
       goes_then 0 0 c.args.p.now c.takes.new.p c.init_at.new.p (goes_then 0 1 c.args.p.now c.loop-p.p c.takes.new.p c.loop-p.invariant.0 comma) other,
-      rw (seen_more init_seen c.loop-p.list c.in_ok-other.other) (commas_go c.loop-p.invariant.1 (sym c.takes.ensures.next ∙ c.loop-p-test.true) (ap (reader.init (readers 500) c.args.limit c.args.typedef) (sym (c.takes.ensures.beyond c.loop-p-test.true)) ∙ c.in_ok-other.ensures.ok) (omega (arith, comma.4, other.4))),
+      rw (seen_more init_seen c.loop-p.list c.in_ok-other.other) (commas_go c.loop-p.invariant.1 (sym c.takes.ensures.next ∙ c.loop-p-test.true) (ap (reader.init readers c.args.limit c.args.typedef) (sym (c.takes.ensures.beyond c.loop-p-test.true)) ∙ c.in_ok-other.ensures.ok) (omega (arith, comma.4, other.4))),
     )
 
 pub returns-in_err-expect-clause-none : goal.returns-in_err-expect-clause-none

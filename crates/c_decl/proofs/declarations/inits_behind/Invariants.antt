@@ -13,7 +13,7 @@ use Rattle.c_decl.proofs.declarations.inits_behind.Given as goal
 abbrev pub invariant-loop-p : goal.invariant-loop-p
 invariant-loop-p l =
     Goes 0 l.fn.p l.p
-    × CommasLeft (reader.init (readers 500) l.fn.limit l.fn.typedef) (λ is u. one_sign 32 u (λ v. gives is v)) (reader.inits_behind (readers 500) l.fn.limit l.fn.typedef l.fn.line (declarator_seen l.fn.declarator) (ahead l.fn.p)) (map init_seen l.list) (ahead l.p)
+    × CommasLeft (reader.init readers l.fn.limit l.fn.typedef) (λ is u. one_sign 32 u (λ v. gives is v)) (reader.inits_behind readers l.fn.limit l.fn.typedef l.fn.line (declarator_seen l.fn.declarator) (ahead l.fn.p)) (map init_seen l.list) (ahead l.p)
 
 abbrev pub decreases-loop-p : goal.decreases-loop-p
 decreases-loop-p l = length (ahead l.p).rest

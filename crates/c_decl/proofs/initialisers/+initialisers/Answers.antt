@@ -17,11 +17,11 @@ unfolding initialisers
 initialisers_at-loop-p-init t c =
     rw (c.in_ok-items.ensures.same, c.in_ok-items.ensures.list) (
       c.in_ok-first.ensures.going,
-      starts_behind (λ (b : Bool) u. goes_on_without 5 u) (λ (b : Bool) u. initialiser (readers 500) c.args.limit (beyond u)) (λ (b : Bool) x. b) (λ is u. comma_end (initialisers_of is) u) (initialisers (initialiser (readers 500) c.args.limit) (ahead c.args.p.now)) (initialiser_seen c.in_ok-first.first) true (ahead c.initialiser_at.new.p) (rw c.in_ok-first.ensures.ok refl),
+      starts_behind (λ (b : Bool) u. goes_on_without 5 u) (λ (b : Bool) u. initialiser readers c.args.limit (beyond u)) (λ (b : Bool) x. b) (λ is u. comma_end (initialisers_of is) u) (initialisers (initialiser readers c.args.limit) (ahead c.args.p.now)) (initialiser_seen c.in_ok-first.first) true (ahead c.initialiser_at.new.p) (rw c.in_ok-first.ensures.ok refl),
     )
 
 pub initialisers_at-returns-in_err-item-clause-none : goal.initialisers_at-returns-in_err-item-clause-none
-initialisers_at-returns-in_err-item-clause-none t c = passed c.from_residual-in_err-item.result c.from_residual-in_err-item.ensures.1 (err c.in_err-item.ensures.none (λ z. stops c.loop-p.invariant.1 (sym c.takes_comma.ensures.next ∙ c.loop-p-test.true) (ap (initialiser (readers 500) c.args.limit) (sym (c.takes_comma.ensures.beyond c.loop-p-test.true)) ∙ z)))
+initialisers_at-returns-in_err-item-clause-none t c = passed c.from_residual-in_err-item.result c.from_residual-in_err-item.ensures.1 (err c.in_err-item.ensures.none (λ z. stops c.loop-p.invariant.1 (sym c.takes_comma.ensures.next ∙ c.loop-p-test.true) (ap (initialiser readers c.args.limit) (sym (c.takes_comma.ensures.beyond c.loop-p-test.true)) ∙ z)))
 
 pub initialisers_at-loop-p-preserved : goal.initialisers_at-loop-p-preserved
 initialisers_at-loop-p-preserved t c =
@@ -29,7 +29,7 @@ initialisers_at-loop-p-preserved t c =
     let item = c.in_ok-item.ensures.going in
     rw (c.in_ok-keep.ensures.same, c.in_ok-keep.ensures.list) (
       goes_then 1 1 c.args.p.now c.takes_comma.new.p c.initialiser_at-in-loop-p.new.p (goes_then 1 1 c.args.p.now c.loop-p.p c.takes_comma.new.p c.loop-p.invariant.0 comma) item,
-      rw (seen_more initialiser_seen c.loop-p.items c.in_ok-item.item) (goes c.loop-p.invariant.1 (sym c.takes_comma.ensures.next ∙ c.loop-p-test.true) (ap (initialiser (readers 500) c.args.limit) (sym (c.takes_comma.ensures.beyond c.loop-p-test.true)) ∙ c.in_ok-item.ensures.ok) (omega (arith, comma.4, item.4))),
+      rw (seen_more initialiser_seen c.loop-p.items c.in_ok-item.item) (goes c.loop-p.invariant.1 (sym c.takes_comma.ensures.next ∙ c.loop-p-test.true) (ap (initialiser readers c.args.limit) (sym (c.takes_comma.ensures.beyond c.loop-p-test.true)) ∙ c.in_ok-item.ensures.ok) (omega (arith, comma.4, item.4))),
     )
 
 pub initialisers_at-returns-in_err-expect-clause-none : goal.initialisers_at-returns-in_err-expect-clause-none

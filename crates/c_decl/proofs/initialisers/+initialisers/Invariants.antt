@@ -20,7 +20,7 @@ decreases-initialisers_at l = 2 * l.limit + 1
 abbrev pub invariant-initialisers_at-loop-p : goal.invariant-initialisers_at-loop-p
 invariant-initialisers_at-loop-p l =
     Goes 1 l.fn.p l.p
-    × Left (λ (b : Bool) u. goes_on_without 5 u) (λ (b : Bool) u. initialiser (readers 500) l.fn.limit (beyond u)) (λ (b : Bool) x. b) (λ is u. comma_end (initialisers_of is) u) (initialisers (initialiser (readers 500) l.fn.limit) (ahead l.fn.p)) (map initialiser_seen l.items) true (ahead l.p)
+    × Left (λ (b : Bool) u. goes_on_without 5 u) (λ (b : Bool) u. initialiser readers l.fn.limit (beyond u)) (λ (b : Bool) x. b) (λ is u. comma_end (initialisers_of is) u) (initialisers (initialiser readers l.fn.limit) (ahead l.fn.p)) (map initialiser_seen l.items) true (ahead l.p)
 
 abbrev pub decreases-initialisers_at-loop-p : goal.decreases-initialisers_at-loop-p
 decreases-initialisers_at-loop-p l = length (ahead l.p).rest

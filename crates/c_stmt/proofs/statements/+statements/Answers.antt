@@ -1,5 +1,5 @@
 -- Which statement is next, and the loop over the statements of a block.
-use Rattle.std.proofs.Common.{◌≡◌, ◌-◌, ℕ, map, None, Some, IfOk, IfErr, sym, ap, subst, ◌∙◌, arith}
+use Rattle.std.proofs.Common.{◌≡◌, ◌-◌, ℕ, Some, IfOk, IfErr, sym, ap, subst, ◌∙◌, arith}
 use Rattle.c_ast.specs.Marks.{IsSign}
 use Rattle.c_readings.specs.Reading.{State, Read, answer, beyond, bind, gives, here, open_state}
 use Rattle.c_readings.specs.Readers.{readers}
@@ -16,37 +16,37 @@ use Rattle.c_stmt.proofs.statements.+statements.Goals as goal
 
 pub statement_at-returns-then-is_label-clause-ok : goal.statement_at-returns-then-is_label-clause-ok
 statement_at-returns-then-is_label-clause-ok t c =
-    let is = label_next (readers 500) c.args.limit (ahead c.args.p.now) (omega (arith, c.if-limit-eq0.false)) (sym c.is_label.ensures ∙ c.if-is_label.true) in
+    let is = label_next readers c.args.limit (ahead c.args.p.now) (omega (arith, c.if-limit-eq0.false)) (sym c.is_label.ensures ∙ c.if-is_label.true) in
     ok_by (λ s. (statement_seen s, ahead c.labelled_at.new.p)) is c.labelled_at.result c.labelled_at.ensures.ok
 
 pub statement_at-returns-then-is_label-clause-none : goal.statement_at-returns-then-is_label-clause-none
 statement_at-returns-then-is_label-clause-none t c =
-    let is = label_next (readers 500) c.args.limit (ahead c.args.p.now) (omega (arith, c.if-limit-eq0.false)) (sym c.is_label.ensures ∙ c.if-is_label.true) in
+    let is = label_next readers c.args.limit (ahead c.args.p.now) (omega (arith, c.if-limit-eq0.false)) (sym c.is_label.ensures ∙ c.if-is_label.true) in
     none_by is c.labelled_at.result c.labelled_at.ensures.none
 
 pub statement_at-returns-in-Some-clause-ok : goal.statement_at-returns-in-Some-clause-ok
 statement_at-returns-in-Some-clause-ok t c =
     let word = sym c.takes_word.ensures.next ∙ ap seen_if_any c.in-Some.is in
-    let is = word_next (readers 500) c.args.limit (ahead c.args.p.now) (seen_word c.in-Some.word) (omega (arith, c.if-limit-eq0.false)) (sym c.is_label.ensures ∙ c.if-is_label.false) word in
-    let at = ap (reader.by_word (readers 500) (c.args.limit - 1) (reader.statement (readers 500) (c.args.limit - 1)) (here (ahead c.args.p.now)) (seen_word c.in-Some.word)) (sym c.in-Some.ensures.beyond) in
-    ok_by (λ s. (statement_seen s, ahead c.by_word.new.p)) (is ∙ at) c.by_word.result (subst (λ line. IfOk c.by_word.result (λ s. reader.by_word (readers 500) (c.args.limit - 1) (reader.statement (readers 500) (c.args.limit - 1)) line (seen_word c.in-Some.word) (ahead c.takes_word.new.p) ≡ Some (statement_seen s, ahead c.by_word.new.p))) c.line_at-line.ensures c.by_word.ensures.ok)
+    let is = word_next readers c.args.limit (ahead c.args.p.now) (seen_word c.in-Some.word) (omega (arith, c.if-limit-eq0.false)) (sym c.is_label.ensures ∙ c.if-is_label.false) word in
+    let at = ap (reader.by_word readers (c.args.limit - 1) (reader.statement readers (c.args.limit - 1)) (here (ahead c.args.p.now)) (seen_word c.in-Some.word)) (sym c.in-Some.ensures.beyond) in
+    ok_by (λ s. (statement_seen s, ahead c.by_word.new.p)) (is ∙ at) c.by_word.result (subst (λ line. IfOk c.by_word.result (λ s. reader.by_word readers (c.args.limit - 1) (reader.statement readers (c.args.limit - 1)) line (seen_word c.in-Some.word) (ahead c.takes_word.new.p) ≡ Some (statement_seen s, ahead c.by_word.new.p))) c.line_at-line.ensures c.by_word.ensures.ok)
 
 pub statement_at-returns-in-Some-clause-none : goal.statement_at-returns-in-Some-clause-none
 statement_at-returns-in-Some-clause-none t c =
     let word = sym c.takes_word.ensures.next ∙ ap seen_if_any c.in-Some.is in
-    let is = word_next (readers 500) c.args.limit (ahead c.args.p.now) (seen_word c.in-Some.word) (omega (arith, c.if-limit-eq0.false)) (sym c.is_label.ensures ∙ c.if-is_label.false) word in
-    let at = ap (reader.by_word (readers 500) (c.args.limit - 1) (reader.statement (readers 500) (c.args.limit - 1)) (here (ahead c.args.p.now)) (seen_word c.in-Some.word)) (sym c.in-Some.ensures.beyond) in
-    none_by (is ∙ at) c.by_word.result (subst (λ line. IfErr c.by_word.result (λ e. Fails e (reader.by_word (readers 500) (c.args.limit - 1) (reader.statement (readers 500) (c.args.limit - 1)) line (seen_word c.in-Some.word) (ahead c.takes_word.new.p)))) c.line_at-line.ensures c.by_word.ensures.none)
+    let is = word_next readers c.args.limit (ahead c.args.p.now) (seen_word c.in-Some.word) (omega (arith, c.if-limit-eq0.false)) (sym c.is_label.ensures ∙ c.if-is_label.false) word in
+    let at = ap (reader.by_word readers (c.args.limit - 1) (reader.statement readers (c.args.limit - 1)) (here (ahead c.args.p.now)) (seen_word c.in-Some.word)) (sym c.in-Some.ensures.beyond) in
+    none_by (is ∙ at) c.by_word.result (subst (λ line. IfErr c.by_word.result (λ e. Fails e (reader.by_word readers (c.args.limit - 1) (reader.statement readers (c.args.limit - 1)) line (seen_word c.in-Some.word) (ahead c.takes_word.new.p)))) c.line_at-line.ensures c.by_word.ensures.none)
 
 -- a block behind its `{`, which stands on the line
 abbrev compound_by : ℕ → ℕ → State → Read StatementTree
-compound_by n line s = bind (reader.block_inside (readers 500) n (reader.statement (readers 500) n) line (open_state s)) (λ b t. gives (Compound line b) t)
+compound_by n line s = bind (reader.block_inside readers n (reader.statement readers n) line (open_state s)) (λ b t. gives (Compound line b) t)
 
 pub statement_at-returns-then-takes-clause-ok : goal.statement_at-returns-then-takes-clause-ok
 statement_at-returns-then-takes-clause-ok t c =
     let none = sym c.takes_word.ensures.next ∙ ap seen_if_any c.in_default.is in
     let brace = sym (c.takes.ensures.next ∙ ap (λ q. answer (IsSign 4) (ahead q)) c.in_default.ensures.left) ∙ c.if-takes.true in
-    let is = brace_next (readers 500) c.args.limit (ahead c.args.p.now) (omega (arith, c.if-limit-eq0.false)) (sym c.is_label.ensures ∙ c.if-is_label.false) none brace in
+    let is = brace_next readers c.args.limit (ahead c.args.p.now) (omega (arith, c.if-limit-eq0.false)) (sym c.is_label.ensures ∙ c.if-is_label.false) none brace in
     let at = c.takes.ensures.beyond c.if-takes.true ∙ ap (λ q. beyond (ahead q)) c.in_default.ensures.left in
     let same = ap (λ line. compound_by (c.args.limit - 1) line (ahead c.takes.new.p)) c.line_at-line.ensures ∙ ap (compound_by (c.args.limit - 1) (here (ahead c.args.p.now))) at in
     ok_by (λ s. (statement_seen s, ahead c.compound_at.new.p)) (is ∙ sym same) c.compound_at.result c.compound_at.ensures.ok
@@ -55,7 +55,7 @@ pub statement_at-returns-then-takes-clause-none : goal.statement_at-returns-then
 statement_at-returns-then-takes-clause-none t c =
     let none = sym c.takes_word.ensures.next ∙ ap seen_if_any c.in_default.is in
     let brace = sym (c.takes.ensures.next ∙ ap (λ q. answer (IsSign 4) (ahead q)) c.in_default.ensures.left) ∙ c.if-takes.true in
-    let is = brace_next (readers 500) c.args.limit (ahead c.args.p.now) (omega (arith, c.if-limit-eq0.false)) (sym c.is_label.ensures ∙ c.if-is_label.false) none brace in
+    let is = brace_next readers c.args.limit (ahead c.args.p.now) (omega (arith, c.if-limit-eq0.false)) (sym c.is_label.ensures ∙ c.if-is_label.false) none brace in
     let at = c.takes.ensures.beyond c.if-takes.true ∙ ap (λ q. beyond (ahead q)) c.in_default.ensures.left in
     let same = ap (λ line. compound_by (c.args.limit - 1) line (ahead c.takes.new.p)) c.line_at-line.ensures ∙ ap (compound_by (c.args.limit - 1) (here (ahead c.args.p.now))) at in
     none_by (is ∙ sym same) c.compound_at.result c.compound_at.ensures.none
@@ -64,17 +64,17 @@ pub statement_at-returns-clause-ok : goal.statement_at-returns-clause-ok
 statement_at-returns-clause-ok t c =
     let none = sym c.takes_word.ensures.next ∙ ap seen_if_any c.in_default.is in
     let no_brace = sym (c.takes.ensures.next ∙ ap (λ q. answer (IsSign 4) (ahead q)) c.in_default.ensures.left) ∙ c.if-takes.false in
-    let is = expression_next (readers 500) c.args.limit (ahead c.args.p.now) (omega (arith, c.if-limit-eq0.false)) (sym c.is_label.ensures ∙ c.if-is_label.false) none no_brace in
+    let is = expression_next readers c.args.limit (ahead c.args.p.now) (omega (arith, c.if-limit-eq0.false)) (sym c.is_label.ensures ∙ c.if-is_label.false) none no_brace in
     let at = c.takes.ensures.left c.if-takes.false ∙ c.in_default.ensures.left in
-    ok_by (λ s. (statement_seen s, ahead c.evaluate_at.new.p)) (is ∙ sym (ap (λ q. reader.evaluate (readers 500) (c.args.limit - 1) (ahead q)) at)) c.evaluate_at.result c.evaluate_at.ensures.ok
+    ok_by (λ s. (statement_seen s, ahead c.evaluate_at.new.p)) (is ∙ sym (ap (λ q. reader.evaluate readers (c.args.limit - 1) (ahead q)) at)) c.evaluate_at.result c.evaluate_at.ensures.ok
 
 pub statement_at-returns-clause-none : goal.statement_at-returns-clause-none
 statement_at-returns-clause-none t c =
     let none = sym c.takes_word.ensures.next ∙ ap seen_if_any c.in_default.is in
     let no_brace = sym (c.takes.ensures.next ∙ ap (λ q. answer (IsSign 4) (ahead q)) c.in_default.ensures.left) ∙ c.if-takes.false in
-    let is = expression_next (readers 500) c.args.limit (ahead c.args.p.now) (omega (arith, c.if-limit-eq0.false)) (sym c.is_label.ensures ∙ c.if-is_label.false) none no_brace in
+    let is = expression_next readers c.args.limit (ahead c.args.p.now) (omega (arith, c.if-limit-eq0.false)) (sym c.is_label.ensures ∙ c.if-is_label.false) none no_brace in
     let at = c.takes.ensures.left c.if-takes.false ∙ c.in_default.ensures.left in
-    none_by (is ∙ sym (ap (λ q. reader.evaluate (readers 500) (c.args.limit - 1) (ahead q)) at)) c.evaluate_at.result c.evaluate_at.ensures.none
+    none_by (is ∙ sym (ap (λ q. reader.evaluate readers (c.args.limit - 1) (ahead q)) at)) c.evaluate_at.result c.evaluate_at.ensures.none
 
 pub statements_at-returns-in_err-statement-clause-none : goal.statements_at-returns-in_err-statement-clause-none
 statements_at-returns-in_err-statement-clause-none t c = passed c.from_residual.result c.from_residual.ensures.1 (err c.in_err-statement.ensures.none (λ z. stops c.loop-p.invariant.1 (sym c.goes_on.ensures ∙ c.loop-p-test.true) z))

@@ -50,7 +50,7 @@ decreases-statements_at l = 5 * l.limit + 1
 abbrev pub invariant-statements_at-loop-p : goal.invariant-statements_at-loop-p
 invariant-statements_at-loop-p l =
     Goes 0 l.fn.p l.p
-    × Left (λ (b : Bool) u. not (answer (IsSign 5) u)) (λ (b : Bool) u. reader.statement (readers 500) l.fn.limit u) (λ (b : Bool) x. b) (λ ss t. gives ss t) (statements_in (reader.statement (readers 500) l.fn.limit) (ahead l.fn.p)) (map statement_seen l.list) true (ahead l.p)
+    × Left (λ (b : Bool) u. not (answer (IsSign 5) u)) (λ (b : Bool) u. reader.statement readers l.fn.limit u) (λ (b : Bool) x. b) (λ ss t. gives ss t) (statements_in (reader.statement readers l.fn.limit) (ahead l.fn.p)) (map statement_seen l.list) true (ahead l.p)
 
 abbrev pub decreases-statements_at-loop-p : goal.decreases-statements_at-loop-p
 decreases-statements_at-loop-p l = length (ahead l.p).rest

@@ -14,7 +14,7 @@ abbrev pub invariant-loop-p : goal.invariant-loop-p
 invariant-loop-p l =
     Goes (least_of l.externals) l.fn.p l.p
     × FirstOf l.is_first l.externals
-    × Left (λ (first : Bool) t. reader.is_left t.rest) (λ (first : Bool) t. reader.external (readers 500) (l.fn.limit - 1) first t) (λ (first : Bool) x. false) (λ xs t. reader.some_externals (here (ahead l.fn.p)) xs t) (reader.unit (readers 500) l.fn.limit (ahead l.fn.p)) (map external_seen l.externals) l.is_first (ahead l.p)
+    × Left (λ (first : Bool) t. reader.is_left t.rest) (λ (first : Bool) t. reader.external readers (l.fn.limit - 1) first t) (λ (first : Bool) x. false) (λ xs t. reader.some_externals (here (ahead l.fn.p)) xs t) (reader.unit readers l.fn.limit (ahead l.fn.p)) (map external_seen l.externals) l.is_first (ahead l.p)
 
 abbrev pub decreases-loop-p : goal.decreases-loop-p
 decreases-loop-p l = length (ahead l.p).rest

@@ -8,14 +8,14 @@ use Rattle.c_expr.proofs.parser.Parser.piece.Goals as goal
 
 pub returns-in-Some-clause-err : goal.returns-in-Some-clause-err
 unfolding ahead
-returns-in-Some-clause-err c = again (expression c.args.level) _ c.in-Some.fault c.self.inside.fault c.args.self.now (ap (λ p. p.fault) (sym c.self.view_is)) c.in-Some.is
+returns-in-Some-clause-err c = again (expression c.args.level c.args.limit) _ c.in-Some.fault c.self.inside.fault c.args.self.now (ap (λ p. p.fault) (sym c.self.view_is)) c.in-Some.is
 
 pub returns-in-Ok-clause-ok : goal.returns-in-Ok-clause-ok
 unfolding ahead
 returns-in-Ok-clause-ok c =
-    took_by (expression c.args.level) (piece_exact c.readers_are_exact.ensures.limit c.readers_are_exact.ensures.readers c.args.level c.requires.level) c.pieces_are_fronts.ensures.expression (λ n. n) c.self.inside.source.now c.new-text.result c.self.inside.tokens.items c.deref.result.now c.self.inside.place c.len.result c.self.inside.names c.piece_at.new.names c.self.inside.fault c.args.self.now (expr_seen c.in-Ok.found.tree) c.in-Ok.found.rest.now c.new-text.ensures c.deref.ensures.value (c.len.ensures ∙ sym c.deref.ensures.len ∙ ap length c.deref.ensures.value) c.self.invariant.1 c.in_default.is c.self.view_is (omega (arith, c.in-Ok.ensures.shorter)) c.in-Ok.ensures.ok
+    took_by (expression c.args.level c.args.limit) (piece_exact c.readers_are_exact.ensures.limit c.readers_are_exact.ensures.readers c.args.level c.requires.level c.args.limit) c.pieces_are_fronts.ensures.expression (λ n. n) c.self.inside.source.now c.new-text.result c.self.inside.tokens.items c.deref.result.now c.self.inside.place c.len.result c.self.inside.names c.piece_at.new.names c.self.inside.fault c.args.self.now (expr_seen c.in-Ok.found.tree) c.in-Ok.found.rest.now c.new-text.ensures c.deref.ensures.value (c.len.ensures ∙ sym c.deref.ensures.len ∙ ap length c.deref.ensures.value) c.self.invariant.1 c.in_default.is c.self.view_is (omega (arith, c.in-Ok.ensures.shorter)) c.in-Ok.ensures.ok
 
 pub returns-in-Err-clause-err : goal.returns-in-Err-clause-err
 unfolding ahead
 returns-in-Err-clause-err c =
-    refused_by (expression c.args.level) (piece_exact c.readers_are_exact.ensures.limit c.readers_are_exact.ensures.readers c.args.level c.requires.level) (λ n. n) c.self.inside.source.now c.new-text.result c.self.inside.tokens.items c.deref.result.now c.self.inside.place c.self.inside.names c.piece_at.new.names c.self.inside.fault c.args.self.now c.stopped.new.self c.in-Err.stop c.stopped.result c.new-text.ensures c.deref.ensures.value c.in_default.is c.self.view_is c.stopped.ensures.kept c.stopped.ensures.fault c.in-Err.ensures.none
+    refused_by (expression c.args.level c.args.limit) (piece_exact c.readers_are_exact.ensures.limit c.readers_are_exact.ensures.readers c.args.level c.requires.level c.args.limit) (λ n. n) c.self.inside.source.now c.new-text.result c.self.inside.tokens.items c.deref.result.now c.self.inside.place c.stopped.new.self.place c.self.inside.names c.piece_at.new.names c.self.inside.fault c.args.self.now c.stopped.new.self c.in-Err.stop c.stopped.result c.new-text.ensures c.deref.ensures.value c.in_default.is c.self.view_is c.stopped.ensures.further c.stopped.ensures.kept c.stopped.ensures.fault c.in-Err.ensures.none
