@@ -1,0 +1,47 @@
+ghost use Rattle.c_runs.specs.Laws.{LoopIs, JumpIs, CallIs, EvalFalls, ExecFalls, EvalGrows, ExecGrows, RunsGoFurther, OutputsGrow, DepthsGrow, CallsStandAlone};
+ghost use Rattle.c_runs.specs.Soundness.{EvalStaysSound, ExecStaysSound, RunStaysSound, UnitsAreTame};
+
+/// A loop is its own repetition, with the turns that it leaves; so is a block that catches gotos, and
+/// a call runs the body of its function among the same calls.
+pub fn turns_are_repetitions()
+    ensures loops { LoopIs }
+    ensures gotos { JumpIs }
+    ensures calls { CallIs }
+{}
+
+/// No expression and no statement leaves more turns than it had.
+pub fn turns_fall()
+    ensures expressions { EvalFalls }
+    ensures statements { ExecFalls }
+{}
+
+/// What was seen of a run stays seen.
+pub fn traces_grow()
+    ensures expressions { EvalGrows }
+    ensures statements { ExecGrows }
+{}
+
+/// A run that has ended ends so with more turns, too; one whose turns were spent shows as much with
+/// more turns.
+pub fn runs_go_further()
+    ensures runs { RunsGoFurther }
+    ensures outputs { OutputsGrow }
+    ensures depths { DepthsGrow }
+{}
+
+/// A call depends on the objects that live, the input and its arguments; what the caller's locals are,
+/// and what was seen before, change nothing.
+pub fn calls_stand_alone()
+    ensures { CallsStandAlone }
+{}
+
+/// In every run numbers stay words, and bytes bytes; each pointer's object was made, and the pointer stays
+/// in it; what lives keeps its size; and the running call keeps its objects. This is so where the
+/// unit's numbers are words, its bit-fields lie in their units, and its texts are of bytes, as in each
+/// checked unit whose numbers have 32 bits and whose texts are of bytes.
+pub fn runs_stay_sound()
+    ensures expressions { EvalStaysSound }
+    ensures statements { ExecStaysSound }
+    ensures runs { RunStaysSound }
+    ensures units { UnitsAreTame }
+{}
