@@ -50,18 +50,25 @@ fn trees_are_read(rt: HostRuntime) -> Result<(), Fail> {
     };
     assert_eq!(rt; head(first), (3, Some(-2_147_483_648), 0));
     assert_eq!(rt; head(second), (1, None, 2));
+    if second.arity() != 2 {
+        return Err(Fail::from("two operands"));
+    }
     assert_eq!(rt; head(second.kid(0)), (2, Some(4_294_967_295), 1));
     assert_eq!(rt; head(second.kid(1)), (3, Some(0), 0));
     Ok(())
 }
 
-/// A rule over these parts.
-fn over(alloc: Global, rule: u16, parts: [Derivation; 2]) -> Result<Derivation, Memory> {
-    let mut items = Items::new(alloc);
-    let [first, second] = parts;
-    items.push(first)?;
-    items.push(second)?;
-    Ok(Derivation { rule, parts: items })
+/// A rule over two parts.
+fn over(
+    alloc: Global,
+    rule: u16,
+    first: Derivation,
+    second: Derivation,
+) -> Result<Derivation, Memory> {
+    let mut parts = Items::new(alloc);
+    parts.push(first)?;
+    parts.push(second)?;
+    Ok(Derivation { rule, parts })
 }
 
 /// A rule over nothing.
@@ -75,8 +82,8 @@ fn alone(alloc: Global, rule: u16) -> Derivation {
 #[test]
 fn rules_stand_in_preorder(rt: HostRuntime) -> Result<(), Fail> {
     let alloc = rt.alloc();
-    let first = over(alloc, 7, [alone(alloc, 2), alone(alloc, 3)])?;
-    let whole = over(alloc, 1, [first, alone(alloc, 4)])?;
+    let first = over(alloc, 7, alone(alloc, 2), alone(alloc, 3))?;
+    let whole = over(alloc, 1, first, alone(alloc, 4))?;
     let numbers = whole.numbers(alloc)?;
     assert_eq!(rt; numbers.as_slice(), [1, 7, 2, 3, 4].as_slice());
     Ok(())

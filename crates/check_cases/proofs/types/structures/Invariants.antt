@@ -1,5 +1,0 @@
-use Rattle.std.proofs.Common.{◌<◌, length}
-use Rattle.check_cases.proofs.types.structures.Given as goal
-
-abbrev pub invariant-loop : goal.invariant-loop
-invariant-loop l = l.top < length l.types.forms
