@@ -25,7 +25,7 @@ impl Model for Scope {
 
 impl Scope {
     /// No names, without an allocation.
-    pub(crate) fn new(alloc: Global) -> Self
+    pub fn new(alloc: Global) -> Self
         ensures { result ≡ [] }
     {
         Scope {
@@ -35,7 +35,7 @@ impl Scope {
 
     /// The symbol of the name, if the scope has it.
     #[tactic(auto, using(crate::proofs::Naming::named_entries))]
-    pub(crate) fn find(&self, name: &[u8]) -> Option<SymbolId>
+    pub fn find(&self, name: &[u8]) -> Option<SymbolId>
         ensures { result ≡ symbol_named self.now name.now }
     {
         self.names.get(name).copied()
@@ -60,7 +60,7 @@ impl Scope {
     }
 
     /// Gives the name this symbol. After an error the scope is as before.
-    pub(crate) fn add(&mut self, alloc: Global, name: &[u8], id: SymbolId) -> Result<(), Memory>
+    pub fn add(&mut self, alloc: Global, name: &[u8], id: SymbolId) -> Result<(), Memory>
         requires { symbol_named self.old name.now ≡ None }
         ensures ok { OnOk result (self.new ≡ self.old ++ (name.now, id) ∷ []) }
         ensures err { OnErr result (self.new ≡ self.old) }
