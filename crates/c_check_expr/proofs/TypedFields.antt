@@ -4,9 +4,8 @@ use Rattle.std.specs.Prelude.{zero, suc, ℤ, pos, false, true, Ok, Some, None, 
 use Rattle.lcc_base.specs.declared.which.Which.{Which}
 use Rattle.c_ast.specs.Trees.{Field, FieldTree, FieldTrees, Fields, Members, MemberTree, MemberTrees, MoreMembers, NoFields, NoMembers}
 use Rattle.c_symbols.specs.Scoping.{Scoping}
-use Rattle.c_types.specs.BitFields.{are_fields, is_field, is_field_width}
-use Rattle.c_types.specs.BitFields as bits
-use Rattle.c_types.specs.CType.{CType, Int, Plain, Simple, Unsigned}
+use Rattle.c_types.specs.BitFields.{are_fields, is_field, is_field_type, is_field_width}
+use Rattle.c_types.specs.CType.{CType}
 use Rattle.c_types.specs.Extending.{fields_push}
 use Rattle.c_types.specs.Layout.{MemberType}
 use Rattle.c_types.specs.declared.type_form.Member.{Member}
@@ -16,7 +15,7 @@ use Rattle.c_meaning.specs.Constraints.{broken_or, constraints, fault_at, first_
 use Rattle.c_meaning.specs.Nodes.{Typing}
 use Rattle.c_meaning.specs.Nodes as node
 use Rattle.c_meaning.specs.State.{State}
-use Rattle.c_meaning.specs.TypeConstraints.{is_bad_field, is_field_type, is_width, repeats_member}
+use Rattle.c_meaning.specs.TypeConstraints.{is_bad_field, is_width, repeats_member}
 use Rattle.c_meaning.specs.TypeRows.{field_width, member, name_or_empty, nat_part}
 use Rattle.c_meaning.specs.Types.{has_size}
 use Rattle.c_meaning.specs.Typing.{Bad, Fine, Outcome, Shaped, at, maybe_typed, then_do, typed_field, typed_fields, typed_member, typed_members, typed_shape, typed_specifiers, unless}
@@ -45,11 +44,6 @@ fine_node s t line n behind typed x e = by (first_broken constraints s n) (first
 abbrev at_field : ℕ → List MemberType → State → Shaped → Option CoreTree → Outcome MemberType
 at_field line before s p c = at s line (Typing (node.Field before p.name p.of c)) s (member p.name p.of c)
 
-same_types : (of : CType) → is_field_type of ≡ bits.is_field_type of
-same_types (Plain q (Simple Int)) = refl
-same_types (Plain q (Simple Unsigned)) = refl
-same_types t = refl
-
 widths : (name : Option (List ℕ)) (z : Option ℤ) → is_width name z ≡ true → is_field_width (name_or_empty name) (nat_part z) ≡ true
 widths None (Some (pos zero)) h = refl
 widths (Some x) (Some (pos zero)) h = absurd (cc)
@@ -58,12 +52,12 @@ widths name z h = absurd (cc)
 
 not_bad : (s : State) (before : List MemberType) (name : Option (List ℕ)) (of : CType) (c : Option CoreTree) → is_bad_field s (node.Field before name of c) ≡ false → is_field (name_or_empty name) of (field_width c) ≡ true
 not_bad s before name of None h = refl
-not_bad s before name of (Some w) h = by (is_field_type of) (is_width name (fold w)) _ _ h (same_types of) (widths name (fold w))
+not_bad s before name of (Some w) h = by (is_field_type of) (is_width name (fold w)) _ h (widths name (fold w))
   where
-    by : (a b c d : Bool) → not (a && b) ≡ false → a ≡ c → (b ≡ true → d ≡ true) → (c && d) ≡ true
-    by true true c d h e f = rw (sym e, f refl) refl
-    by true false c d h e f = absurd (cc)
-    by false b c d h e f = absurd (cc)
+    by : (a b d : Bool) → not (a && b) ≡ false → (b ≡ true → d ≡ true) → (a && d) ≡ true
+    by true true d h f = f refl
+    by true false d h f = absurd (cc)
+    by false b d h f = absurd (cc)
 
 -- a name that stands twice is told first, then a type without a size
 abbrev told : Bool → Bool → Bool → Option ℕ

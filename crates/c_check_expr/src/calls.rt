@@ -92,7 +92,7 @@ fn called_with(
     };
     let kids = passed(alloc, types, f, parameters, arguments)?;
     Ok(CoreExpr {
-        what: CoreKind::Call,
+        what: CoreKind::Call { copies: 0 },
         of: kinds::unqualified_type(types, result),
         line,
         kids,

@@ -1,10 +1,11 @@
 //! Nodes of members and enumerators (C89 3.5.2.1, 3.5.2.2).
 ghost use Rattle.std.specs.Prelude.{◌≡◌, ◌<◌, ◌≤◌, ◌∷◌, ◌++◌, [], ◌≤ℤ◌, pos, negsuc, length, true, false, Some, IfSome, IfNone, IfOk, IfErr, OnOk, OnErr, List};
+ghost use Rattle.c_types.specs.BitFields.{is_field_type as is_bits};
 ghost use Rattle.c_types.specs.Layout.{MemberType};
 ghost use Rattle.c_types.specs.Table.{AreMembersBelow, member_types, tags, type_at, types as table_types};
 ghost use Rattle.c_meaning.specs.Nodes as node;
 ghost use Rattle.c_meaning.specs.State.{State};
-ghost use Rattle.c_meaning.specs.TypeConstraints.{is_bad_field, is_field_type as is_bits, is_in_int, is_width, written_or as written_value};
+ghost use Rattle.c_meaning.specs.TypeConstraints.{is_bad_field, is_in_int, is_width, written_or as written_value};
 ghost use Rattle.c_meaning.specs.TypeRows.{enumerator_value, field_width, member as row, with_enumerator};
 ghost use Rattle.c_meaning.specs.Typing.{Fine, at};
 ghost use Rattle.c_values.specs.declared.check_fault.CheckFault.TheVariants.{Constraint};

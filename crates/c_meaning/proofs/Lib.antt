@@ -1,5 +1,2 @@
-pub mod Threads
-pub mod TypingRows
-pub mod TypingFaults
-pub mod DeclaringRows
-pub mod DeclaringFaults
+pub mod lemmas
+pub mod Copies

@@ -1,5 +1,5 @@
 -- Declarations, and what comes of them, for examples.
-use Rattle.std.specs.Prelude.{ℕ, ℤ, codes, false, Bool, Option, Some, None, List, [], ◌∷◌, length}
+use Rattle.std.specs.Prelude.{ℕ, ℤ, codes, false, Bool, Option, Some, None, List, [], ◌∷◌, length, map}
 use Rattle.c_ast.specs.declared.class.IntKind.TheVariants as int_kind
 use Rattle.c_ast.specs.declared.specifier.BasicType.TheVariants as word
 use Rattle.c_ast.specs.declared.specifier.RecordKind.TheVariants as record_kind
@@ -15,7 +15,7 @@ use Rattle.c_meaning.specs.Typing.{Outcome, Fine, Bad, then_do}
 use Rattle.c_meaning.specs.Laws.{fault_of}
 use Rattle.c_meaning.specs.Samples.{sample, outside}
 use Rattle.c_meaning.specs.Linkage.{with_count}
-use Rattle.c_meaning.specs.Declarations.{Declares, nothing, together}
+use Rattle.c_meaning.specs.Declarations.{Defined, Linked, Declares, nothing, together}
 use Rattle.c_meaning.specs.Declaring.{typed_declaration}
 
 -- ---- declarations; the second of a row is in line 2
@@ -160,7 +160,7 @@ defined_behind x (Fine s what) = value_of (known_of s (symbol_named s.links x))
 
 -- the objects that they define, with their names and lines, and whether they are constant
 abbrev pub objects_in : Outcome Declares → List ObjectTree
-objects_in (Fine s what) = what.objects
+objects_in (Fine s what) = map (λ (o : Defined). o.object) what.objects
 objects_in (Bad f) = []
 
 abbrev pub names_of : List ObjectTree → List (List ℕ)
@@ -178,6 +178,16 @@ constants_of (o ∷ os) = o.constant ∷ constants_of os
 abbrev pub locals_in : Outcome Declares → List CType
 locals_in (Fine s what) = what.locals
 locals_in (Bad f) = []
+
+-- the names with linkage that they declare, with their symbols, types and lines
+abbrev pub linked_in : Outcome Declares → List Linked
+linked_in (Fine s what) = what.linked
+linked_in (Bad f) = []
+
+-- the symbols of the objects
+abbrev pub symbols_in : Outcome Declares → List ℕ
+symbols_in (Fine s what) = map (λ (o : Defined). o.symbol) what.objects
+symbols_in (Bad f) = []
 
 -- which locals are initialised, whether they become zero first, and how many places are stored
 pub record Begun : Type 0 where

@@ -149,29 +149,51 @@ decl_fault s line n = broken_or line (first_of decl_constraints s n) None
 
 -- ---- what is declared
 
--- Objects with static storage that are defined; the types of local objects, the next of the function; and what these begin with.
+-- An object with static storage that is defined, and the symbol that it is named by: that of its declaration, or of all
+-- declarations of its name where it has linkage.
+pub record Defined : Type 0 where
+  pub symbol : ℕ
+  pub object : ObjectTree
+
+-- One declaration of a name with linkage: the symbol of all its declarations, the type that it is given here, and the line.
+pub record Linked : Type 0 where
+  pub symbol : ℕ
+  pub of : CType
+  pub line : ℕ
+
+-- Objects with static storage that are defined; the types of local objects, the next of the function; what these begin with; and
+-- the names with linkage.
 pub record Declares : Type 0 where
-  pub objects : List ObjectTree
+  pub objects : List Defined
   pub locals : List CType
   pub fills : List (StmtOf CType)
+  pub linked : List Linked
 
 abbrev pub nothing : Declares
-nothing = record { objects = []; locals = []; fills = [] }
+nothing = record { objects = []; locals = []; fills = []; linked = [] }
 
 abbrev pub together : Declares → Declares → Declares
-together a b = record { objects = a.objects ++ b.objects; locals = a.locals ++ b.locals; fills = a.fills ++ b.fills }
+together a b =
+    record {
+      objects = a.objects ++ b.objects;
+      locals = a.locals ++ b.locals;
+      fills = a.fills ++ b.fills;
+      linked = a.linked ++ b.linked;
+    }
 
 abbrev pub places_of : Option Filled → List (FilledOf CType)
 places_of None = []
 places_of (Some f) = f.places
 
-abbrev pub object : State → ℕ → Naming → Option Filled → Declares
-object s line n f =
+abbrev pub object : ℕ → ℕ → Naming → Option Filled → Defined
+object id line n f =
     record {
-      objects = record { name = n.name; of = n.of; line = line; constant = is_const n.of; places = places_of f } ∷ [];
-      locals = [];
-      fills = [];
+      symbol = id;
+      object = record { name = n.name; of = n.of; line = line; constant = is_const n.of; places = places_of f };
     }
+
+abbrev pub one_object : Defined → Declares
+one_object o = record { objects = o ∷ []; locals = []; fills = []; linked = [] }
 
 -- An array or structure that has a list, and an array that has a string, becomes zero as a whole first.
 abbrev pub is_zeroed : CType → Option InitialiserTree → Bool
@@ -184,7 +206,7 @@ fills_of place of i None = []
 fills_of place of i (Some f) = Initialise place (is_zeroed of i) f.places ∷ []
 
 abbrev pub local : ℕ → CType → Option InitialiserTree → Option Filled → Declares
-local place of i f = record { objects = []; locals = of ∷ []; fills = fills_of place of i f }
+local place of i f = record { objects = []; locals = of ∷ []; fills = fills_of place of i f; linked = [] }
 
 abbrev pub is_static : Option StorageClass → Bool
 is_static (Some class.Static) = true
@@ -194,19 +216,35 @@ abbrev pub line_at : State → ℕ → Option ℕ → ℕ
 line_at s line None = line
 line_at s line (Some id) = (known_at s id).line
 
+abbrev pub or_zero : Option ℕ → ℕ
+or_zero (Some id) = id
+or_zero None = 0
+
 -- where the object's name has no linkage
 abbrev pub alone_declares : State → ℕ → ℕ → Naming → Option InitialiserTree → Option Filled → Declares
 alone_declares s line place n i f =
     if is_typedef n.class || is_function n.of then nothing
-    else if is_static n.class then object s line n f
+    else if is_static n.class then one_object (object (or_zero (place_here s n.name)) line n f)
     else local place n.of i f
 
 -- where it has: the line is that of its first declaration
-abbrev pub linked_declares : State → ℕ → Naming → Option Filled → Declares
-linked_declares s line n f = if is_some f then object s (line_at s line (symbol_named s.links n.name)) n f else nothing
+abbrev pub linked_objects : State → ℕ → Naming → Option Filled → List Defined
+linked_objects s line n f =
+    if is_some f
+    then object (or_zero (symbol_named s.links n.name)) (line_at s line (symbol_named s.links n.name)) n f ∷ []
+    else []
 
-abbrev pub declares : State → ℕ → ℕ → Naming → Option InitialiserTree → Option Filled → Declares
-declares s line place n i f = if is_linked n.linkage then linked_declares s line n f else alone_declares s line place n i f
+abbrev pub linked_name : State → ℕ → CType → Naming → Linked
+linked_name s line of n = record { symbol = or_zero (symbol_named s.links n.name); of = of; line = line }
+
+abbrev pub linked_declares : State → ℕ → CType → Naming → Option Filled → Declares
+linked_declares s line of n f =
+    record { objects = linked_objects s line n f; locals = []; fills = []; linked = linked_name s line of n ∷ [] }
+
+-- a name that its declarator gave this type
+abbrev pub declares : State → ℕ → ℕ → CType → Naming → Option InitialiserTree → Option Filled → Declares
+declares s line place of n i f =
+    if is_linked n.linkage then linked_declares s line of n f else alone_declares s line place n i f
 
 -- ---- what is known behind it
 

@@ -1,5 +1,5 @@
 -- Examples of what declarations declare, and of what is known behind them.
-use Rattle.std.specs.Prelude.{◌≡◌, refl, pos, codes, true, false, Some, None, [], ◌∷◌, ◌++◌}
+use Rattle.std.specs.Prelude.{◌≡◌, refl, pos, codes, true, false, Some, None, [], ◌∷◌, ◌++◌, length}
 use Rattle.c_ast.specs.declared.specifier.BasicType.TheVariants as word
 use Rattle.c_ast.specs.declared.specifier.Qualifier.TheVariants as qualifier
 use Rattle.c_ast.specs.declared.specifier.Storage.TheVariants as class
@@ -15,7 +15,7 @@ use Rattle.c_meaning.specs.Samples.{sample, outside, int}
 use Rattle.c_meaning.specs.Samples as samples
 use Rattle.c_meaning.specs.Initialising.{init_fault}
 use Rattle.c_meaning.specs.Declarations.{decl_fault}
-use Rattle.c_meaning.specs.DeclarationSamples.{below, of_int, with_class, name, array, open_array, function, k, n, items, list, plain, set, one, of, is, again, set_again, structure, all_typed, block, file_fault, nested, around, known_behind, type_behind, defined_behind, objects_in, names_of, lines_of, constants_of, locals_in, begun_in}
+use Rattle.c_meaning.specs.DeclarationSamples.{below, of_int, with_class, name, array, open_array, function, k, n, items, list, plain, set, one, of, is, again, set_again, structure, all_typed, block, file_fault, nested, around, known_behind, type_behind, defined_behind, objects_in, names_of, lines_of, constants_of, locals_in, linked_in, symbols_in, begun_in}
 
 -- ---- names
 
@@ -110,6 +110,27 @@ completed_inside = refl
 defined_objects : names_of (objects_in (all_typed outside (one (of_int ∷ []) (set (name k) (n 1) ∷ plain (name (codes "m")) ∷ [])))) ≡ k ∷ []
 unfolding fold fault_at init_fault decl_fault
 defined_objects = refl
+
+-- int k = 1; with the symbol of all its declarations
+symbol_of_a_linked_object : symbols_in (all_typed outside (one (of_int ∷ []) (set (name k) (n 1) ∷ []))) ≡ link_or_next outside k ∷ []
+unfolding fold fault_at init_fault decl_fault
+symbol_of_a_linked_object = refl
+
+-- static int k; in the function, with its own
+symbol_of_a_static_object : symbols_in (all_typed block (of (with_class class.Static) (name k))) ≡ length block.symbols ∷ []
+unfolding fold fault_at init_fault decl_fault
+symbol_of_a_static_object = refl
+
+-- extern int k[];
+-- extern int k[2];
+each_declaration : linked_in (all_typed outside (of (with_class class.Extern) (open_array k) ++ again (with_class class.Extern) (array k 2))) ≡ record { symbol = link_or_next outside k; of = Array int None; line = 1 } ∷ record { symbol = link_or_next outside k; of = Array int (Some 2); line = 2 } ∷ []
+unfolding fold fault_at init_fault decl_fault
+each_declaration = refl
+
+-- int k; in the function
+no_linked_name : linked_in (all_typed block (of (of_int ∷ []) (name k))) ≡ []
+unfolding fold fault_at init_fault decl_fault
+no_linked_name = refl
 
 -- const int k = 1;
 constant_object : objects_in (all_typed outside (is (Qualified 1 qualifier.Const ∷ of_int ∷ []) (name k) (n 1))) ≡ record { name = k; of = samples.const int; line = 1; constant = true; places = record { of = samples.const int; offset = 0; first = 0; width = 0; value = Core (kind.Number 1) int 1 none } ∷ [] } ∷ []

@@ -100,14 +100,14 @@ type_filled of None = of
 type_filled of (Some f) = f.of
 
 -- a name with its initialiser; a local object has the place that it got at its declarator
-abbrev pub at_whole : State → ℕ → ℕ → ℕ → Naming → Option InitialiserTree → Option Filled → Outcome Declares
-at_whole s line l place n i f = at_decl s l (Whole n (is_some f)) (with_whole s n (is_some f)) (declares s line place n i f)
+abbrev pub at_whole : State → ℕ → ℕ → ℕ → CType → Naming → Option InitialiserTree → Option Filled → Outcome Declares
+at_whole s line l place of n i f = at_decl s l (Whole n (is_some f)) (with_whole s n (is_some f)) (declares s line place of n i f)
 
 abbrev pub typed_init : State → ℕ → Specified → InitTree → Outcome Declares
 typed_init s line b i =
     then_do (typed_name s line b i) (λ t n.
     then_do (maybe_initialised t (initialised t (with_type_here t n)) i.initialiser) (λ u f.
-    at_whole u line i.line (local_count s) (with_type n (type_filled (with_type_here t n).of f)) i.initialiser f))
+    at_whole u line i.line (local_count s) n.of (with_type n (type_filled (with_type_here t n).of f)) i.initialiser f))
 
 abbrev pub typed_inits : State → ℕ → Specified → List InitTree → Outcome Declares
 typed_inits s line b [] = Fine s nothing

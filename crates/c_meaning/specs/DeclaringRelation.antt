@@ -75,7 +75,7 @@ abbrev pub TypesInit : State → ℕ → Specified → InitTree → State → De
 TypesInit s line b i =
     Then (TypesName s line b i) (λ t n.
     Then (TypesMaybeInitialiser t (initialised t (with_type_here t n)) i.initialiser) (λ u f.
-    IsDecl u i.line (Whole (with_type n (type_filled (with_type_here t n).of f)) (is_some f)) (with_whole u (with_type n (type_filled (with_type_here t n).of f)) (is_some f)) (declares u line (local_count s) (with_type n (type_filled (with_type_here t n).of f)) i.initialiser f)))
+    IsDecl u i.line (Whole (with_type n (type_filled (with_type_here t n).of f)) (is_some f)) (with_whole u (with_type n (type_filled (with_type_here t n).of f)) (is_some f)) (declares u line (local_count s) n.of (with_type n (type_filled (with_type_here t n).of f)) i.initialiser f)))
 
 abbrev pub TypesInits : State → ℕ → Specified → List InitTree → State → Declares → Type 0
 TypesInits s line b [] = Is s nothing

@@ -15,7 +15,7 @@ use Rattle.c_meaning.specs.Values.{CoreTree, value}
 use Rattle.c_meaning.specs.Nodes as node
 use Rattle.c_meaning.specs.Rows.{row}
 use Rattle.c_meaning.specs.Fits.{Fits, IsOpenLeaf}
-use Rattle.c_meaning.specs.Samples.{sample, int, struct_open, x, f, a, s, p, byte, to_open, constant, unsigned_constant, select, local, pointed, taking_more}
+use Rattle.c_meaning.specs.Samples.{sample, int, struct_s, struct_open, x, f, a, s, p, byte, to_open, constant, unsigned_constant, select, local, pointed, giving, called, taking, taking_more}
 
 abbrev Fit : CoreTree → Type 0
 Fit c = Fits IsOpenLeaf sample.tags c
@@ -81,13 +81,13 @@ f_fits = (((tt, (refl, tt)), tt), (refl, (refl, refl)))
 as_many_arguments : Fit (row sample 1 (node.Call f (one (constant 1))))
 as_many_arguments = ((f_fits, (one_fits, tt)), (refl, (refl, (refl, (refl, (refl, (refl, (refl, tt))))))))
 
-too_few_arguments : Fit (Core kind.Call int 1 (one (value f))) → ⊥
+too_few_arguments : Fit (Core (kind.Call 0) int 1 (one (value f))) → ⊥
 too_few_arguments h = h.1.1.1.1.1.1
 
-too_many_arguments : Fit (Core kind.Call int 1 (three (value f) (constant 1) (constant 1))) → ⊥
+too_many_arguments : Fit (Core (kind.Call 0) int 1 (three (value f) (constant 1) (constant 1))) → ⊥
 too_many_arguments h = let e : false ≡ true = h.1.1.1.1.1.1.1.1.0 in cc
 
-argument_of_another_type : Fit (Core kind.Call int 1 (two (value f) (unsigned_constant 1))) → ⊥
+argument_of_another_type : Fit (Core (kind.Call 0) int 1 (two (value f) (unsigned_constant 1))) → ⊥
 argument_of_another_type h = let e : basic Unsigned ≡ int = h.1.1.1.1.1.1.1.0 in cc
 
 more_fits : Fit (value taking_more)
@@ -96,6 +96,16 @@ more_fits = (((tt, (refl, tt)), tt), (refl, (refl, (refl, refl))))
 -- more arguments than parameters, where `...` stands behind them
 further_arguments : Fit (row sample 1 (node.Call taking_more (two (constant 1) (constant 1))))
 further_arguments = ((more_fits, (one_fits, (one_fits, tt))), (refl, (refl, (refl, (refl, (refl, (refl, (refl, (refl, (refl, (refl, tt)))))))))))
+
+-- a structure is passed and given as it is
+structure_passed : Fit (row sample 1 (node.Call (taking struct_s) (one s)))
+structure_passed = (((((tt, (refl, tt)), tt), (refl, (refl, (refl, refl)))), (s_fits, tt)), (refl, (refl, (refl, (refl, (refl, (refl, (refl, tt))))))))
+
+structure_given : Fit (called struct_s)
+structure_given = (((((tt, (refl, tt)), tt), (refl, (refl, (refl, refl)))), tt), (refl, (refl, (refl, (refl, (refl, tt))))))
+
+open_structure_given : Fit (Core (kind.Call 0) struct_open 1 (one (value (giving struct_open)))) → ⊥
+open_structure_given h = let e : true ≡ false = h.1.1.1.1.1.0 in cc
 
 -- ---- changes
 

@@ -144,7 +144,7 @@ IsRow leaf tags kind.Comma of (Cores a kids) = last_type (Cores a kids) ≡ of
 IsRow leaf tags kind.Assign of (Cores a (Cores v NoCore)) = (is_lvalue a ≡ true) × ((is_whole tags of ≡ true) × ((unqualified (type_of a) ≡ of) × (unqualified (type_of v) ≡ of)))
 IsRow leaf tags (kind.Change by) of (Cores a (Cores w NoCore)) = (is_lvalue a ≡ true) × ((unqualified (type_of a) ≡ of) × IsChanged tags by a (type_of w))
 IsRow leaf tags (kind.Postfix by) of (Cores a (Cores w NoCore)) = (is_lvalue a ≡ true) × ((unqualified (type_of a) ≡ of) × IsChanged tags by a (type_of w))
-IsRow leaf tags kind.Call of (Cores f vs) = (is_pointer (type_of f) ≡ true) × ((is_function (target (type_of f)) ≡ true) × ((unqualified (result_type (target (type_of f))) ≡ of) × (IsGiven tags of × AreArguments tags (parameters_type (target (type_of f))) vs)))
+IsRow leaf tags (kind.Call copies) of (Cores f vs) = (is_pointer (type_of f) ≡ true) × ((is_function (target (type_of f)) ≡ true) × ((unqualified (result_type (target (type_of f))) ≡ of) × (IsGiven tags of × AreArguments tags (parameters_type (target (type_of f))) vs)))
 IsRow leaf tags what of NoCore = leaf what of
 IsRow leaf tags what of kids = ⊥
 

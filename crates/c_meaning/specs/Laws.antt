@@ -1,10 +1,15 @@
--- Typing as a function, as a relation and as a walk over nodes says the same.
-use Rattle.std.specs.Prelude.{◌≡◌, ◌↔◌, Option, Some, None, List}
+-- Typing as a function, as a relation and as a walk over nodes says the same; and each copy of a call has a local of its own.
+use Rattle.std.specs.Prelude.{◌≡◌, ◌↔◌, Option, Some, None, List, length, map, slice_get}
+use Rattle.std.specs.List.{range_with_len}
+use Rattle.c_types.specs.CType.{CType}
 use Rattle.c_meaning.specs.State.{State}
 use Rattle.c_meaning.specs.Constraints.{Fault}
 use Rattle.c_meaning.specs.Typing.{Outcome, Fine, Bad}
 use Rattle.c_meaning.specs.Postorder.{Place, first_fault}
 use Rattle.c_meaning.specs.DeclaringNodes.{AnyPlace, first_any}
+use Rattle.c_meaning.specs.Copies.{LocalAt}
+use Rattle.c_meaning.specs.Each.{EachIs}
+use Rattle.c_meaning.specs.Units.{FunctionTree, UnitTree, IsFunction, declared, function_copies}
 
 -- what is typed, and nothing else, is what the function gives
 abbrev pub IsTyping : {T : Type 0} → Outcome T → (State → T → Type 0) → Type 0
@@ -34,3 +39,17 @@ IsFirstOf outcome places = first_any places ≡ fault_of outcome
 
 abbrev pub AreAllDecided : {T : Type 0} → (State → T → Type 0) → List AnyPlace → Type 0
 AreAllDecided types places = IsDecided types (first_any places)
+
+-- ---- copies
+
+-- one of these locals has the place and the type
+abbrev pub IsLocalOf : List CType → LocalAt → Type 0
+IsLocalOf locals l = slice_get locals l.place ≡ Some l.of
+
+-- what a call of a checked function passes or gives has a local of its type
+abbrev pub CopiesAreLocals : Type 0
+CopiesAreLocals = (u : UnitTree) (f : FunctionTree) → IsFunction u f → EachIs (IsLocalOf f.locals) (function_copies f)
+
+-- the first is right behind the declared locals, and the others follow, so that no two are one
+abbrev pub CopiesAreApart : Type 0
+CopiesAreApart = (u : UnitTree) (f : FunctionTree) → IsFunction u f → map (λ (l : LocalAt). l.place) (function_copies f) ≡ range_with_len (declared f) (length (function_copies f))

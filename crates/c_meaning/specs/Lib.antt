@@ -21,6 +21,9 @@ pub mod AddressConstants
 pub mod Filling
 pub mod StaticValues
 pub mod BlockLocals
+pub mod Copies
+pub mod Each
+pub mod Numbers
 pub mod Units
 pub mod NodeConstraints
 pub mod Initialising

@@ -203,7 +203,7 @@ pointer_decremented = refl
 -- ---- calls, `?:` and the comma
 
 -- f(byte)
-call_with_a_parameter : becomes (node.Call f (one byte)) ≡ of int kind.Call (two (of (pointer_to (of_one int int)) kind.Address (one f)) (as_int byte_held))
+call_with_a_parameter : becomes (node.Call f (one byte)) ≡ of int (kind.Call 0) (two (of (pointer_to (of_one int int)) kind.Address (one f)) (as_int byte_held))
 call_with_a_parameter = refl
 
 -- x ? p : 0

@@ -143,7 +143,7 @@ abbrev pub called : CoreTree → CType
 called v = target (type_of v)
 
 abbrev pub call : ℕ → CoreTree → CoreTrees → CoreTree
-call line f vs = Core kind.Call (unqualified (result_type (called f))) line (Cores f (all_passed (listed (parameters_type (called f))) vs))
+call line f vs = Core (kind.Call 0) (unqualified (result_type (called f))) line (Cores f (all_passed (listed (parameters_type (called f))) vs))
 
 -- ---- arithmetic
 

@@ -8,7 +8,8 @@ use Rattle.c_ast.specs.declared.specifier.BasicType.{BasicType}
 use Rattle.c_ast.specs.declared.specifier.BasicType.TheVariants as word
 use Rattle.c_ast.specs.declared.specifier.RecordKind.{RecordKind}
 use Rattle.c_ast.specs.declared.specifier.RecordKind.TheVariants as record_kind
-use Rattle.c_types.specs.CType.{Int, Unsigned, CType, Plain, Array, Kind, Simple, Structure, Union, Enumeration}
+use Rattle.c_types.specs.CType.{CType, Plain, Array, Kind, Structure, Union, Enumeration}
+use Rattle.c_types.specs.BitFields.{is_field_type}
 use Rattle.c_types.specs.Layout.{MemberType, Tag}
 use Rattle.c_meaning.specs.State.{State, place_of, place_here, known_at}
 use Rattle.c_meaning.specs.Types.{is_void, is_function, is_array, has_size}
@@ -121,12 +122,6 @@ repeats_member s n = false
 abbrev pub has_no_object : State → TypeNode → Bool
 has_no_object s (node.Field before name of width) = not (has_size s.tags of)
 has_no_object s n = false
-
--- int, signed or unsigned
-abbrev pub is_field_type : CType → Bool
-is_field_type (Plain q (Simple Int)) = true
-is_field_type (Plain q (Simple Unsigned)) = true
-is_field_type t = false
 
 -- from 0 to 32, and 0 only without a name
 abbrev pub is_width : Option (List ℕ) → Option ℤ → Bool

@@ -1,17 +1,21 @@
 -- Examples of checked units, and of what they don't hold.
-use Rattle.std.specs.Prelude.{◌≡◌, ◌≤◌, refl, ℕ, codes, true, false, Bool, Option, Some, None, List, [], ◌∷◌, length}
+use Rattle.std.specs.Prelude.{◌≡◌, ◌≤◌, refl, ℕ, codes, true, false, Bool, Option, Some, None, List, [], ◌∷◌, length, map}
 use Rattle.std.proofs.Common.{arith, ap}
 use Rattle.c_types.specs.CType.{Char, Int, Void, CType, Plain, Array, Function, Structure, Parameters, Open, Listed, CTypes, NoType, And, basic}
 use Rattle.c_types.specs.BitFields.{IsInUnit}
+use Rattle.c_types.specs.Layout.{Tag}
 use Rattle.c_types.specs.Table.{AreBelow}
 use Rattle.c_meaning.specs.declared.core_expr.CoreKind.TheVariants as kind
 use Rattle.c_meaning.specs.CoreTrees.{Core, none, one, two}
-use Rattle.c_meaning.specs.StmtTrees.{FilledOf, StmtOf, Nothing, Block, Label, Return, StmtsOf, NoStmt, Stmts}
+use Rattle.c_meaning.specs.StmtTrees.{FilledOf, StmtOf, Nothing, Expression, Block, Label, Return, StmtsOf, NoStmt, Stmts}
 use Rattle.c_meaning.specs.Types.{pointer_to, has_size}
 use Rattle.c_meaning.specs.Values.{CoreTree}
 use Rattle.c_meaning.specs.Constants.{fold}
 use Rattle.c_meaning.specs.BlockLocals.{are_next}
-use Rattle.c_meaning.specs.Units.{FunctionTree, ObjectTree, UnitTree, IsStatic, IsFilled, IsString, IsFunction, IsObject, IsUnit, AreParameters, EachIs, is_main, names, are_different, labels}
+use Rattle.c_meaning.specs.Copies.{LocalAt}
+use Rattle.c_meaning.specs.Each.{EachIs}
+use Rattle.c_meaning.specs.Numbers.{HasWords, IsText}
+use Rattle.c_meaning.specs.Units.{FunctionTree, ObjectTree, UnitTree, IsStatic, IsExpr, IsFilled, IsString, IsFunction, IsObject, IsUnit, AreParameters, function_copies, is_main, names, are_different, labels}
 
 -- ---- int n = 3; char t[4] = "ab"; int *q = &n; int main(void) { int x; { int y; } return 0; }
 
@@ -86,14 +90,14 @@ address_filled =
 
 n_is : IsObject unit (object (codes "n") int (at int (number 3) ∷ []))
 unfolding fold
-n_is = record { constant = refl; places = (4, refl, (scalar_filled, tt)); static = (refl, tt) }
+n_is = record { constant = refl; places = (4, refl, (scalar_filled, tt)); static = (refl, tt); words = ((omega arith, tt), tt) }
 
 t_is : IsObject unit (object (codes "t") (chars 4) (at (chars 4) text ∷ []))
-t_is = record { constant = refl; places = (4, refl, (string_filled, tt)); static = (tt, tt) }
+t_is = record { constant = refl; places = (4, refl, (string_filled, tt)); static = (tt, tt); words = ((tt, tt), tt) }
 
 q_is : IsObject unit (object (codes "q") (pointer_to int) (at (pointer_to int) address ∷ []))
 unfolding fold
-q_is = record { constant = refl; places = (4, refl, (address_filled, tt)); static = (refl, tt) }
+q_is = record { constant = refl; places = (4, refl, (address_filled, tt)); static = (refl, tt); words = ((tt, ((tt, tt), tt)), tt) }
 
 main_is : IsFunction unit main
 main_is =
@@ -105,9 +109,11 @@ main_is =
       locals = (refl, (refl, tt));
       blocks = refl;
       all = refl;
+      copies = refl;
       once = refl;
       low = tt;
       body = (omega arith, ((omega arith, tt), ((((tt, (refl, refl)), refl), (refl, refl)), tt)));
+      words = (tt, ((omega arith, tt), tt));
     }
 
 unit_is : IsUnit unit
@@ -117,6 +123,7 @@ unit_is =
       objects = (n_is, (t_is, (q_is, tt)));
       names = refl;
       texts = refl;
+      bytes = ((omega arith, (omega arith, tt)), tt);
       main = (main, refl, refl);
       few = omega arith;
     }
@@ -178,6 +185,104 @@ blocks_that_share_a_local = refl
 
 block_behind_a_gap : are_next 0 (block 0 1 (block 2 1 [] ∷ [])) ≡ false
 block_behind_a_gap = refl
+
+-- ---- struct s { int m; }; struct s g(struct s p) { return p; } int f(void) { struct s x; g(g(x)); }
+
+abbrev whole : CType
+whole = Plain 0 (Structure 0)
+
+abbrev structures : List Tag
+structures = record { number = 0; is_union = false; members = record { name = codes "m"; of = int; width = None } ∷ [] } ∷ []
+
+abbrev of_whole : CType
+of_whole = function whole (Listed (And whole NoType) false)
+
+abbrev g : FunctionTree
+g = record { name = codes "g"; of = of_whole; parameters = 1; locals = whole ∷ []; body = block 1 0 (Return (Some (Core (kind.Local 0 false) whole 1 none)) ∷ []) }
+
+abbrev giving : UnitTree
+giving = record { functions = g ∷ []; objects = []; texts = []; tags = structures; main = 0 }
+
+abbrev to_g : CoreTree
+to_g = Core kind.Address (pointer_to of_whole) 1 (one (Core (kind.Function 0) of_whole 1 none))
+
+-- a call whose copies begin at a local
+abbrev call_of_g : ℕ → CoreTree → CoreTree
+call_of_g copies argument = Core (kind.Call copies) whole 1 (two to_g argument)
+
+abbrev x : CoreTree
+x = Core (kind.Local 0 false) whole 1 none
+
+-- g(g(x)): each call has a copy that it passes and one that it gives
+abbrev nested : ℕ → ℕ → CoreTree
+nested outer inner = call_of_g outer (call_of_g inner x)
+
+abbrev copying : CoreTree → List CType → FunctionTree
+copying e locals = record { name = codes "f"; of = function int (Listed NoType false); parameters = 0; locals = locals; body = block 0 1 (Expression e ∷ []) }
+
+abbrev x_and_four_copies : List CType
+x_and_four_copies = whole ∷ whole ∷ whole ∷ whole ∷ whole ∷ []
+
+function_fits : IsExpr giving x_and_four_copies to_g
+function_fits = ((((tt, (refl, (g, refl, refl))), tt), (refl, (refl, refl))))
+
+x_fits : IsExpr giving x_and_four_copies x
+x_fits = (tt, (refl, (whole, refl, refl)))
+
+inner_fits : IsExpr giving x_and_four_copies (call_of_g 3 x)
+inner_fits = ((function_fits, (x_fits, tt)), (refl, (refl, (refl, (refl, (refl, (refl, (refl, tt))))))))
+
+outer_fits : IsExpr giving x_and_four_copies (nested 1 3)
+outer_fits = ((function_fits, (inner_fits, tt)), (refl, (refl, (refl, (refl, (refl, (refl, (refl, tt))))))))
+
+-- the outer call's copies stand before those of the inner one
+copies_in_order : IsFunction giving (copying (nested 1 3) x_and_four_copies)
+copies_in_order =
+    record {
+      type = refl;
+      result = refl;
+      listed = (refl, refl);
+      parameters = tt;
+      locals = (refl, (refl, (refl, (refl, (refl, tt)))));
+      blocks = refl;
+      all = refl;
+      copies = refl;
+      once = refl;
+      low = tt;
+      body = (omega arith, ((outer_fits, refl), tt));
+      words = ((tt, ((tt, ((tt, tt), tt)), ((tt, ((tt, ((tt, tt), tt)), ((tt, tt), tt))), tt))), tt);
+    }
+
+abbrev places : List LocalAt → List ℕ
+places = map (λ l. l.place)
+
+abbrev types_of : List LocalAt → List CType
+types_of = map (λ l. l.of)
+
+copies_that_are_shared : IsFunction giving (copying (nested 1 2) x_and_four_copies) → ⊥
+copies_that_are_shared h = let e : places (function_copies (copying (nested 1 2) x_and_four_copies)) ≡ 1 ∷ 2 ∷ 3 ∷ 4 ∷ [] = ap places h.copies in cc
+
+copy_of_another_type : IsFunction giving (copying (nested 1 3) (whole ∷ whole ∷ whole ∷ whole ∷ int ∷ [])) → ⊥
+copy_of_another_type h = let e : types_of (function_copies (copying (nested 1 3) x_and_four_copies)) ≡ whole ∷ whole ∷ whole ∷ int ∷ [] = ap types_of h.copies in cc
+
+copy_without_a_local : IsFunction giving (copying (nested 1 3) (whole ∷ whole ∷ whole ∷ whole ∷ [])) → ⊥
+copy_without_a_local h = let e : 5 ≡ 4 = h.all in omega (arith, e)
+
+-- ---- numbers and bytes
+
+number_of_32_bits : HasWords (number 4294967295)
+number_of_32_bits = (omega arith, tt)
+
+number_of_33_bits : HasWords (number 4294967296) → ⊥
+number_of_33_bits h = omega (arith, h.0)
+
+high_byte : IsText (255 ∷ [])
+high_byte = (omega arith, tt)
+
+no_byte : IsText (256 ∷ []) → ⊥
+no_byte h = omega (arith, h.0)
+
+-- ---- labels
 
 low_label : AreBelow 2147483648 (labels (Label 2147483647 Nothing))
 low_label = (omega arith, tt)

@@ -1,8 +1,8 @@
 -- A checked unit, and what it keeps: what it names is there under names of their own, its expressions, statements and initialisers
--- have the operands and types of typing's rows, each label stands once and each local in one block, and it isn't too large to be
--- numbered.
+-- have the operands and types of typing's rows, each label stands once, each local in one block or as one copy, its numbers have
+-- 32 bits and its texts are of bytes, and it isn't too large to be numbered.
 -- Source: C89 2.1.2.2, 3.5.7, 3.6, 3.7.
-use Rattle.std.specs.Prelude.{◌≡◌, ◌≤◌, ◌<◌, ℕ, codes, ◌+◌, ◌==◌, ◌||◌, ◌&&◌, not, Bool, true, false, Option, Some, None, List, [], ◌∷◌, ◌++◌, length, map, take, slice_get, IfSome, if◌then◌else◌}
+use Rattle.std.specs.Prelude.{◌≡◌, ◌≤◌, ◌<◌, ℕ, codes, ◌+◌, ◌==◌, ◌||◌, ◌&&◌, not, Bool, true, false, Option, Some, None, List, [], ◌∷◌, ◌++◌, length, map, take, drop, slice_get, IfSome, if◌then◌else◌}
 use Rattle.std.specs.Str.{bytes_eq}
 use Rattle.c_types.specs.CType.{CType, Plain, Array, Char, Int, Parameters, Open, Listed, CTypes, NoType, And, basic, unqualified}
 use Rattle.c_types.specs.Compatible.{compatible, all_compatible}
@@ -25,6 +25,9 @@ use Rattle.c_meaning.specs.Fits.{Fits, IsPromoted, is_value, is_whole}
 use Rattle.c_meaning.specs.Filling.{is_char}
 use Rattle.c_meaning.specs.StaticValues.{IsStaticValue}
 use Rattle.c_meaning.specs.BlockLocals.{declared_in, are_next}
+use Rattle.c_meaning.specs.Copies.{LocalAt, locals_from, expressions, all_copies}
+use Rattle.c_meaning.specs.Each.{EachIs}
+use Rattle.c_meaning.specs.Numbers.{PlaceHasWords, StmtHasWords, IsText}
 
 -- a unit with its table of types, by whose places its parts name them
 pub record CoreUnit : Type 0 where
@@ -244,10 +247,6 @@ abbrev mutual
 
 -- ---- functions and objects
 
-abbrev pub EachIs : {A : Type 0} → (A → Type 0) → List A → Type 0
-EachIs is [] = Unit {0}
-EachIs is (a ∷ as') = is a × EachIs is as'
-
 -- the types of so many locals, without qualifiers, as a function's type lists its parameters
 abbrev pub types_listed : List CType → CTypes
 types_listed [] = NoType
@@ -261,8 +260,17 @@ AreParameters (Listed ps more) ts = (more ≡ false) × (ps ≡ types_listed ts)
 abbrev pub is_result : List Tag → CType → Bool
 is_result tags t = is_void t || is_whole tags t
 
+-- how many of its locals are declared: its parameters and those of its blocks
+abbrev pub declared : FunctionTree → ℕ
+declared f = f.parameters + declared_in f.body
+
+-- the copies of structures that its calls pass and give
+abbrev pub function_copies : FunctionTree → List LocalAt
+function_copies f = all_copies (expressions f.body)
+
 -- A function gives nothing, a scalar or a whole structure, and its parameters are such. Its locals are objects, of which the
--- parameters are the first and those of its blocks follow in order.
+-- parameters are the first; those of its blocks follow in order, and then the copies of structures that its calls pass and give,
+-- each call naming its own.
 pub record IsFunction (u : UnitTree) (f : FunctionTree) : Type 0 where
   pub type : is_function f.of ≡ true
   pub result : is_result u.tags (result_type f.of) ≡ true
@@ -270,15 +278,18 @@ pub record IsFunction (u : UnitTree) (f : FunctionTree) : Type 0 where
   pub parameters : EachIs (λ t. is_whole u.tags t ≡ true) (take f.parameters f.locals)
   pub locals : EachIs (λ t. has_size u.tags t ≡ true) f.locals
   pub blocks : are_next f.parameters f.body ≡ true
-  pub all : f.parameters + declared_in f.body ≡ length f.locals
+  pub all : declared f + length (function_copies f) ≡ length f.locals
+  pub copies : function_copies f ≡ locals_from (declared f) (drop (declared f) f.locals)
   pub once : are_apart (labels f.body) ≡ true
   pub low : AreBelow 2147483648 (labels f.body)
   pub body : IsStmt u f (labels f.body) f.body
+  pub words : StmtHasWords f.body
 
 pub record IsObject (u : UnitTree) (o : ObjectTree) : Type 0 where
   pub constant : o.constant ≡ is_const o.of
   pub places : AreOf u [] o.of o.places
   pub static : AreStatic u o.places
+  pub words : EachIs PlaceHasWords o.places
 
 -- ---- main
 
@@ -321,6 +332,7 @@ pub record IsUnit (u : UnitTree) : Type 0 where
   pub objects : EachIs (IsObject u) u.objects
   pub names : are_different (names u) ≡ true
   pub texts : are_different u.texts ≡ true
+  pub bytes : EachIs IsText u.texts
   pub main : (f : FunctionTree) × (slice_get u.functions u.main ≡ Some f) × (is_main f ≡ true)
   pub few : total u.functions + (length u.objects + length u.texts) < 2147483648
 

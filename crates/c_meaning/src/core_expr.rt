@@ -90,8 +90,11 @@ pub enum CoreKind {
     Change(Change),
     /// The same, but the value before the change is given.
     Postfix(Change),
-    /// A call: a pointer to a function, and the arguments, converted as the called type says.
-    Call,
+    /// A call: a pointer to a function, and the arguments, converted as the called type says. The
+    /// structures that it passes, in the order of the arguments, and then the one that it gives are
+    /// copied to locals of the calling function (C89 3.3.2.2, 3.6.6.4), one behind the other from this
+    /// local on; 0 while the unit isn't whole.
+    Call { copies: u32 },
 }
 
 /// A checked expression (C89 3.3).

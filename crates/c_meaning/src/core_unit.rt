@@ -16,8 +16,9 @@ pub struct CoreFunction {
     pub of: TypeId,
     /// How many parameters it has.
     pub parameters: u32,
-    /// The types of its local objects, in the order in which they are declared. Each but a parameter is
-    /// declared in one block.
+    /// The types of its local objects: the parameters; the others in the order in which they are
+    /// declared, each in one block; and the copies of structures that its calls pass and give, in the
+    /// order of the text, a call's own before those of its parts.
     pub locals: Items<TypeId>,
     pub body: CoreStmt,
 }
@@ -38,8 +39,9 @@ pub struct CoreObject {
 
 /// A checked unit. It keeps that each function, object, text, local, label and type that it names is
 /// there, that no two functions or objects have one name, that each expression has the operands and the
-/// type of its kind, that what its objects hold at the start is constant, and that its functions,
-/// objects, texts, locals and statements together are fewer than 2^31.
+/// type of its kind, that each structure that a call passes or gives has a local of its own, that what
+/// its objects hold at the start is constant, that its numbers have 32 bits and its texts are of bytes,
+/// and that its functions, objects, texts, locals and statements together are fewer than 2^31.
 #[derive(Drop)]
 pub struct Core {
     functions: Items<CoreFunction>,

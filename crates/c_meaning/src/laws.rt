@@ -7,7 +7,7 @@ ghost use Rattle.c_meaning.specs.Initialising.{Initialised, typed_initialiser};
 ghost use Rattle.c_meaning.specs.Declaring.{typed_declaration};
 ghost use Rattle.c_meaning.specs.DeclaringRelation.{TypesDeclaration, TypesInitialiser};
 ghost use Rattle.c_meaning.specs.DeclaringNodes.{declaration_nodes, initialiser_nodes};
-ghost use Rattle.c_meaning.specs.Laws.{AreAllDecided, AreDecided, IsFirst, IsFirstOf, IsTyping};
+ghost use Rattle.c_meaning.specs.Laws.{AreAllDecided, AreDecided, CopiesAreApart, CopiesAreLocals, IsFirst, IsFirstOf, IsTyping};
 
 /// Where no node of an expression, a type name, or specifiers and a declarator breaks a constraint or
 /// passes a limit, the rows type it, and in one way only; where a node does, they do not.
@@ -42,4 +42,11 @@ pub fn declaring_is_a_function()
     ensures declarations { (s : State) → (d : DeclarationTree) → IsTyping (typed_declaration s d) (TypesDeclaration s d) }
     ensures initialiser_faults { (s : State) → (o : Initialised) → (i : InitialiserTree) → IsFirstOf (typed_initialiser s o i) (initialiser_nodes s o i) }
     ensures declaration_faults { (s : State) → (d : DeclarationTree) → IsFirstOf (typed_declaration s d) (declaration_nodes s d) }
+{}
+
+/// Each structure that a call of a checked function passes or gives has a local of its type, behind the
+/// declared ones, and no two have one.
+pub fn copies_have_locals()
+    ensures types { CopiesAreLocals }
+    ensures places { CopiesAreApart }
 {}

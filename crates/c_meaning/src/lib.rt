@@ -15,5 +15,6 @@ pub use core_stmt::{CoreCase, CoreStmt};
 pub use core_unit::{Core, CoreFunction, CoreObject};
 pub use filled_place::FilledPlace;
 pub use laws::{
-    declaring_is_a_function, declaring_is_decided, typing_is_a_function, typing_is_decided,
+    copies_have_locals, declaring_is_a_function, declaring_is_decided, typing_is_a_function,
+    typing_is_decided,
 };

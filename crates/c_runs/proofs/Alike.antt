@@ -19,7 +19,7 @@ use Rattle.c_meaning.specs.declared.built_in.BuiltIn.TheVariants.{Putchar, Getch
 use Rattle.c_meaning.specs.declared.core_expr.CoreKind.TheVariants as kind
 use Rattle.c_meaning.specs.declared.core_expr.Change.{Change}
 use Rattle.c_meaning.specs.declared.core_expr.Conversion.TheVariants as to
-use Rattle.c_meaning.specs.CoreTrees.{Core, NoCore, Cores, type_of, line_of, what_of}
+use Rattle.c_meaning.specs.CoreTrees.{Core, NoCore, Cores, type_of, line_of}
 use Rattle.c_meaning.specs.Types.{is_record}
 use Rattle.c_meaning.specs.Units.{FunctionTree}
 use Rattle.c_meaning.specs.Values.{CoreTree, CoreTrees}
@@ -27,7 +27,7 @@ use Rattle.c_runs.specs.Worlds.{World, objects, with_objects, with_event}
 use Rattle.c_runs.specs.Outcomes.{How, Undefined, OutOfTurns, Exit as ExitWith, Result, Gives, GivesNone, Ends, undefined, then_give, then_drop, if_fine, gives, stores, tells, truth, either, branch, is_true, spend}
 use Rattle.c_runs.specs.Places.{Spot, spot_of, held, stored, kept, source, assigned, place_of_object, place_of_text}
 use Rattle.c_runs.specs.Calls.{Argument, Call, Setting, number_of, get_character, fits, built_in_fits, provided, with_number, called_by, call_value, function_at, built_in_at}
-use Rattle.c_runs.specs.Expressions.{Part, eval, parts_of, place, asked, holds, of_two, changed, changed_at, changing, assignment, comma_from, copied_to, arguments, compared_by, moved_among, result_place, calling, first_copy, new_value, old_value}
+use Rattle.c_runs.specs.Expressions.{Part, eval, parts_of, place, asked, holds, of_two, changed, changed_at, changing, assignment, comma_from, copied_to, arguments, compared_by, moved_among, result_place, calling, new_value, old_value}
 use Rattle.c_runs.specs.Laws.{Falls, world_of, behind}
 use Rattle.c_runs.proofs.Growing.{Grows, GrowsAct, give_grows, drop_grows, fine_grows, spend_grows}
 
@@ -390,7 +390,7 @@ mutual
   eval_acts g n s d C (Core kind.Assign of line (Cores a (Cores b NoCore))) = assign_acts g n s d of line a b _ _ _ _ (eval_acts g n s d C a) (eval_acts g n s d C b)
   eval_acts g n s d C (Core (kind.Change by) of line (Cores a (Cores b NoCore))) = changing_acts g n s d by new_value line a b _ _ _ _ (eval_acts g n s d C a) (eval_acts g n s d C b)
   eval_acts g n s d C (Core (kind.Postfix by) of line (Cores a (Cores b NoCore))) = changing_acts g n s d by old_value line a b _ _ _ _ (eval_acts g n s d C a) (eval_acts g n s d C b)
-  eval_acts g n s d C (Core kind.Call of line (Cores a (Cores f cs))) = calling_acts g n s d C (first_copy (what_of a)) of line f cs (eval_acts g n s d C f) (kids_act g n s d C cs)
+  eval_acts g n s d C (Core (kind.Call m) of line (Cores f cs)) = calling_acts g n s d C m of line f cs (eval_acts g n s d C f) (kids_act g n s d C cs)
   eval_acts g n s d C (Core what of line kids) = undefined_acts g n _ line
 
   pub kids_act : (g : Ahead) (n : ℕ) (s : Setting) (d : ℕ → Call → Result) → CallsAct g n s.calls d → (cs : CoreTrees) → KidsAct g n s (with_calls s d) cs

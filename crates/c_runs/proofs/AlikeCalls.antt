@@ -19,8 +19,6 @@ use Rattle.c_runs.specs.Outcomes.{How, Undefined, OutOfTurns, Exit, Result, Give
 use Rattle.c_runs.specs.Below.{below}
 use Rattle.c_types.specs.Constness.{is_const}
 use Rattle.c_runs.specs.Places.{assigned}
-use Rattle.c_runs.specs.Counts.{copies_of}
-use Rattle.c_runs.specs.Numbered.{body_of}
 use Rattle.c_runs.specs.Calls.{Argument, Call, Setting, with_parameter, with_parameters, with_locals, own_parameters, handed, returned}
 use Rattle.c_runs.specs.Statements.{Start, exec}
 use Rattle.c_runs.specs.Run.{setting, body_run, function_run, called, no_calls, calls_below, call, context}
@@ -76,9 +74,9 @@ entered_behind e before w = ap (λ es. record { storage = w.storage; locals = []
 
 pub body_acts : (g : Ahead) (n : ℕ) (s : Setting) (d : ℕ → Call → Result) → CallsAct g n s.calls d → (f : FunctionTree) (number : ℕ) (xs : List Argument) → ActsOut g n (λ k w. body_run s f number xs k w) (λ k w. body_run (with_calls s d) f number xs k w)
 body_acts g n s d C f number xs =
-    let inner : ActsOut g n _ _ = parameters_act g n s.unit.tags s.order (own_parameters f) xs _ _ (run_acts g n s.unit.tags (drop f.parameters f.locals ++ copies_of f) (λ k w. exec s (body_of f) Start k w) (λ k w. exec (with_calls s d) (body_of f) Start k w) (exec_acts g n s d C (body_of f) Start)) in
+    let inner : ActsOut g n _ _ = parameters_act g n s.unit.tags s.order (own_parameters f) xs _ _ (run_acts g n s.unit.tags (drop f.parameters f.locals) (λ k w. exec s f.body Start k w) (λ k w. exec (with_calls s d) f.body Start k w) (exec_acts g n s d C f.body Start)) in
     record {
-      alike = λ k w l. subst (λ x. GoesOut g k (body_run s f number xs k w) (with_parameters s.unit.tags s.order (own_parameters f) xs (k + g.more) x (λ k1 w1. exec (with_calls s d) (body_of f) Start k1 (with_locals s.unit.tags (drop f.parameters f.locals ++ copies_of f) w1)))) (sym (entered_behind (Opened number) g.before w)) (inner.alike k (entered (Opened number) w) l);
+      alike = λ k w l. subst (λ x. GoesOut g k (body_run s f number xs k w) (with_parameters s.unit.tags s.order (own_parameters f) xs (k + g.more) x (λ k1 w1. exec (with_calls s d) f.body Start k1 (with_locals s.unit.tags (drop f.parameters f.locals) w1)))) (sym (entered_behind (Opened number) g.before w)) (inner.alike k (entered (Opened number) w) l);
       grows = λ k w. further_out w.trace (entered (Opened number) w) _ (Opened number ∷ [], refl) (inner.grows k (entered (Opened number) w));
     }
 

@@ -3,7 +3,7 @@ use Rattle.std.specs.Prelude.{ℕ, zero, suc, IfSome, List, [], ◌∷◌, ◌++
 use Rattle.std.proofs.Common.{sym, subst}
 use Rattle.std.proofs.lemmas.Grind.{reverse_onto}
 use Rattle.objects.specs.Objects.{overwritten}
-use Rattle.c_meaning.specs.Units.{EachIs}
+use Rattle.c_meaning.specs.Each.{EachIs}
 
 pub each_get : {A : Type 0} (P : A → Type 0) (xs : List A) (n : ℕ) → EachIs P xs → IfSome (slice_get xs n) P
 each_get P [] n h = tt

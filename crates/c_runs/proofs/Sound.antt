@@ -25,17 +25,19 @@ use Rattle.c_meaning.specs.declared.core_expr.Change.TheVariants as change
 use Rattle.c_meaning.specs.declared.core_expr.CoreKind.TheVariants as kind
 use Rattle.c_meaning.specs.declared.core_expr.Conversion.TheVariants as to
 use Rattle.objects.specs.declared.operators.Comparison.{Comparison}
-use Rattle.c_meaning.specs.CoreTrees.{Core, NoCore, Cores, type_of, line_of, what_of}
+use Rattle.c_meaning.specs.CoreTrees.{Core, NoCore, Cores, type_of, line_of}
 use Rattle.c_meaning.specs.Scalars.{scalar_of, is_signed}
 use Rattle.c_meaning.specs.Types.{is_pointer, is_record}
-use Rattle.c_meaning.specs.Units.{FunctionTree, ObjectTree, UnitTree, EachIs}
+use Rattle.c_meaning.specs.Each.{EachIs}
+use Rattle.c_meaning.specs.Units.{FunctionTree, ObjectTree, UnitTree}
 use Rattle.c_meaning.specs.Values.{CoreTree, CoreTrees}
 use Rattle.c_runs.specs.Worlds.{World, objects, with_objects, with_event}
 use Rattle.c_runs.specs.Outcomes.{Result, Gives, GivesNone, Ends, undefined, then_give, then_drop, if_fine, gives, stores, tells, truth, mapped, either, branch, is_true, spend}
 use Rattle.c_runs.specs.Places.{Spot, spot_of, is_field, field_of, held, stored, kept, source, assigned, place_of_object, place_of_text, size_of, align_of}
 use Rattle.c_runs.specs.Calls.{Argument, Call, Setting, number_of, get_character, fits, built_in_fits, provided, with_number, called_by, call_value, function_at, built_in_at}
-use Rattle.c_runs.specs.Expressions.{Part, eval, parts_of, place, asked, holds, of_two, changed, changed_at, changing, assignment, comma_from, copied_to, arguments, compared_by, pointers_compared, moved_among, moved_by, by_elements, index, result_place, calling, first_copy, new_value, old_value}
-use Rattle.c_runs.specs.Soundness.{IsSoundValue, IsSoundObject, IsSoundEvent, IsInputByte, IsSound, IsSoundResult, Keeps, IsTame, AreTame}
+use Rattle.c_runs.specs.Expressions.{Part, eval, parts_of, place, asked, holds, of_two, changed, changed_at, changing, assignment, comma_from, copied_to, arguments, compared_by, pointers_compared, moved_among, moved_by, by_elements, index, result_place, calling, new_value, old_value}
+use Rattle.c_meaning.specs.Numbers.{IsByte}
+use Rattle.c_runs.specs.Soundness.{IsSoundValue, IsSoundObject, IsSoundEvent, IsSound, IsSoundResult, Keeps, IsTame, AreTame}
 use Rattle.c_runs.proofs.Each.{each_get, each_append, each_of}
 use Rattle.c_runs.proofs.Words.{extended_below}
 use Rattle.c_runs.proofs.SoundValues.{IfOk, Changed, if_none_ok, mapped_ok, if_ok, value_more, truth_sound, typed_sound, converted_sound, unary_sound, binary_sound, moved_sound, subtracted_sound, read_sound, field_sound, written_sound, field_written_sound, copied_sound}
@@ -272,7 +274,7 @@ with_number_one : (u : UnitTree) (xs : List Argument) (line : ℕ) (w : World) (
 with_number_one u [] line w go s h g = record { by = (tt, s) }
 with_number_one u (a ∷ xs) line w go s h g = number_one u a.value line w go s h.0 g
 
-get_one : (u : UnitTree) (input : List ℕ) (k : ℕ) (w : World) → IsSound u w → EachIs IsInputByte input → Sound u w (get_character input k w)
+get_one : (u : UnitTree) (input : List ℕ) (k : ℕ) (w : World) → IsSound u w → EachIs IsByte input → Sound u w (get_character input k w)
 get_one u [] k w s h = record { by = (omega arith, (s, keeps_refl w)) }
 get_one u (byte ∷ rest) k w s h = record { by = ((let b = h.0 in omega (arith, b)), (record { own = s.own; others = s.others; live = s.live; objects = s.objects; locals = s.locals; input = h.1; trace = s.trace }, record { made = omega arith; lives = refl; locals = refl })) }
 
@@ -369,7 +371,7 @@ mutual
   eval_act s C (Core kind.Assign of line (Cores a (Cores b NoCore))) t = assign_act s of line a b _ _ (spot_small a t.1.0) (eval_act s C a t.1.0) (eval_act s C b t.1.1.0)
   eval_act s C (Core (kind.Change by) of line (Cores a (Cores b NoCore))) t = changing_act s by new_value new_given line a b _ _ (spot_small a t.1.0) (eval_act s C a t.1.0) (eval_act s C b t.1.1.0)
   eval_act s C (Core (kind.Postfix by) of line (Cores a (Cores b NoCore))) t = changing_act s by old_value old_given line a b _ _ (spot_small a t.1.0) (eval_act s C a t.1.0) (eval_act s C b t.1.1.0)
-  eval_act s C (Core kind.Call of line (Cores a (Cores f cs))) t = calling_act s C (first_copy (what_of a)) of line f cs (eval_act s C f t.1.1.0) (kids_act s C cs t.1.1.1)
+  eval_act s C (Core (kind.Call m) of line (Cores f cs)) t = calling_act s C m of line f cs (eval_act s C f t.1.0) (kids_act s C cs t.1.1)
   eval_act s C (Core what of line kids) t = undefined_act s.unit 0 _ line
 
   pub kids_act : (s : Setting) → CallsSound s.unit s.calls → (cs : CoreTrees) → AreTame cs → KidsSound s cs

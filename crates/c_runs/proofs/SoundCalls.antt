@@ -15,72 +15,23 @@ use Rattle.objects.specs.Scalars.{scalar_bytes}
 use Rattle.c_types.specs.CType.{CType}
 use Rattle.c_types.specs.Constness.{is_const}
 use Rattle.c_types.specs.Layout.{Tag}
-use Rattle.c_meaning.specs.declared.core_expr.CoreKind.{CoreKind}
-use Rattle.c_meaning.specs.declared.core_expr.CoreKind.TheVariants as kind
-use Rattle.c_meaning.specs.CoreTrees.{Core, NoCore, Cores}
 use Rattle.c_meaning.specs.Scalars.{scalar_of}
-use Rattle.c_meaning.specs.StmtTrees.{FilledOf, StmtOf, StmtsOf}
-use Rattle.c_meaning.specs.StmtTrees as stmt
 use Rattle.c_meaning.specs.Types.{is_record}
-use Rattle.c_meaning.specs.Units.{FunctionTree, UnitTree, EachIs}
-use Rattle.c_meaning.specs.Values.{CoreTree, CoreTrees}
+use Rattle.c_meaning.specs.Each.{EachIs}
+use Rattle.c_meaning.specs.Units.{FunctionTree, UnitTree}
 use Rattle.c_runs.specs.Worlds.{World, objects, with_objects, with_local, with_passed, flagged, flagged_through, entered, left_behind, next_place}
 use Rattle.c_runs.specs.Outcomes.{Result, Out, Next, Break, Continue, Return, Goto, Over, either, if_done}
 use Rattle.c_runs.specs.Below.{below}
 use Rattle.c_runs.specs.Places.{size_of, assigned}
-use Rattle.c_runs.specs.Counts.{copies_of, own_copies}
-use Rattle.c_runs.specs.Numbered.{of_expr, of_maybe, of_stmt, with_first, numbered, all_numbered, maybe_numbered, places_numbered, stmt_numbered, stmts_numbered, body_of}
 use Rattle.c_runs.specs.Calls.{Argument, Call, Setting, with_parameter, with_parameters, with_locals, own_parameters, handed, returned}
 use Rattle.c_runs.specs.Statements.{Start, exec}
 use Rattle.c_runs.specs.Run.{setting, body_run, function_run, called, calls_below, call, context}
-use Rattle.c_runs.specs.Soundness.{IsSoundValue, IsSoundByte, IsSoundObject, IsSoundEvent, IsSound, IsSoundHow, Keeps, Outline, outline, outlines, declared, IsTame, AreTame, IsTamePlace, IsMaybeTame, IsTameStmt, AreTameStmts, IsTameFunction, IsTameUnit, IsText, EvalStaysSound, ExecStaysSound}
+use Rattle.c_meaning.specs.Numbers.{IsText}
+use Rattle.c_runs.specs.Soundness.{IsSoundValue, IsSoundByte, IsSoundObject, IsSoundEvent, IsSound, IsSoundHow, Keeps, Outline, outline, outlines, declared, IsTameFunction, IsTameUnit, EvalStaysSound, ExecStaysSound}
 use Rattle.c_runs.proofs.Each.{each_get, each_append, each_of, each_take, each_replicate}
 use Rattle.c_runs.proofs.SoundValues.{IfOk, Changed, value_more, object_more, converted_sound, scalar_bytes_sound}
 use Rattle.c_runs.proofs.Sound.{Sound, changed_world, fine_one, assigned_sound, IsSoundArgument, IsSoundCall, CallsSound, eval_act}
 use Rattle.c_runs.proofs.SoundStatements.{SoundOut, exec_act}
-
--- ---- the numbered body keeps what the body does
-
-first_tame : (n : ℕ) (what : CoreKind) (of : CType) (line : ℕ) (kids : CoreTrees) → AreTame kids → AreTame (with_first n what of line kids)
-first_tame n kind.Call of line kids t = ((tt, tt), t)
-first_tame n what of line kids t = t
-
-mutual
-  numbered_tame : (n : ℕ) (c : CoreTree) → IsTame c → IsTame (numbered n c)
-  numbered_tame n (Core what of line kids) t = (t.0, first_tame n what of line (all_numbered (n + length (own_copies what of kids)) kids) (all_tame (n + length (own_copies what of kids)) kids t.1))
-
-  all_tame : (n : ℕ) (cs : CoreTrees) → AreTame cs → AreTame (all_numbered n cs)
-  all_tame n NoCore t = tt
-  all_tame n (Cores c cs) t = (numbered_tame n c t.0, all_tame (n + of_expr c) cs t.1)
-
-maybe_tame : (n : ℕ) (e : Option CoreTree) → IsMaybeTame e → IsMaybeTame (maybe_numbered n e)
-maybe_tame n None t = tt
-maybe_tame n (Some e) t = numbered_tame n e t
-
-places_tame : (n : ℕ) (ps : List (FilledOf CType)) → EachIs IsTamePlace ps → EachIs IsTamePlace (places_numbered n ps)
-places_tame n [] t = tt
-places_tame n (p ∷ ps) t = ((t.0.0, numbered_tame n p.value t.0.1), places_tame (n + of_expr p.value) ps t.1)
-
-mutual
-  stmt_tame : (n : ℕ) (s : StmtOf CType) → IsTameStmt s → IsTameStmt (stmt_numbered n s)
-  stmt_tame n stmt.Nothing t = tt
-  stmt_tame n (stmt.Expression e) t = numbered_tame n e t
-  stmt_tame n (stmt.Initialise local clear ps) t = places_tame n ps t
-  stmt_tame n (stmt.Block first locals ss) t = stmts_tame n ss t
-  stmt_tame n (stmt.If e s r) t = (numbered_tame n e t.0, (stmt_tame (n + of_expr e) s t.1.0, stmt_tame (n + of_expr e + of_stmt s) r t.1.1))
-  stmt_tame n (stmt.While e s) t = (numbered_tame n e t.0, stmt_tame (n + of_expr e) s t.1)
-  stmt_tame n (stmt.Do s e) t = (stmt_tame n s t.0, numbered_tame (n + of_stmt s) e t.1)
-  stmt_tame n (stmt.For a b c s) t = (maybe_tame n a t.0, (maybe_tame (n + of_maybe a) b t.1.0, (maybe_tame (n + of_maybe a + of_maybe b) c t.1.1.0, stmt_tame (n + of_maybe a + of_maybe b + of_maybe c) s t.1.1.1)))
-  stmt_tame n (stmt.Switch e cases default s) t = (numbered_tame n e t.0, stmt_tame (n + of_expr e) s t.1)
-  stmt_tame n (stmt.Label l s) t = stmt_tame n s t
-  stmt_tame n (stmt.Goto l) t = tt
-  stmt_tame n stmt.Break t = tt
-  stmt_tame n stmt.Continue t = tt
-  stmt_tame n (stmt.Return e) t = maybe_tame n e t
-
-  stmts_tame : (n : ℕ) (ss : StmtsOf CType) → AreTameStmts ss → AreTameStmts (stmts_numbered n ss)
-  stmts_tame n stmt.NoStmt t = tt
-  stmts_tame n (stmt.Stmts s ss) t = (stmt_tame n s t.0, stmts_tame (n + of_stmt s) ss t.1)
 
 -- ---- a call's objects are made behind the others
 
@@ -220,9 +171,9 @@ pub body_sound : (s : Setting) → CallsSound s.unit s.calls → EachIs IsText s
 body_sound s C T f t number xs k w q h =
     let start = entered_sound s.unit w number q in
     parameters_sound s.unit s.order w (own_parameters f) xs _ h
-    (λ k1 w1 s1 e1. let z = locals_sound s.unit s.unit.tags w (drop f.parameters f.locals ++ copies_of f) w1 s1 e1 in
-    let w2 : World = with_locals s.unit.tags (drop f.parameters f.locals ++ copies_of f) w1 in
-    body_of_out s.unit w w2 (exec s (body_of f) Start k1 w2) z.1 ((exec_act s C T (body_of f) Start (stmt_tame (length f.locals) f.body t)).by k1 w2 (omega arith) z.0))
+    (λ k1 w1 s1 e1. let z = locals_sound s.unit s.unit.tags w (drop f.parameters f.locals) w1 s1 e1 in
+    let w2 : World = with_locals s.unit.tags (drop f.parameters f.locals) w1 in
+    body_of_out s.unit w w2 (exec s f.body Start k1 w2) z.1 ((exec_act s C T f.body Start t).by k1 w2 (omega arith) z.0))
     k (entered (Opened number) w) start.0 start.1
 
 -- ---- what a call gives

@@ -7,17 +7,20 @@ use Rattle.objects.specs.declared.value.Value.TheVariants.{Number, Pointer, Func
 use Rattle.objects.specs.Bytes.{known_bytes}
 use Rattle.c_types.specs.Constness.{is_const}
 use Rattle.c_types.specs.Layout.{Tag}
-use Rattle.c_meaning.specs.Units.{FunctionTree, ObjectTree, UnitTree, EachIs}
+use Rattle.c_meaning.specs.Each.{EachIs}
+use Rattle.c_meaning.specs.Units.{unit_seen, FunctionTree, ObjectTree, UnitTree}
 use Rattle.c_runs.specs.Worlds.{World, objects, made, next_place}
 use Rattle.c_runs.specs.Outcomes.{Out, Next, Break, Continue, Return, Goto, Over, then_next, either}
 use Rattle.c_runs.specs.Places.{size_of, static_place}
 use Rattle.c_runs.specs.Calls.{Call, Setting, fits}
 use Rattle.c_runs.specs.Statements.{fill}
 use Rattle.c_runs.specs.Run.{context, filled_from, started, with_objects_of, with_texts, empty_world, with_null, main_arguments, main_call, main_with, main_run, body_run, Ending, status, ended_by}
-use Rattle.c_runs.specs.Soundness.{IsSoundValue, IsSoundObject, IsSoundEvent, IsInputByte, IsSound, IsSoundHow, Outline, outline, outlines, text_outlines, own_outlines, declared, IsTameObject, IsTameFunction, IsText, RunStaysSound}
+use Rattle.c_meaning.specs.Numbers.{IsByte, IsText}
+use Rattle.c_runs.specs.Soundness.{IsSoundValue, IsSoundObject, IsSoundEvent, IsSound, IsSoundHow, Outline, outline, outlines, text_outlines, own_outlines, declared, IsTameObject, IsTameFunction, RunStaysSound, CoreStaysSound}
 use Rattle.c_runs.proofs.Each.{each_get, each_append, each_of, each_replicate}
 use Rattle.c_runs.proofs.SoundValues.{value_more, object_more, known_sound}
 use Rattle.c_runs.proofs.Sound.{CallsSound}
+use Rattle.c_runs.proofs.Tame.{units_are_tame}
 use Rattle.c_runs.proofs.SoundStatements.{SoundOut, SoundOuts, next_acts, fill_act}
 use Rattle.c_runs.proofs.SoundCalls.{SoundBody, outlines_append, longer, body_sound, call_sound}
 
@@ -26,7 +29,7 @@ use Rattle.c_runs.proofs.SoundCalls.{SoundBody, outlines_append, longer, body_so
 record IsSoundStart (w : World) : Type 0 where
   objects : EachIs (IsSoundObject w.storage.made) w.storage.objects
   locals : w.locals ≡ []
-  input : EachIs IsInputByte w.input
+  input : EachIs IsByte w.input
   trace : w.trace ≡ []
 
 made_start : (w : World) (constant : Bool) (bytes : List ℕ) → IsText bytes → IsSoundStart w → IsSoundStart (made constant (known_bytes bytes) w)
@@ -41,14 +44,14 @@ made_start w constant bytes t s =
 
 objects_start : (tags : List Tag) (os : List ObjectTree) (w : World) → IsSoundStart w → IsSoundStart (with_objects_of tags os w)
 objects_start tags [] w s = s
-objects_start tags (o ∷ os) w s = objects_start tags os _ (made_start w (is_const o.of) (replicate (size_of tags o.of) 0) (each_replicate IsInputByte (size_of tags o.of) 0 (omega arith)) s)
+objects_start tags (o ∷ os) w s = objects_start tags os _ (made_start w (is_const o.of) (replicate (size_of tags o.of) 0) (each_replicate IsByte (size_of tags o.of) 0 (omega arith)) s)
 
 objects_made : (tags : List Tag) (os : List ObjectTree) (w : World) → (with_objects_of tags os w).storage.made ≡ w.storage.made + length os
 objects_made tags [] w = omega arith
 objects_made tags (o ∷ os) w = let h = objects_made tags os (made (is_const o.of) (known_bytes (replicate (size_of tags o.of) 0)) w) in h ∙ omega arith
 
 ended_text : (bytes : List ℕ) → IsText bytes → IsText (bytes ++ 0 ∷ [])
-ended_text bytes t = each_append IsInputByte bytes (0 ∷ []) t (omega arith, tt)
+ended_text bytes t = each_append IsByte bytes (0 ∷ []) t (omega arith, tt)
 
 texts_start : (ts : List (List ℕ)) (w : World) → EachIs IsText ts → IsSoundStart w → IsSoundStart (with_texts ts w)
 texts_start [] w t s = s
@@ -108,7 +111,7 @@ start_sound u w s h g = record {
 abbrev first_world : UnitTree → List ℕ → World
 first_world u input = with_texts u.texts (with_objects_of u.tags u.objects (empty_world input))
 
-first_sound : (u : UnitTree) (input : List ℕ) → EachIs IsText u.texts → EachIs IsInputByte input → IsSound u (first_world u input)
+first_sound : (u : UnitTree) (input : List ℕ) → EachIs IsText u.texts → EachIs IsByte input → IsSound u (first_world u input)
 first_sound u input t h =
     let a = objects_made u.tags u.objects (empty_world input) in
     let b = texts_made u.texts (with_objects_of u.tags u.objects (empty_world input)) in
@@ -183,3 +186,6 @@ run_sound u order input k t h =
     let s : Setting = context u order in
     then_main s (call_sound u order t) t.texts (slice_get u.functions u.main) (each_get IsTameFunction u.functions u.main t.functions) (first_world u input) (started s input k)
     ((filled_act s (call_sound u order t) t.texts 0 u.objects t.objects).by k (first_world u input) (omega arith) (first_sound u input t.texts h))
+
+pub core_sound : CoreStaysSound
+core_sound u order input k w h = run_sound (unit_seen u) order input k (units_are_tame (unit_seen u) w.unit) h

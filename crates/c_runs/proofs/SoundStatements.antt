@@ -18,7 +18,8 @@ use Rattle.c_meaning.specs.Filling.{characters}
 use Rattle.c_meaning.specs.StmtTrees.{FilledOf, StmtOf, StmtsOf}
 use Rattle.c_meaning.specs.StmtTrees as stmt
 use Rattle.c_meaning.specs.Types.{is_array, is_record}
-use Rattle.c_meaning.specs.Units.{UnitTree, EachIs}
+use Rattle.c_meaning.specs.Each.{EachIs}
+use Rattle.c_meaning.specs.Units.{UnitTree}
 use Rattle.c_meaning.specs.Values.{CoreTree}
 use Rattle.c_runs.specs.Worlds.{World, objects, with_objects}
 use Rattle.c_runs.specs.Outcomes.{Undefined, Result, Gives, GivesNone, Ends, Out, Next, Break, Continue, Return, Goto, Over, then_do, then_go, then_next, looped, switched, spent, catch, either, branch, is_true, if_done}
@@ -27,7 +28,8 @@ use Rattle.c_runs.specs.Places.{spot_filled, stored, assigned, spelled}
 use Rattle.c_runs.specs.Calls.{Setting}
 use Rattle.c_runs.specs.Expressions.{eval, test}
 use Rattle.c_runs.specs.Statements.{Entry, Start, At, round, rounds, loop, loop_between, loop_behind, jumps, jump, maybe_dropped, maybe_test, last_and_test, chosen, to_case, switch_on, string_of, filled, fill, zeroed_at, initialised, has, any_has, exec, exec_all}
-use Rattle.c_runs.specs.Soundness.{IsSoundValue, IsSoundObject, IsSound, IsSoundOut, Keeps, IsTame, IsTamePlace, IsMaybeTame, IsTameStmt, AreTameStmts, IsText}
+use Rattle.c_meaning.specs.Numbers.{IsText}
+use Rattle.c_runs.specs.Soundness.{IsSoundValue, IsSoundObject, IsSound, IsSoundOut, Keeps, IsTame, IsTamePlace, IsMaybeTame, IsTameStmt, AreTameStmts}
 use Rattle.c_runs.proofs.SoundValues.{IfOk, Changed, unless_ok, if_ok, value_more, truth_sound, known_sound, through_stored, zeroed_sound}
 use Rattle.c_runs.proofs.Sound.{Sound, SoundAct, keeps_refl, keeps_trans, drop_act, changed_world, stored_spot, assigned_sound, asked_act, CallsSound, eval_act}
 

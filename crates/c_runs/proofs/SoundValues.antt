@@ -33,9 +33,10 @@ use Rattle.objects.specs.Accesses.{bytes_through, stored_through, if_none, read_
 use Rattle.objects.specs.Arithmetic.{unary_value, binary_value}
 use Rattle.objects.specs.Copies.{copied}
 use Rattle.objects.specs.Pointers.{moved_if, moved, subtracted}
-use Rattle.c_meaning.specs.Units.{EachIs}
+use Rattle.c_meaning.specs.Each.{EachIs}
 use Rattle.c_runs.specs.Outcomes.{mapped, truth}
-use Rattle.c_runs.specs.Soundness.{IsSoundValue, IsSoundByte, IsSoundObject, IsInputByte, outlines, outline}
+use Rattle.c_meaning.specs.Numbers.{IsByte}
+use Rattle.c_runs.specs.Soundness.{IsSoundValue, IsSoundByte, IsSoundObject, outlines, outline}
 use Rattle.c_runs.proofs.Each.{each_get, each_of, each_take, each_drop, each_replicate, each_map, each_reverse, each_overwritten}
 use Rattle.c_runs.proofs.Words.{unary_below, binary_below, extended_below, word_below, signed_small}
 
@@ -177,16 +178,16 @@ field_sound m order f os p b =
 
 -- ---- what is written
 
-low_sound : (w n : ℕ) → EachIs IsInputByte (low_bytes w n)
+low_sound : (w n : ℕ) → EachIs IsByte (low_bytes w n)
 low_sound zero n = tt
 low_sound (suc w) n = (mod_below n 256 (omega arith), low_sound w (n / 256))
 
-number_sound : (order : Order) (w n : ℕ) → EachIs IsInputByte (number_bytes order w n)
-number_sound Big w n = each_reverse IsInputByte (low_bytes w n) (low_sound w n)
+number_sound : (order : Order) (w n : ℕ) → EachIs IsByte (number_bytes order w n)
+number_sound Big w n = each_reverse IsByte (low_bytes w n) (low_sound w n)
 number_sound Little w n = low_sound w n
 
-pub known_sound : (m : ℕ) (ns : List ℕ) → EachIs IsInputByte ns → EachIs (IsSoundByte m) (known_bytes ns)
-known_sound m ns h = each_map IsInputByte (IsSoundByte m) (λ n. Bits 255 n) ns (λ n l. (omega arith, l)) h
+pub known_sound : (m : ℕ) (ns : List ℕ) → EachIs IsByte ns → EachIs (IsSoundByte m) (known_bytes ns)
+known_sound m ns h = each_map IsByte (IsSoundByte m) (λ n. Bits 255 n) ns (λ n l. (omega arith, l)) h
 
 parts_sound : (m : ℕ) (order : Order) (v : Value) → IsSoundValue m v → EachIs (IsSoundByte m) (part_bytes order v)
 parts_sound m Big v h = ((omega arith, h), ((omega arith, h), ((omega arith, h), ((omega arith, h), tt))))
@@ -197,7 +198,7 @@ scalar_bytes_sound m order width (Number n) h = known_sound m (number_bytes orde
 scalar_bytes_sound m order width (Pointer o x) h = parts_sound m order (Pointer o x) h
 scalar_bytes_sound m order width (Function f) h = parts_sound m order (Function f) tt
 
-bits_sound : (m : ℕ) (ks vs : List ℕ) → EachIs IsInputByte ks → EachIs IsInputByte vs → EachIs (IsSoundByte m) (bits_of ks vs)
+bits_sound : (m : ℕ) (ks vs : List ℕ) → EachIs IsByte ks → EachIs IsByte vs → EachIs (IsSoundByte m) (bits_of ks vs)
 bits_sound m [] vs h g = tt
 bits_sound m (k ∷ ks) [] h g = tt
 bits_sound m (k ∷ ks) (v ∷ vs) h g = ((h.0, g.0), bits_sound m ks vs h.1 g.1)

@@ -1,4 +1,4 @@
--- What a checked unit keeps, its numbers being words: its bit-fields lie in their units.
+-- A checked unit is tame: its numbers are words, its bit-fields lie in their units, and its texts are of bytes.
 use Rattle.std.specs.Prelude.{ℕ, Option, Some, None, IfSome, List, [], ◌∷◌}
 use Rattle.std.proofs.Common.{arith}
 use Rattle.c_types.specs.CType.{CType}
@@ -8,9 +8,11 @@ use Rattle.c_meaning.specs.CoreTrees.{Core, NoCore, Cores}
 use Rattle.c_meaning.specs.Fits.{IsRow, AllFit}
 use Rattle.c_meaning.specs.StmtTrees.{FilledOf, StmtOf, StmtsOf}
 use Rattle.c_meaning.specs.StmtTrees as stmt
-use Rattle.c_meaning.specs.Units.{FunctionTree, ObjectTree, UnitTree, EachIs, IsLeaf, IsExpr, IsValue, IsTest, IsReturned, AreFilled, IsStmt, AreStmts, IsFunction, IsObject}
+use Rattle.c_meaning.specs.Each.{EachIs, EachKinds, EachExprs}
+use Rattle.c_meaning.specs.Numbers.{IsWordKind, HasWords, PlaceHasWords, StmtHasWords}
+use Rattle.c_meaning.specs.Units.{FunctionTree, ObjectTree, UnitTree, IsLeaf, IsExpr, IsValue, IsTest, IsReturned, AreFilled, IsStmt, AreStmts, IsFunction, IsObject}
 use Rattle.c_meaning.specs.Values.{CoreTree, CoreTrees}
-use Rattle.c_runs.specs.Soundness.{EachKinds, IsTameKind, IsTame, AreTame, IsTamePlace, IsMaybeTame, IsTameStmt, AreTameStmts, IsTameFunction, IsTameObject, IsWordKind, HasWords, PlaceHasWords, StmtHasWords, EachExprs, FunctionHasWords, ObjectHasWords, UnitsAreTame}
+use Rattle.c_runs.specs.Soundness.{IsTameKind, IsTame, AreTame, IsTamePlace, IsMaybeTame, IsTameStmt, AreTameStmts, IsTameFunction, IsTameObject, UnitsAreTame}
 
 kind_tame : (u : UnitTree) (locals : List CType) (what : CoreKind) (of : CType) (kids : CoreTrees) → IsRow (IsLeaf u locals) u.tags what of kids → IsWordKind what → IsTameKind what
 kind_tame u locals (kind.Number n) of kids r h = h
@@ -69,13 +71,13 @@ mutual
   stmts_tame u f ns stmt.NoStmt r h = tt
   stmts_tame u f ns (stmt.Stmts s ss) r h = (stmt_tame u f ns s r.0 h.0, stmts_tame u f ns ss r.1 h.1)
 
-functions_tame : (u : UnitTree) (fs : List FunctionTree) → EachIs (IsFunction u) fs → EachIs FunctionHasWords fs → EachIs IsTameFunction fs
-functions_tame u [] r h = tt
-functions_tame u (f ∷ fs) r h = (stmt_tame u f _ f.body r.0.body h.0, functions_tame u fs r.1 h.1)
+functions_tame : (u : UnitTree) (fs : List FunctionTree) → EachIs (IsFunction u) fs → EachIs IsTameFunction fs
+functions_tame u [] r = tt
+functions_tame u (f ∷ fs) r = (stmt_tame u f _ f.body r.0.body r.0.words, functions_tame u fs r.1)
 
-objects_tame : (u : UnitTree) (os : List ObjectTree) → EachIs (IsObject u) os → EachIs ObjectHasWords os → EachIs IsTameObject os
-objects_tame u [] r h = tt
-objects_tame u (o ∷ os) r h = (places_tame u [] r.0.places.0 o.places r.0.places.2 h.0, objects_tame u os r.1 h.1)
+objects_tame : (u : UnitTree) (os : List ObjectTree) → EachIs (IsObject u) os → EachIs IsTameObject os
+objects_tame u [] r = tt
+objects_tame u (o ∷ os) r = (places_tame u [] r.0.places.0 o.places r.0.places.2 r.0.words, objects_tame u os r.1)
 
 pub units_are_tame : UnitsAreTame
-units_are_tame u r h = record { functions = functions_tame u u.functions r.functions h.functions; objects = objects_tame u u.objects r.objects h.objects; texts = h.texts }
+units_are_tame u r = record { functions = functions_tame u u.functions r.functions; objects = objects_tame u u.objects r.objects; texts = r.bytes }

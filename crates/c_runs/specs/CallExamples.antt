@@ -12,7 +12,7 @@ use Rattle.c_meaning.specs.Values.{CoreTree}
 use Rattle.c_runs.specs.Below.{below}
 use Rattle.c_runs.specs.Outcomes.{Undefined, OutOfTurns, Exit}
 use Rattle.c_runs.specs.Run.{calls_below, call, context, run_tree}
-use Rattle.c_runs.specs.Samples.{int, char, function, of_types, pair, number, local, read, var, set, address, pointed, part, as_pointer, as_integer, as_void, binary, call_of, putchar, getchar, exit, act, give, defined, main, unit, program, how_of, output_of}
+use Rattle.c_runs.specs.Samples.{int, char, function, of_types, pair, number, local, read, var, set, address, pointed, part, as_pointer, as_integer, as_void, binary, call_at, call_of, putchar, getchar, exit, act, give, defined, main, unit, program, how_of, output_of}
 
 -- ---- turns
 
@@ -72,12 +72,12 @@ unfolding context call calls_below below
 arguments_go_first = refl
 
 -- the callee is a number: (*(int (*)())1)()
-no_function : how_of (program [] (act (Core kind.Call int 3 (one (as_pointer 2 (function int Open) (number 2 1)))) ∷ [])) 1 ≡ Undefined cause.CallMismatch 3
+no_function : how_of (program [] (act (Core (kind.Call 0) int 3 (one (as_pointer 2 (function int Open) (number 2 1)))) ∷ [])) 1 ≡ Undefined cause.CallMismatch 3
 unfolding context call calls_below below
 no_function = refl
 
 -- a pointer to a function is held, and called
-through_a_pointer : how_of (unit (main (pointer_to of_int ∷ []) (act (set 1 (local 1 (pointer_to of_int) 0) (address 1 (Core (kind.Function 1) of_int 1 none))) ∷ give (Core kind.Call int 2 (Cores (read 2 (local 2 (pointer_to of_int) 0)) (one (number 2 0)))) ∷ []) ∷ summing ∷ []) [] []) 1 ≡ Exit 0
+through_a_pointer : how_of (unit (main (pointer_to of_int ∷ []) (act (set 1 (local 1 (pointer_to of_int) 0) (address 1 (Core (kind.Function 1) of_int 1 none))) ∷ give (Core (kind.Call 1) int 2 (Cores (read 2 (local 2 (pointer_to of_int) 0)) (one (number 2 0)))) ∷ []) ∷ summing ∷ []) [] []) 1 ≡ Exit 0
 unfolding context call calls_below below
 through_a_pointer = refl
 
@@ -95,14 +95,14 @@ of_pair = of_types pair (pair ∷ [])
 abbrev adding_one : FunctionTree
 adding_one = defined (codes "f") of_pair 1 (pair ∷ []) (act (set 1 (part 1 int 0 (local 1 pair 0)) (binary 1 binary.Add (read 1 (part 1 int 0 (local 1 pair 0))) (number 1 1))) ∷ give (local 2 pair 0) ∷ [])
 
--- struct s x; x.m = 5; f(x); return f(f(x)).m * 10 + x.m;
+-- struct s x; x.m = 5; f(x); return f(f(x)).m * 10 + x.m; behind x stand the copies that each call passes and gives
 abbrev passing : UnitTree
 passing =
-    unit (main (pair ∷ [])
+    unit (main (pair ∷ pair ∷ pair ∷ pair ∷ pair ∷ pair ∷ pair ∷ [])
     (act (set 1 (part 1 int 0 (local 1 pair 0)) (number 1 5))
-    ∷ act (call_of 2 of_pair pair 1 (local 2 pair 0 ∷ []))
+    ∷ act (call_at 1 2 of_pair pair 1 (local 2 pair 0 ∷ []))
     ∷ give (binary 3 binary.Add
-    (binary 3 binary.Multiply (read 3 (part 3 int 0 (call_of 3 of_pair pair 1 (call_of 3 of_pair pair 1 (local 3 pair 0 ∷ []) ∷ [])))) (number 3 10))
+    (binary 3 binary.Multiply (read 3 (part 3 int 0 (call_at 3 3 of_pair pair 1 (call_at 5 3 of_pair pair 1 (local 3 pair 0 ∷ []) ∷ [])))) (number 3 10))
     (read 3 (part 3 int 0 (local 3 pair 0)))) ∷ [])
     ∷ adding_one ∷ []) [] []
 

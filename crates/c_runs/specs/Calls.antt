@@ -26,7 +26,6 @@ use Rattle.c_runs.specs.Outcomes as how
 use Rattle.c_runs.specs.Outcomes.{Result, Gives, GivesNone, Ends, Out, Next, Break, Continue, Return, Goto, Over, undefined, stray, stray_out, if_fine, if_done, either, spend}
 use Rattle.c_types.specs.Constness.{is_const}
 use Rattle.c_runs.specs.Places.{size_of, assigned}
-use Rattle.c_runs.specs.Counts.{copies_of}
 
 -- an argument: its value, of a structure the pointer to its copy; its type; and its line
 pub record Argument : Type 0 where
@@ -187,11 +186,12 @@ abbrev pub with_locals : List Tag → List CType → World → World
 with_locals tags [] w = w
 with_locals tags (t ∷ ts) w = with_locals tags ts (with_local (is_const t) (replicate (size_of tags t) unknown_byte) w)
 
--- Its objects live from its entry to its return: the parameters, the other locals, the copies.
+-- Its objects live from its entry to its return: the parameters, and then the other locals, the copies of structures that its
+-- calls pass and give among them.
 abbrev pub opened : UnitTree → Order → FunctionTree → ℕ → List Argument → ℕ → World → (ℕ → World → Out) → Out
 opened u order f number as' k w go =
     with_parameters u.tags order (own_parameters f) as' k (entered (Opened number) w)
-    (λ k1 w1. go k1 (with_locals u.tags (drop f.parameters f.locals ++ copies_of f) w1))
+    (λ k1 w1. go k1 (with_locals u.tags (drop f.parameters f.locals) w1))
 
 -- ---- and left
 

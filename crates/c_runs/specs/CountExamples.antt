@@ -8,7 +8,7 @@ use Rattle.c_runs.specs.Below.{below}
 use Rattle.c_runs.specs.Run.{calls_below, call, context, run_tree}
 use Rattle.c_runs.specs.Counts.{node_count, frame_count, data_count}
 use Rattle.c_runs.specs.Room.{frame_room, code_room, data_room, room, depth}
-use Rattle.c_runs.specs.Samples.{int, char, array, of_types, pair, pair_tag, number, local, var, binary, call_of, act, give, defined, main, static, unit}
+use Rattle.c_runs.specs.Samples.{int, char, array, of_types, pair, pair_tag, number, local, var, binary, call_at, act, give, defined, main, static, unit}
 
 -- int f(int n) { return n + 1; }: a parameter, the block, the return, the sum, the read, its place, the number
 abbrev next : FunctionTree
@@ -29,7 +29,7 @@ abbrev of_pair : CType
 of_pair = of_types pair (pair ∷ [])
 
 abbrev copying : FunctionTree
-copying = main (array char 3 ∷ pair ∷ []) (act (call_of 1 of_pair pair 1 (local 1 pair 1 ∷ [])) ∷ [])
+copying = main (array char 3 ∷ pair ∷ pair ∷ pair ∷ []) (act (call_at 2 1 of_pair pair 1 (local 1 pair 1 ∷ [])) ∷ [])
 
 frame : frame_count (pair_tag ∷ []) copying ≡ 32
 frame = refl

@@ -23,7 +23,7 @@ use Rattle.c_meaning.specs.declared.core_expr.Change.TheVariants as change
 use Rattle.c_meaning.specs.declared.core_expr.Conversion.TheVariants as to
 use Rattle.c_meaning.specs.declared.core_expr.CoreKind.{CoreKind}
 use Rattle.c_meaning.specs.declared.core_expr.CoreKind.TheVariants as kind
-use Rattle.c_meaning.specs.CoreTrees.{Core, NoCore, Cores, what_of, type_of, line_of}
+use Rattle.c_meaning.specs.CoreTrees.{Core, NoCore, Cores, type_of, line_of}
 use Rattle.c_meaning.specs.Scalars.{scalar_of, is_signed}
 use Rattle.c_meaning.specs.Types.{is_pointer, is_record}
 use Rattle.c_meaning.specs.Values.{CoreTree, CoreTrees}
@@ -151,16 +151,10 @@ comma_from a (b ∷ ps) k w = then_drop (a.does k w) (λ k1 w1. comma_from b ps 
 
 -- ---- calls
 
--- Where a call's copies begin among the objects of the activation: those of its structure arguments in order, then that of
--- its result. A call of the numbered body has this local as its first part.
-abbrev pub first_copy : CoreKind → ℕ
-first_copy (kind.Local n register) = n
-first_copy what = 0
-
 abbrev pub argument : Part → Value → Argument
 argument a v = record { value = v; of = type_of a.tree; line = line_of a.tree }
 
--- an argument of structure type is copied at once, into the activation's copy of this number
+-- an argument of structure type is copied at once, into the running call's object for it
 abbrev pub copied_to : Setting → Option Value → Part → Value → ℕ → World → (Argument → ℕ → World → Result) → Result
 copied_to s None a v k w go = stray (line_of a.tree) w
 copied_to s (Some copy) a v k w go =
@@ -168,7 +162,7 @@ copied_to s (Some copy) a v k w go =
     (λ from. if_fine (assigned Initialisation s.unit.tags (type_of a.tree) (objects w) from copy) (line_of a.tree) w
     (λ os. go (argument a copy) k (with_objects w os)))
 
--- the arguments from left to right, behind those that are there, and how many copies were passed
+-- the arguments from left to right, behind those that are there, and the local of the next copy
 abbrev pub arguments : Setting → ℕ → List Part → List Argument → ℕ → World → (ℕ → List Argument → ℕ → World → Result) → Result
 arguments s n [] done k w go = go n done k w
 arguments s n (a ∷ ps) done k w go =
@@ -240,8 +234,8 @@ row s kind.Assign of line (a ∷ b ∷ []) k w = assignment s of line a b k w
 -- place, right operand, and then what the place holds
 row s (kind.Change by) of line (a ∷ b ∷ []) k w = changing s by new_value line a b k w
 row s (kind.Postfix by) of line (a ∷ b ∷ []) k w = changing s by old_value line a b k w
--- CallMismatch; NoResult where the value is used
-row s kind.Call of line (a ∷ f ∷ ps) k w = calling s (first_copy (what_of a.tree)) of line f ps k w
+-- CallMismatch; NoResult where the value is used; n is the local where the call's copies begin
+row s (kind.Call n) of line (f ∷ ps) k w = calling s n of line f ps k w
 -- no checked unit holds anything else
 row s what of line ps k w = stray line w
 

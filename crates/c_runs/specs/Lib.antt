@@ -3,7 +3,6 @@ pub mod Worlds
 pub mod Outcomes
 pub mod Places
 pub mod Counts
-pub mod Numbered
 pub mod Calls
 pub mod Expressions
 pub mod Statements

@@ -16,7 +16,6 @@ use Rattle.c_runs.specs.Outcomes.{How, Undefined, OutOfTurns, Exit, Result, Ends
 use Rattle.c_runs.specs.Below.{below}
 use Rattle.c_types.specs.Constness.{is_const}
 use Rattle.c_runs.specs.Places.{size_of, static_place}
-use Rattle.c_runs.specs.Numbered.{body_of}
 use Rattle.c_runs.specs.Calls.{Argument, Call, Setting, int, fits, opened, returned}
 use Rattle.c_runs.specs.Statements.{Start, exec, fill}
 
@@ -27,7 +26,7 @@ setting u order calls = record { unit = u; order = order; calls = calls }
 
 -- a function's body, with its objects made
 abbrev pub body_run : Setting → FunctionTree → ℕ → List Argument → ℕ → World → Out
-body_run s f number xs k w = opened s.unit s.order f number xs k w (λ k1 w1. exec s (body_of f) Start k1 w1)
+body_run s f number xs k w = opened s.unit s.order f number xs k w (λ k1 w1. exec s f.body Start k1 w1)
 
 abbrev pub function_run : Setting → Option FunctionTree → Call → ℕ → Result
 function_run s None a k = stray a.line a.world

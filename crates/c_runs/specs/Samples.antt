@@ -111,13 +111,17 @@ compare line op a b = Core (kind.Compare op true) int line (two a b)
 abbrev pub comma : ℕ → CoreTree → CoreTree → CoreTree
 comma line a b = Core kind.Comma (type_of b) line (two a b)
 
--- a call of a function of the unit, by the type under which it is called
+-- a call of a function of the unit, by the type under which it is called; its copies of structures begin at a local
+abbrev pub call_at : ℕ → ℕ → CType → CType → ℕ → List CoreTree → CoreTree
+call_at copies line of result n arguments = Core (kind.Call copies) result line (Cores (address line (Core (kind.Function n) of line none)) (cores_of arguments))
+
+-- one that passes and gives no structure
 abbrev pub call_of : ℕ → CType → CType → ℕ → List CoreTree → CoreTree
-call_of line of result n arguments = Core kind.Call result line (Cores (address line (Core (kind.Function n) of line none)) (cores_of arguments))
+call_of line of result n arguments = call_at 0 line of result n arguments
 
 -- calls of the built-in functions
 abbrev pub built_in : ℕ → BuiltIn → CType → List CoreTree → CoreTree
-built_in line b of arguments = Core kind.Call int line (Cores (address line (Core (kind.BuiltIn b) of line none)) (cores_of arguments))
+built_in line b of arguments = Core (kind.Call 0) int line (Cores (address line (Core (kind.BuiltIn b) of line none)) (cores_of arguments))
 
 abbrev pub putchar : ℕ → CoreTree → CoreTree
 putchar line v = built_in line Putchar (of_types int (int ∷ [])) (v ∷ [])

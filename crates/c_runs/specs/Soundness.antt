@@ -11,17 +11,17 @@ use Rattle.c_types.specs.CType.{CType}
 use Rattle.c_types.specs.Layout.{Tag}
 use Rattle.c_meaning.specs.declared.core_expr.CoreKind.{CoreKind}
 use Rattle.c_meaning.specs.declared.core_expr.CoreKind.TheVariants as kind
-use Rattle.c_meaning.specs.CoreTrees.{Core, NoCore, Cores}
 use Rattle.c_meaning.specs.StmtTrees.{FilledOf, StmtOf, StmtsOf}
-use Rattle.c_meaning.specs.StmtTrees as stmt
-use Rattle.c_meaning.specs.Units.{FunctionTree, ObjectTree, UnitTree, EachIs, IsUnit}
+use Rattle.c_meaning.specs.Each.{EachIs, EachKind, EachKinds, EachExpr, EachExprs}
+use Rattle.c_meaning.specs.Numbers.{IsByte, IsText}
+use Rattle.c_meaning.specs.Units.{CoreUnit, FunctionTree, ObjectTree, UnitTree, IsUnit, IsWhole, unit_seen}
 use Rattle.c_meaning.specs.Values.{CoreTree, CoreTrees}
 use Rattle.c_runs.specs.Worlds.{World}
 use Rattle.c_runs.specs.Outcomes.{How, Undefined, OutOfTurns, Exit, Result, Gives, GivesNone, Ends, Out, Next, Break, Continue, Return, Goto, Over}
 use Rattle.c_runs.specs.Places.{size_of}
 use Rattle.c_runs.specs.Expressions.{eval}
 use Rattle.c_runs.specs.Statements.{Entry, exec}
-use Rattle.c_runs.specs.Run.{context, run_tree}
+use Rattle.c_runs.specs.Run.{context, run_tree, run}
 
 -- ---- sizes
 
@@ -68,9 +68,6 @@ IsSoundEvent (Wrote byte) = byte < 256
 IsSoundEvent (Opened f) = Unit {0}
 IsSoundEvent Closed = Unit {0}
 
-abbrev pub IsInputByte : ℕ → Type 0
-IsInputByte b = b < 256
-
 -- a world in a run of the unit, whose own objects and texts were made and live, each of its size
 pub record IsSound (u : UnitTree) (w : World) : Type 0 where
   pub own : length u.objects + length u.texts ≤ w.storage.made
@@ -78,7 +75,7 @@ pub record IsSound (u : UnitTree) (w : World) : Type 0 where
   pub live : outlines w.storage.objects ≡ declared u ++ others
   pub objects : EachIs (IsSoundObject w.storage.made) w.storage.objects
   pub locals : EachIs (IsSoundValue w.storage.made) w.locals
-  pub input : EachIs IsInputByte w.input
+  pub input : EachIs IsByte w.input
   pub trace : EachIs IsSoundEvent w.trace
 
 -- ---- what a world keeps of an earlier one
@@ -108,39 +105,6 @@ IsSoundOut u old (Continue k w) = IsSound u w × Keeps old w
 IsSoundOut u old (Return v line k w) = IfSome v (IsSoundValue w.storage.made) × (IsSound u w × Keeps old w)
 IsSoundOut u old (Goto l k w) = IsSound u w × Keeps old w
 IsSoundOut u old (Over how w) = IsSoundHow how × IsSound u w
-
--- ---- what the expressions of trees and statements are
-
--- each kind of an expression is such
-abbrev mutual
-  pub EachKind : (CoreKind → Type 0) → CoreTree → Type 0
-  EachKind is (Core what of line kids) = is what × EachKinds is kids
-
-  pub EachKinds : (CoreKind → Type 0) → CoreTrees → Type 0
-  EachKinds is NoCore = Unit {0}
-  EachKinds is (Cores c cs) = EachKind is c × EachKinds is cs
-
--- each expression of a statement is such, and each place of an initialiser
-abbrev mutual
-  pub EachExpr : (CoreTree → Type 0) → (FilledOf CType → Type 0) → StmtOf CType → Type 0
-  EachExpr is at stmt.Nothing = Unit {0}
-  EachExpr is at (stmt.Expression e) = is e
-  EachExpr is at (stmt.Initialise local clear places) = EachIs at places
-  EachExpr is at (stmt.Block first locals ss) = EachExprs is at ss
-  EachExpr is at (stmt.If e s t) = is e × (EachExpr is at s × EachExpr is at t)
-  EachExpr is at (stmt.While e s) = is e × EachExpr is at s
-  EachExpr is at (stmt.Do s e) = EachExpr is at s × is e
-  EachExpr is at (stmt.For a b c s) = IfSome a is × (IfSome b is × (IfSome c is × EachExpr is at s))
-  EachExpr is at (stmt.Switch e cases default s) = is e × EachExpr is at s
-  EachExpr is at (stmt.Label n s) = EachExpr is at s
-  EachExpr is at (stmt.Goto n) = Unit {0}
-  EachExpr is at stmt.Break = Unit {0}
-  EachExpr is at stmt.Continue = Unit {0}
-  EachExpr is at (stmt.Return e) = IfSome e is
-
-  pub EachExprs : (CoreTree → Type 0) → (FilledOf CType → Type 0) → StmtsOf CType → Type 0
-  EachExprs is at stmt.NoStmt = Unit {0}
-  EachExprs is at (stmt.Stmts s ss) = EachExpr is at s × EachExprs is at ss
 
 -- ---- numbers are words, bit-fields lie in their units, and texts are of bytes
 
@@ -173,42 +137,15 @@ IsTameFunction f = IsTameStmt f.body
 abbrev pub IsTameObject : ObjectTree → Type 0
 IsTameObject o = EachIs IsTamePlace o.places
 
-abbrev pub IsText : List ℕ → Type 0
-IsText bytes = EachIs IsInputByte bytes
-
 pub record IsTameUnit (u : UnitTree) : Type 0 where
   pub functions : EachIs IsTameFunction u.functions
   pub objects : EachIs IsTameObject u.objects
   pub texts : EachIs IsText u.texts
 
--- ---- a checked unit is so, where the numbers that stand in it are of 32 bits and its texts of bytes
-
-abbrev pub IsWordKind : CoreKind → Type 0
-IsWordKind (kind.Number n) = n < 2 ^ 32
-IsWordKind what = Unit {0}
-
-abbrev pub HasWords : CoreTree → Type 0
-HasWords c = EachKind IsWordKind c
-
-abbrev pub PlaceHasWords : FilledOf CType → Type 0
-PlaceHasWords p = HasWords p.value
-
-abbrev pub StmtHasWords : StmtOf CType → Type 0
-StmtHasWords s = EachExpr HasWords PlaceHasWords s
-
-abbrev pub FunctionHasWords : FunctionTree → Type 0
-FunctionHasWords f = StmtHasWords f.body
-
-abbrev pub ObjectHasWords : ObjectTree → Type 0
-ObjectHasWords o = EachIs PlaceHasWords o.places
-
-pub record UnitHasWords (u : UnitTree) : Type 0 where
-  pub functions : EachIs FunctionHasWords u.functions
-  pub objects : EachIs ObjectHasWords u.objects
-  pub texts : EachIs IsText u.texts
+-- ---- a checked unit is so
 
 abbrev pub UnitsAreTame : Type 0
-UnitsAreTame = (u : UnitTree) → IsUnit u → UnitHasWords u → IsTameUnit u
+UnitsAreTame = (u : UnitTree) → IsUnit u → IsTameUnit u
 
 -- ---- the laws
 
@@ -225,5 +162,11 @@ ExecStaysSound =
 -- a whole run, from an input of bytes
 abbrev pub RunStaysSound : Type 0
 RunStaysSound =
-    (u : UnitTree) (order : Order) (input : List ℕ) (k : ℕ) → IsTameUnit u → EachIs IsInputByte input
+    (u : UnitTree) (order : Order) (input : List ℕ) (k : ℕ) → IsTameUnit u → EachIs IsByte input
     → IsSoundHow (run_tree u order input k).how × IsSound u (run_tree u order input k).world
+
+-- that of a checked unit, of which nothing more is asked
+abbrev pub CoreStaysSound : Type 0
+CoreStaysSound =
+    (u : CoreUnit) (order : Order) (input : List ℕ) (k : ℕ) → IsWhole u → EachIs IsByte input
+    → IsSoundHow (run u order input k).how × IsSound (unit_seen u) (run u order input k).world

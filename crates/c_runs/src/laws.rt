@@ -1,5 +1,5 @@
 ghost use Rattle.c_runs.specs.Laws.{LoopIs, JumpIs, CallIs, EvalFalls, ExecFalls, EvalGrows, ExecGrows, RunsGoFurther, OutputsGrow, DepthsGrow, CallsStandAlone};
-ghost use Rattle.c_runs.specs.Soundness.{EvalStaysSound, ExecStaysSound, RunStaysSound, UnitsAreTame};
+ghost use Rattle.c_runs.specs.Soundness.{EvalStaysSound, ExecStaysSound, RunStaysSound, UnitsAreTame, CoreStaysSound};
 
 /// A loop is its own repetition, with the turns that it leaves; so is a block that catches gotos, and
 /// a call runs the body of its function among the same calls.
@@ -35,13 +35,14 @@ pub fn calls_stand_alone()
     ensures { CallsStandAlone }
 {}
 
-/// In every run numbers stay words, and bytes bytes; each pointer's object was made, and the pointer stays
-/// in it; what lives keeps its size; and the running call keeps its objects. This is so where the
-/// unit's numbers are words, its bit-fields lie in their units, and its texts are of bytes, as in each
-/// checked unit whose numbers have 32 bits and whose texts are of bytes.
+/// In every run of a checked unit numbers stay words, and bytes bytes; each pointer's object was made, and
+/// the pointer stays in it; what lives keeps its size; and the running call keeps its objects. Of units,
+/// expressions and statements this is so wherever numbers are words, bit-fields lie in their units, and
+/// texts are of bytes, as they do in each checked unit.
 pub fn runs_stay_sound()
     ensures expressions { EvalStaysSound }
     ensures statements { ExecStaysSound }
     ensures runs { RunStaysSound }
     ensures units { UnitsAreTame }
+    ensures checked { CoreStaysSound }
 {}

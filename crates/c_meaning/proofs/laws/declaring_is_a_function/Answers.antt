@@ -1,5 +1,5 @@
-use Rattle.c_meaning.proofs.DeclaringRows.{initialiser_rows, declaration_rows}
-use Rattle.c_meaning.proofs.DeclaringFaults.{initialiser_first, declaration_first}
+use Rattle.c_meaning.proofs.lemmas.DeclaringRows.{initialiser_rows, declaration_rows}
+use Rattle.c_meaning.proofs.lemmas.DeclaringFaults.{initialiser_first, declaration_first}
 use Rattle.c_meaning.proofs.laws.declaring_is_a_function.Goals as goal
 
 pub returns-clause-initialisers : goal.returns-clause-initialisers

@@ -1,8 +1,8 @@
 use Rattle.c_meaning.specs.Initialising.{typed_initialiser}
 use Rattle.c_meaning.specs.Declaring.{typed_declaration}
-use Rattle.c_meaning.proofs.Threads.{is_decided}
-use Rattle.c_meaning.proofs.DeclaringRows.{initialiser_rows, declaration_rows}
-use Rattle.c_meaning.proofs.DeclaringFaults.{initialiser_first, declaration_first}
+use Rattle.c_meaning.proofs.lemmas.Threads.{is_decided}
+use Rattle.c_meaning.proofs.lemmas.DeclaringRows.{initialiser_rows, declaration_rows}
+use Rattle.c_meaning.proofs.lemmas.DeclaringFaults.{initialiser_first, declaration_first}
 use Rattle.c_meaning.proofs.laws.declaring_is_decided.Goals as goal
 
 pub returns-clause-initialisers : goal.returns-clause-initialisers

@@ -1,5 +1,5 @@
-use Rattle.c_meaning.proofs.TypingRows.{expr_rows, name_rows, declared_rows}
-use Rattle.c_meaning.proofs.TypingFaults.{expr_first, name_first, declared_first}
+use Rattle.c_meaning.proofs.lemmas.TypingRows.{expr_rows, name_rows, declared_rows}
+use Rattle.c_meaning.proofs.lemmas.TypingFaults.{expr_first, name_first, declared_first}
 use Rattle.c_meaning.proofs.laws.typing_is_a_function.Goals as goal
 
 pub returns-clause-expressions : goal.returns-clause-expressions

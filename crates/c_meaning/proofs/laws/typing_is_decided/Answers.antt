@@ -1,7 +1,7 @@
 use Rattle.c_meaning.specs.Typing.{typed, typed_name, typed_declared}
-use Rattle.c_meaning.proofs.Threads.{is_decided}
-use Rattle.c_meaning.proofs.TypingRows.{expr_rows, name_rows, declared_rows}
-use Rattle.c_meaning.proofs.TypingFaults.{expr_first, name_first, declared_first}
+use Rattle.c_meaning.proofs.lemmas.Threads.{is_decided}
+use Rattle.c_meaning.proofs.lemmas.TypingRows.{expr_rows, name_rows, declared_rows}
+use Rattle.c_meaning.proofs.lemmas.TypingFaults.{expr_first, name_first, declared_first}
 use Rattle.c_meaning.proofs.laws.typing_is_decided.Goals as goal
 
 pub returns-clause-expressions : goal.returns-clause-expressions

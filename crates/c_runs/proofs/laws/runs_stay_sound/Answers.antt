@@ -1,5 +1,5 @@
 use Rattle.c_runs.proofs.SoundCalls.{eval_sound, exec_sound}
-use Rattle.c_runs.proofs.SoundRuns.{run_sound}
+use Rattle.c_runs.proofs.SoundRuns.{run_sound, core_sound}
 use Rattle.c_runs.proofs.Tame.{units_are_tame}
 use Rattle.c_runs.proofs.laws.runs_stay_sound.Goals as goal
 
@@ -14,3 +14,6 @@ returns-clause-runs c = run_sound
 
 pub returns-clause-units : goal.returns-clause-units
 returns-clause-units c = units_are_tame
+
+pub returns-clause-checked : goal.returns-clause-checked
+returns-clause-checked c = core_sound

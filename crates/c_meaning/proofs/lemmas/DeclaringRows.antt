@@ -12,8 +12,8 @@ use Rattle.c_meaning.specs.Initialising.{Initialised, is_scalar_at, whole, typed
 use Rattle.c_meaning.specs.Declaring.{line_of, initialised, with_type_here, typed_alone, typed_lone, typed_inside, at_outside, typed_own_specifiers, typed_name, maybe_initialised, typed_init, typed_inits, typed_declaration}
 use Rattle.c_meaning.specs.DeclaringRelation.{TypesItems, TypesItem, TypesInitialiser, TypesMaybeInitialiser, TypesAlone, TypesLone, TypesInside, IsOutside, TypesOwnSpecifiers, TypesName, TypesInit, TypesInits, TypesDeclaration}
 use Rattle.c_meaning.specs.Laws.{IsTyping}
-use Rattle.c_meaning.proofs.Threads.{then_typing, is_typing, at_typing}
-use Rattle.c_meaning.proofs.TypingRows.{expr_rows, specifiers_rows, declarator_rows}
+use Rattle.c_meaning.proofs.lemmas.Threads.{then_typing, is_typing, at_typing}
+use Rattle.c_meaning.proofs.lemmas.TypingRows.{expr_rows, specifiers_rows, declarator_rows}
 
 -- ---- initialisers
 
@@ -43,11 +43,11 @@ lone_rows : (s : State) (specs : SpecifiersTree) → IsTyping (typed_lone s spec
 lone_rows s (tree.Specified line (Specifiers (tree.RecordTag l k tag) NoSpecifiers)) = alone_rows s line l k tag
 lone_rows s specs = specifiers_rows s specs
 
-inside_rows : (s : State) (specs : SpecifiersTree) (is : List InitTree) → IsTyping (typed_inside s specs is) (TypesInside s specs is)
+pub inside_rows : (s : State) (specs : SpecifiersTree) (is : List InitTree) → IsTyping (typed_inside s specs is) (TypesInside s specs is)
 inside_rows s specs [] = lone_rows s specs
 inside_rows s specs (i ∷ is) = specifiers_rows s specs
 
-outside_rows : (outside : Bool) (s : State) (line : ℕ) (b : Specified) → IsTyping (at_outside outside s line b) (IsOutside outside s line b)
+pub outside_rows : (outside : Bool) (s : State) (line : ℕ) (b : Specified) → IsTyping (at_outside outside s line b) (IsOutside outside s line b)
 outside_rows true s line b = at_typing
 outside_rows false s line b = is_typing
 

@@ -11,7 +11,7 @@ use Rattle.c_meaning.specs.TypeRows.{opened, awaited}
 use Rattle.c_meaning.specs.Typing.{Outcome, stands_alone, callee, callee_named, typed, all_typed, maybe_typed, typed_name, typed_shape, typed_specifiers, typed_parts, typed_part, typed_members, typed_member, typed_fields, typed_field, typed_enumerators, typed_enumerator, typed_declarator, typed_core, typed_suffixes, typed_suffix, typed_parameters, typed_parameter, typed_parameter_shape, typed_declared}
 use Rattle.c_meaning.specs.TypingRelation.{TypesCallee, IsCallee, Types, TypesAll, TypesMaybe, TypesName, TypesShape, TypesSpecifiers, TypesParts, TypesPart, TypesMembers, TypesMember, TypesFields, TypesField, TypesEnumerators, TypesEnumerator, TypesDeclarator, TypesCore, TypesSuffixes, TypesSuffix, TypesParameters, TypesParameter, TypesParameterShape, TypesDeclared}
 use Rattle.c_meaning.specs.Laws.{IsTyping}
-use Rattle.c_meaning.proofs.Threads.{then_typing, is_typing, at_typing}
+use Rattle.c_meaning.proofs.lemmas.Threads.{then_typing, is_typing, at_typing}
 
 -- what is called, by whether its name is declared
 named_rows : (s : State) (l : ℕ) (x : List ℕ) (b : Bool) {o : Outcome values.CoreTree} {types : State → values.CoreTree → Type 0} → IsTyping o types → IsTyping (callee_named s l x b o) (IsCallee s l x b types)

@@ -12,7 +12,7 @@ use Rattle.c_meaning.specs.TypeRows.{opened, awaited}
 use Rattle.c_meaning.specs.Typing.{Outcome, stands_alone, callee, callee_named, typed, all_typed, maybe_typed, typed_name, typed_shape, typed_specifiers, typed_parts, typed_part, typed_members, typed_member, typed_fields, typed_field, typed_enumerators, typed_enumerator, typed_declarator, typed_core, typed_suffixes, typed_suffix, typed_parameters, typed_parameter, typed_parameter_shape, typed_declared}
 use Rattle.c_meaning.specs.Postorder.{Place, callee_nodes, callee_places, nodes, all_nodes, maybe_nodes, name_nodes, shape_nodes, specifiers_nodes, parts_nodes, part_nodes, members_nodes, member_nodes, fields_nodes, field_nodes, enumerators_nodes, enumerator_nodes, declarator_nodes, core_nodes, suffixes_nodes, suffix_nodes, parameters_nodes, parameter_nodes, parameter_shape_nodes, declared_nodes}
 use Rattle.c_meaning.specs.Laws.{IsFirst}
-use Rattle.c_meaning.proofs.Threads.{visit_first, last_first, at_first}
+use Rattle.c_meaning.proofs.lemmas.Threads.{visit_first, last_first, at_first}
 
 -- what is called, by whether its name is declared
 named_first : (s : State) (l : ℕ) (x : List ℕ) (b : Bool) (o : Outcome values.CoreTree) (places : List Place) → IsFirst o places → IsFirst (callee_named s l x b o) (callee_places s l x b places)

@@ -19,8 +19,8 @@ use Rattle.c_meaning.specs.Initialising.{Initialised, is_scalar_at, whole, typed
 use Rattle.c_meaning.specs.Declaring.{at_decl, alone, first_class, naming, line_of, initialised, with_type_here, typed_alone, typed_lone, typed_inside, at_outside, typed_own_specifiers, typed_name, maybe_initialised, typed_init, typed_inits, typed_declaration}
 use Rattle.c_meaning.specs.DeclaringNodes.{decl_place, part_place, items_nodes, item_nodes, initialiser_nodes, maybe_initialiser_nodes, alone_nodes, lone_nodes, inside_nodes, outside_nodes, own_specifiers_nodes, naming_nodes, init_nodes, inits_nodes, declaration_nodes}
 use Rattle.c_meaning.specs.Laws.{IsFirstOf}
-use Rattle.c_meaning.proofs.Threads.{see_first, part_first, node_first}
-use Rattle.c_meaning.proofs.TypingFaults.{expr_first, specifiers_first, declarator_first}
+use Rattle.c_meaning.proofs.lemmas.Threads.{see_first, part_first, node_first}
+use Rattle.c_meaning.proofs.lemmas.TypingFaults.{expr_first, specifiers_first, declarator_first}
 
 -- ---- initialisers
 
@@ -52,11 +52,11 @@ lone_first : (s : State) (specs : SpecifiersTree) → IsFirstOf (typed_lone s sp
 lone_first s (tree.Specified line (Specifiers (tree.RecordTag l k tag) NoSpecifiers)) = alone_first s line l k tag
 lone_first s specs = part_first (typed_specifiers s specs) (specifiers_nodes s specs) (specifiers_first s specs)
 
-inside_first : (s : State) (specs : SpecifiersTree) (is : List InitTree) → IsFirstOf (typed_inside s specs is) (inside_nodes s specs is)
+pub inside_first : (s : State) (specs : SpecifiersTree) (is : List InitTree) → IsFirstOf (typed_inside s specs is) (inside_nodes s specs is)
 inside_first s specs [] = lone_first s specs
 inside_first s specs (i ∷ is) = part_first (typed_specifiers s specs) (specifiers_nodes s specs) (specifiers_first s specs)
 
-outside_first : (outside : Bool) (s : State) (line : ℕ) (b : Specified) → IsFirstOf (at_outside outside s line b) (outside_nodes outside s line b)
+pub outside_first : (outside : Bool) (s : State) (line : ℕ) (b : Specified) → IsFirstOf (at_outside outside s line b) (outside_nodes outside s line b)
 outside_first true s line b = node_first _ _ _
 outside_first false s line b = refl
 

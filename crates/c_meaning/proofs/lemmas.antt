@@ -1,0 +1,5 @@
+pub mod Threads
+pub mod TypingRows
+pub mod TypingFaults
+pub mod DeclaringRows
+pub mod DeclaringFaults
