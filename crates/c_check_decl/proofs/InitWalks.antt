@@ -51,7 +51,7 @@ filled_is m b c n of whole f h k e = ap (named_as n) (e ∙ ap (λ t. type_fille
 
 -- what comes behind the declarator
 abbrev rest : ℕ → ℕ → ℕ → Option InitialiserTree → State → NamingTrees → Outcome DeclaresTrees
-rest line own place i t n = then_do (maybe_initialised t (initialised t (with_type_here t n)) i) (λ u f. at_whole u line own place (with_type n (type_filled (with_type_here t n).of f)) i f)
+rest line own place i t n = then_do (maybe_initialised t (initialised t (with_type_here t n)) i) (λ u f. at_whole u line own place n.of (with_type n (type_filled (with_type_here t n).of f)) i f)
 
 module _ (s : Scoping) (a : Table) (line : ℕ) (b : Specified) (i : InitDeclarator) where
   abbrev start : Option InitialiserTree
@@ -73,7 +73,7 @@ module _ (s : Scoping) (a : Table) (line : ℕ) (b : Specified) (i : InitDeclara
     starts = maybe_initialised (state_of m t) (initialised (state_of m t) (with_type_here (state_of m t) (naming_in t n))) start
 
     abbrev ends : State → Option FilledTrees → Outcome DeclaresTrees
-    ends u f = at_whole u line i.line (local_count (state_of s a)) (with_type (naming_in t n) (type_filled (with_type_here (state_of m t) (naming_in t n)).of f)) start f
+    ends u f = at_whole u line i.line (local_count (state_of s a)) (type_at t n.of) (with_type (naming_in t n) (type_filled (with_type_here (state_of m t) (naming_in t n)).of f)) start f
 
     started : maybe_in m t (object_in t o) start ≡ starts
     unfolding maybe_in
@@ -85,10 +85,11 @@ module _ (s : Scoping) (a : Table) (line : ℕ) (b : Specified) (i : InitDeclara
         (first_stops declares_in AreDeclaredIn starts ends r h (walk_as _ _ (sym started) w)))
 
     pub init_goes : (u z : Scoping) (c d : Table) (f : Option Filled) (whole place : ℕ) (r : Result Declares CheckFault) → Walks maybe_filled_in IsMaybeFilledIn (maybe_in m t (object_in t o) start) m t u c (Ok f) → of < length t.forms
-        → type_at c whole ≡ type_filled (type_at c of) (maybe_filled_in c f) → place ≡ local_count (state_of s a) → Walks declares_in AreDeclaredIn (at_whole (state_of u c) line i.line place (naming_in c (of_type n whole)) start (maybe_filled_in c f)) u c z d r
+        → type_at c whole ≡ type_filled (type_at c of) (maybe_filled_in c f) → place ≡ local_count (state_of s a) → Walks declares_in AreDeclaredIn (at_whole (state_of u c) line i.line place (type_at c n.of) (naming_in c (of_type n whole)) start (maybe_filled_in c f)) u c z d r
         → Walks declares_in AreDeclaredIn (init_in s a line b (init_seen i)) s a z d r
     init_goes u z c d f whole place r w l e p x =
         walk_as _ _ init_is (walk_then declares_in AreDeclaredIn (name_in s a line b (declarator_seen i.declarator)) behind s m z a t d n r named
         (walk_then declares_in AreDeclaredIn starts ends m u z t c d f r (walk_as _ _ (sym started) w)
-        (walk_as _ _ (ap (λ (y : NamingTrees). at_whole (state_of u c) line i.line (local_count (state_of s a)) y start (maybe_filled_in c f)) (sym (filled_is m t c n of whole (maybe_filled_in c f) here (w.keeps.extends.types_stay of l) e))
-        ∙ ap (λ y. at_whole (state_of u c) line i.line y (naming_in c (of_type n whole)) start (maybe_filled_in c f)) (sym p)) x)))
+        (walk_as _ _ (ap (λ (y : NamingTrees). at_whole (state_of u c) line i.line (local_count (state_of s a)) (type_at t n.of) y start (maybe_filled_in c f)) (sym (filled_is m t c n of whole (maybe_filled_in c f) here (w.keeps.extends.types_stay of l) e))
+        ∙ ap (λ y. at_whole (state_of u c) line i.line y (type_at t n.of) (naming_in c (of_type n whole)) start (maybe_filled_in c f)) (sym p)
+        ∙ ap (λ y. at_whole (state_of u c) line i.line place y (naming_in c (of_type n whole)) start (maybe_filled_in c f)) (sym (w.keeps.extends.types_stay n.of named.within))) x)))

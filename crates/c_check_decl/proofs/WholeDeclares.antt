@@ -2,16 +2,15 @@
 use Rattle.std.proofs.Common.{◌≡◌, ℕ, Bool, true, false, Option, Some, None, List, [], ◌∷◌, ◌++◌, map, refl, sym, ap, ◌∙◌}
 use Rattle.std.specs.Prelude.{◌||◌, is_some}
 use Rattle.c_ast.specs.Trees.{InitialiserTree}
-use Rattle.c_symbols.specs.Scoping.{symbol_named}
 use Rattle.c_types.specs.CType.{CType}
 use Rattle.c_types.specs.Table.{Table}
 use Rattle.c_meaning.specs.declared.core_stmt.CoreStmt.{CoreStmt}
 use Rattle.c_meaning.specs.declared.core_stmt.CoreStmt.TheVariants as stmt
 use Rattle.c_meaning.specs.declared.filled_place.FilledPlace.{FilledPlace}
-use Rattle.c_meaning.specs.Declarations.{Naming, declares, fills_of, is_static, is_typedef, is_zeroed, line_at, object}
+use Rattle.c_meaning.specs.Declarations.{Naming, declares, fills_of, is_static, is_typedef, is_zeroed, linked_declares, object, one_object, or_zero}
 use Rattle.c_meaning.specs.Initialising.{Filled as FilledTrees}
 use Rattle.c_meaning.specs.Linkage.{is_linked}
-use Rattle.c_meaning.specs.State.{State}
+use Rattle.c_meaning.specs.State.{State, place_here}
 use Rattle.c_meaning.specs.StmtTrees.{Initialise}
 use Rattle.c_meaning.specs.Types.{is_function}
 use Rattle.c_initialisers.specs.declared.filled.Filled.{Filled}
@@ -40,9 +39,9 @@ fills_within n place zero before (Some g) f ss b h e i = rw (e, b) (let k : g �
 
 -- ---- by linkage and class
 
-module _ (s : State) (line place : ℕ) (n : Naming) (i : Option InitialiserTree) (f : Option FilledTrees) where
-  pub declares_linked : is_linked n.linkage ≡ true → is_some f ≡ true → declares s line place n i f ≡ object s (line_at s line (symbol_named s.links n.name)) n f
-  declares_linked h k = rw (h, k) refl
+module _ (s : State) (line place : ℕ) (of : CType) (n : Naming) (i : Option InitialiserTree) (f : Option FilledTrees) where
+  pub declares_linked : is_linked n.linkage ≡ true → declares s line place of n i f ≡ linked_declares s line of n f
+  declares_linked h = rw h refl
 
-  pub declares_static : is_linked n.linkage ≡ false → (is_typedef n.class || is_function n.of) ≡ false → is_static n.class ≡ true → declares s line place n i f ≡ object s line n f
+  pub declares_static : is_linked n.linkage ≡ false → (is_typedef n.class || is_function n.of) ≡ false → is_static n.class ≡ true → declares s line place of n i f ≡ one_object (object (or_zero (place_here s n.name)) line n f)
   declares_static h k l = rw (h, k, l) refl

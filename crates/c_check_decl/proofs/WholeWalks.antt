@@ -3,6 +3,7 @@ use Rattle.std.proofs.Common.{◌≡◌, ℕ, Bool, Option, Some, None, length, 
 use Rattle.std.specs.Prelude.{Ok, Err, is_some}
 use Rattle.c_ast.specs.Trees.{InitialiserTree}
 use Rattle.c_symbols.specs.Scoping.{Scoping}
+use Rattle.c_types.specs.CType.{CType}
 use Rattle.c_types.specs.Table.{Table}
 use Rattle.c_meaning.specs.Declarations.{Declares as DeclaresTrees, Whole, decl_constraints, declares, with_whole}
 use Rattle.c_meaning.specs.Declaring.{at_whole}
@@ -22,9 +23,9 @@ use Rattle.c_check_decl.specs.Named.{naming_in}
 use Rattle.c_check_decl.proofs.DeclNodes.{decl_breaks, decl_fine}
 use Rattle.c_check_decl.proofs.WholeDeclares.{is_some_filled}
 
-module _ (s : Scoping) (a : Table) (line own place : ℕ) (n : Naming) (i : Option InitialiserTree) (f : Option Filled) (b : Bool) (is : b ≡ is_some f) where
+module _ (s : Scoping) (a : Table) (line own place : ℕ) (of : CType) (n : Naming) (i : Option InitialiserTree) (f : Option Filled) (b : Bool) (is : b ≡ is_some f) where
   abbrev outcome : Outcome DeclaresTrees
-  outcome = at_whole (state_of s a) line own place (naming_in a n) i (maybe_filled_in a f)
+  outcome = at_whole (state_of s a) line own place of (naming_in a n) i (maybe_filled_in a f)
 
   same : is_some (maybe_filled_in a f) ≡ b
   same = is_some_filled a f ∙ sym is
@@ -40,14 +41,14 @@ module _ (s : Scoping) (a : Table) (line own place : ℕ) (n : Naming) (i : Opti
     keeps = keeps_itself s a l;
   }
 
-  pub whole_goes : (u : Scoping) (d : Table) (v : Declares) → None ≡ first_of decl_constraints (state_of s a) (Whole (naming_in a n) b) → declares_in a v ≡ declares (state_of s a) line place (naming_in a n) i (maybe_filled_in a f) → AreDeclaredIn (length a.forms) v
+  pub whole_goes : (u : Scoping) (d : Table) (v : Declares) → None ≡ first_of decl_constraints (state_of s a) (Whole (naming_in a n) b) → declares_in a v ≡ declares (state_of s a) line place of (naming_in a n) i (maybe_filled_in a f) → AreDeclaredIn (length a.forms) v
       → state_of u d ≡ with_whole (state_of s a) (naming_in a n) b → Keeps s a u d → Walks declares_in AreDeclaredIn outcome s a u d (Ok v)
   whole_goes u d v h e w g k =
       let behind = ap (with_whole (state_of s a) (naming_in a n)) same ∙ sym g in
       let what = sym e ∙ sym (declares_stay a d k.extends v w) in
       record {
         ok = decl_fine (state_of s a) own (Whole (naming_in a n) (is_some (maybe_filled_in a f))) _ _ (same_fault ∙ sym h)
-            ∙ ap (λ m. Fine m (declares (state_of s a) line place (naming_in a n) i (maybe_filled_in a f))) behind
+            ∙ ap (λ m. Fine m (declares (state_of s a) line place of (naming_in a n) i (maybe_filled_in a f))) behind
             ∙ ap (Fine (state_of u d)) what;
         err = tt;
         within = declares_later a d k.extends v w;

@@ -2,45 +2,54 @@
 use Rattle.std.proofs.Common.{◌≡◌, ℕ, ◌<◌, ◌≤◌, List, [], ◌∷◌, ◌++◌, length, map, refl, ap, ◌∙◌, append_assoc, arith}
 use Rattle.std.proofs.lemmas.List.{append-nil, map-append}
 use Rattle.c_types.specs.CType.{CType}
-use Rattle.c_types.specs.Table.{Table, Extends, type_at, types}
+use Rattle.c_types.specs.Table.{Table, Extends, type_at}
 use Rattle.c_meaning.specs.declared.core_stmt.CoreStmt.{CoreStmt}
-use Rattle.c_meaning.specs.declared.core_unit.CoreObject.{CoreObject}
 use Rattle.c_meaning.specs.declared.filled_place.FilledPlace.{FilledPlace}
-use Rattle.c_meaning.specs.Declarations.{Declares as DeclaresTrees, nothing, together}
+use Rattle.c_meaning.specs.Declarations.{Declares as DeclaresTrees, Defined, Linked, nothing, together}
 use Rattle.c_meaning.specs.StmtTrees.{StmtOf, stmt_of}
-use Rattle.c_meaning.specs.Units.{ObjectTree, object_seen}
 use Rattle.c_values.specs.Stays.{in_more, longer, seen_stays}
 use Rattle.c_initialisers.specs.FilledPlaces.{ArePlacesIn, filled_place_in}
 use Rattle.c_check_decl.specs.declared.declares.Declares.{Declares}
-use Rattle.c_check_decl.specs.Declares.{AreDeclaredIn, AreFillsIn, AreLocalsIn, AreObjectsIn, declares_in, stmt_in}
+use Rattle.c_check_decl.specs.declared.declares.DefinedObject.{DefinedObject}
+use Rattle.c_check_decl.specs.declared.declares.LinkedName.{LinkedName}
+use Rattle.c_check_decl.specs.Declares.{AreDeclaredIn, AreFillsIn, AreLinkedIn, AreLocalsIn, AreObjectsIn, declares_in, defined_in, linked_in, stmt_in}
 use Rattle.c_check_decl.specs.StmtsStay.{stmt_later, stmt_stays}
 
 -- ---- parts
 
-abbrev parts : List ObjectTree → List CType → List (StmtOf CType) → DeclaresTrees
-parts os ls fs = record { objects = os; locals = ls; fills = fs }
+abbrev parts : List Defined → List CType → List (StmtOf CType) → List Linked → DeclaresTrees
+parts os ls fs ns = record { objects = os; locals = ls; fills = fs; linked = ns }
 
-same_parts : (o p : List ObjectTree) (l m : List CType) (f g : List (StmtOf CType)) → o ≡ p → l ≡ m → f ≡ g → parts o l f ≡ parts p m g
-same_parts o p l m f g a b c = rw (a, b, c) refl
+same_parts : {o p : List Defined} {l m : List CType} {f g : List (StmtOf CType)} {n k : List Linked} → o ≡ p → l ≡ m → f ≡ g → n ≡ k → parts o l f n ≡ parts p m g k
+same_parts a b c d = rw (a, b, c, d) refl
 
 -- ---- what is declared in order
 
 pub together_nothing : (d : DeclaresTrees) → together d nothing ≡ d
-together_nothing d = same_parts _ _ _ _ _ _ (append-nil d.objects) (append-nil d.locals) (append-nil d.fills)
+together_nothing d = same_parts (append-nil d.objects) (append-nil d.locals) (append-nil d.fills) (append-nil d.linked)
 
 pub nothing_together : (d : DeclaresTrees) → together nothing d ≡ d
 nothing_together d = refl
 
 pub together_assoc : (a b c : DeclaresTrees) → together (together a b) c ≡ together a (together b c)
-together_assoc a b c = same_parts _ _ _ _ _ _ (append_assoc a.objects b.objects c.objects) (append_assoc a.locals b.locals c.locals) (append_assoc a.fills b.fills c.fills)
+together_assoc a b c =
+    same_parts (append_assoc a.objects b.objects c.objects) (append_assoc a.locals b.locals c.locals) (append_assoc a.fills b.fills c.fills) (append_assoc a.linked b.linked c.linked)
 
-pub together_seen : (t : Table) (a b c : Declares) → c.objects ≡ a.objects ++ b.objects → c.locals ≡ a.locals ++ b.locals → c.fills ≡ a.fills ++ b.fills → declares_in t c ≡ together (declares_in t a) (declares_in t b)
-together_seen t a b c o l f =
-    same_parts _ _ _ _ _ _ (ap (map (object_seen (types t))) o ∙ map-append (object_seen (types t)) a.objects b.objects)
-    (ap (map (type_at t)) l ∙ map-append (type_at t) a.locals b.locals)
-    (ap (map (stmt_in t)) f ∙ map-append (stmt_in t) a.fills b.fills)
+-- the one has what the others have, in order
+pub record IsTogether (a b c : Declares) : Type 0 where
+  pub objects : c.objects ≡ a.objects ++ b.objects
+  pub locals : c.locals ≡ a.locals ++ b.locals
+  pub fills : c.fills ≡ a.fills ++ b.fills
+  pub linked : c.linked ≡ a.linked ++ b.linked
 
-objects_together : (n : ℕ) (xs ys : List CoreObject) → AreObjectsIn n xs → AreObjectsIn n ys → AreObjectsIn n (xs ++ ys)
+pub together_seen : (t : Table) (a b c : Declares) → IsTogether a b c → declares_in t c ≡ together (declares_in t a) (declares_in t b)
+together_seen t a b c h =
+    same_parts (ap (map (defined_in t)) h.objects ∙ map-append (defined_in t) a.objects b.objects)
+    (ap (map (type_at t)) h.locals ∙ map-append (type_at t) a.locals b.locals)
+    (ap (map (stmt_in t)) h.fills ∙ map-append (stmt_in t) a.fills b.fills)
+    (ap (map (linked_in t)) h.linked ∙ map-append (linked_in t) a.linked b.linked)
+
+objects_together : (n : ℕ) (xs ys : List DefinedObject) → AreObjectsIn n xs → AreObjectsIn n ys → AreObjectsIn n (xs ++ ys)
 objects_together n [] ys i j = j
 objects_together n (x ∷ xs) ys i j = (i.0, objects_together n xs ys i.1 j)
 
@@ -52,28 +61,30 @@ fills_together : (n : ℕ) (xs ys : List CoreStmt) → AreFillsIn n xs → AreFi
 fills_together n [] ys i j = j
 fills_together n (x ∷ xs) ys i j = (i.0, fills_together n xs ys i.1 j)
 
-pub together_within : (n : ℕ) (a b c : Declares) → c.objects ≡ a.objects ++ b.objects → c.locals ≡ a.locals ++ b.locals → c.fills ≡ a.fills ++ b.fills → AreDeclaredIn n a → AreDeclaredIn n b → AreDeclaredIn n c
-together_within n a b c o l f i j =
-    record {
-      objects = rw o (objects_together n a.objects b.objects i.objects j.objects);
-      locals = rw l (locals_together n a.locals b.locals i.locals j.locals);
-      fills = rw f (fills_together n a.fills b.fills i.fills j.fills);
-    }
+linked_together : (n : ℕ) (xs ys : List LinkedName) → AreLinkedIn n xs → AreLinkedIn n ys → AreLinkedIn n (xs ++ ys)
+linked_together n [] ys i j = j
+linked_together n (x ∷ xs) ys i j = (i.0, linked_together n xs ys i.1 j)
 
--- one object more
-pub one_object : (n : ℕ) (d : Declares) (o : CoreObject) (os : List CoreObject) → os ≡ d.objects ++ o ∷ [] → AreDeclaredIn n d → o.of < n → ArePlacesIn n o.places → AreDeclaredIn n (record { objects = os; locals = d.locals; fills = d.fills })
-one_object n d o os e i l p = record { objects = rw e (objects_together n d.objects (o ∷ []) i.objects ((l, p), tt)); locals = i.locals; fills = i.fills }
+pub together_within : (n : ℕ) (a b c : Declares) → IsTogether a b c → AreDeclaredIn n a → AreDeclaredIn n b → AreDeclaredIn n c
+together_within n a b c h i j =
+    record {
+      objects = rw h.objects (objects_together n a.objects b.objects i.objects j.objects);
+      locals = rw h.locals (locals_together n a.locals b.locals i.locals j.locals);
+      fills = rw h.fills (fills_together n a.fills b.fills i.fills j.fills);
+      linked = rw h.linked (linked_together n a.linked b.linked i.linked j.linked);
+    }
 
 -- one local object more where nothing was declared, and what it begins with
 pub local_seen : (t : Table) (d : Declares) (of : ℕ) (ls : List ℕ) (ss : List CoreStmt) (fs : List (StmtOf CType)) → declares_in t d ≡ nothing → ls ≡ d.locals ++ of ∷ [] → map (stmt_in t) ss ≡ fs
-    → declares_in t (record { objects = d.objects; locals = ls; fills = ss }) ≡ record { objects = []; locals = type_at t of ∷ []; fills = fs }
+    → declares_in t (record { objects = d.objects; locals = ls; fills = ss; linked = d.linked }) ≡ record { objects = []; locals = type_at t of ∷ []; fills = fs; linked = [] }
 local_seen t d of ls ss fs e l f =
-    same_parts _ _ _ _ _ _ (ap (λ (x : DeclaresTrees). x.objects) e)
+    same_parts (ap (λ (x : DeclaresTrees). x.objects) e)
     (ap (map (type_at t)) l ∙ map-append (type_at t) d.locals (of ∷ []) ∙ ap (λ (x : DeclaresTrees). x.locals ++ type_at t of ∷ []) e)
     f
+    (ap (λ (x : DeclaresTrees). x.linked) e)
 
-pub one_local : (n : ℕ) (d : Declares) (of : ℕ) (ls : List ℕ) (ss : List CoreStmt) → ls ≡ d.locals ++ of ∷ [] → AreDeclaredIn n d → of < n → AreFillsIn n ss → AreDeclaredIn n (record { objects = d.objects; locals = ls; fills = ss })
-one_local n d of ls ss e i l f = record { objects = i.objects; locals = rw e (locals_together n d.locals (of ∷ []) i.locals (l, tt)); fills = f }
+pub one_local : (n : ℕ) (d : Declares) (of : ℕ) (ls : List ℕ) (ss : List CoreStmt) → ls ≡ d.locals ++ of ∷ [] → AreDeclaredIn n d → of < n → AreFillsIn n ss → AreDeclaredIn n (record { objects = d.objects; locals = ls; fills = ss; linked = d.linked })
+one_local n d of ls ss e i l f = record { objects = i.objects; locals = rw e (locals_together n d.locals (of ∷ []) i.locals (l, tt)); fills = f; linked = i.linked }
 
 -- ---- what initialisers fill
 
@@ -90,9 +101,9 @@ filled_places_later a b h ps i = filled_places_more (length a.forms) (length b.f
 
 -- ---- what is declared is seen the same over the later table
 
-objects_stay : (a b : Table) → Extends a b → (os : List CoreObject) → AreObjectsIn (length a.forms) os → map (object_seen (types b)) os ≡ map (object_seen (types a)) os
+objects_stay : (a b : Table) → Extends a b → (ds : List DefinedObject) → AreObjectsIn (length a.forms) ds → map (defined_in b) ds ≡ map (defined_in a) ds
 objects_stay a b h [] i = refl
-objects_stay a b h (o ∷ os) i = rw (h.types_stay o.of i.0.0, filled_places_stay a b h o.places i.0.1, objects_stay a b h os i.1) refl
+objects_stay a b h (d ∷ ds) i = rw (h.types_stay d.object.of i.0.0, filled_places_stay a b h d.object.places i.0.1, objects_stay a b h ds i.1) refl
 
 locals_stay : (a b : Table) → Extends a b → (ts : List ℕ) → AreLocalsIn (length a.forms) ts → map (type_at b) ts ≡ map (type_at a) ts
 locals_stay a b h [] i = refl
@@ -102,14 +113,18 @@ fills_stay : (a b : Table) → Extends a b → (ss : List CoreStmt) → AreFills
 fills_stay a b h [] i = refl
 fills_stay a b h (s ∷ ss) i = rw (stmt_stays a b h (stmt_of s) i.0, fills_stay a b h ss i.1) refl
 
+linked_stay : (a b : Table) → Extends a b → (ls : List LinkedName) → AreLinkedIn (length a.forms) ls → map (linked_in b) ls ≡ map (linked_in a) ls
+linked_stay a b h [] i = refl
+linked_stay a b h (l ∷ ls) i = rw (h.types_stay l.of i.0, linked_stay a b h ls i.1) refl
+
 pub declares_stay : (a b : Table) → Extends a b → (d : Declares) → AreDeclaredIn (length a.forms) d → declares_in b d ≡ declares_in a d
-declares_stay a b h d i = same_parts _ _ _ _ _ _ (objects_stay a b h d.objects i.objects) (locals_stay a b h d.locals i.locals) (fills_stay a b h d.fills i.fills)
+declares_stay a b h d i = same_parts (objects_stay a b h d.objects i.objects) (locals_stay a b h d.locals i.locals) (fills_stay a b h d.fills i.fills) (linked_stay a b h d.linked i.linked)
 
 -- ---- its types stay below the end of the table
 
-objects_later : (a b : Table) → Extends a b → (os : List CoreObject) → AreObjectsIn (length a.forms) os → AreObjectsIn (length b.forms) os
+objects_later : (a b : Table) → Extends a b → (ds : List DefinedObject) → AreObjectsIn (length a.forms) ds → AreObjectsIn (length b.forms) ds
 objects_later a b h [] i = tt
-objects_later a b h (o ∷ os) i = ((let l = i.0.0 in let m = longer a b h in omega arith, filled_places_later a b h o.places i.0.1), objects_later a b h os i.1)
+objects_later a b h (d ∷ ds) i = ((let l = i.0.0 in let m = longer a b h in omega arith, filled_places_later a b h d.object.places i.0.1), objects_later a b h ds i.1)
 
 locals_later : (a b : Table) → Extends a b → (ts : List ℕ) → AreLocalsIn (length a.forms) ts → AreLocalsIn (length b.forms) ts
 locals_later a b h [] i = tt
@@ -119,5 +134,15 @@ fills_later : (a b : Table) → Extends a b → (ss : List CoreStmt) → AreFill
 fills_later a b h [] i = tt
 fills_later a b h (s ∷ ss) i = (stmt_later a b h (stmt_of s) i.0, fills_later a b h ss i.1)
 
+linked_later : (a b : Table) → Extends a b → (ls : List LinkedName) → AreLinkedIn (length a.forms) ls → AreLinkedIn (length b.forms) ls
+linked_later a b h [] i = tt
+linked_later a b h (l ∷ ls) i = (let k = i.0 in let m = longer a b h in omega arith, linked_later a b h ls i.1)
+
 pub declares_later : (a b : Table) → Extends a b → (d : Declares) → AreDeclaredIn (length a.forms) d → AreDeclaredIn (length b.forms) d
-declares_later a b h d i = record { objects = objects_later a b h d.objects i.objects; locals = locals_later a b h d.locals i.locals; fills = fills_later a b h d.fills i.fills }
+declares_later a b h d i =
+    record {
+      objects = objects_later a b h d.objects i.objects;
+      locals = locals_later a b h d.locals i.locals;
+      fills = fills_later a b h d.fills i.fills;
+      linked = linked_later a b h d.linked i.linked;
+    }

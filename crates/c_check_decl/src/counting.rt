@@ -26,8 +26,8 @@ fn magnitude(value: Option<i64>) -> u64
     }
 }
 
-/// How many local objects the function has.
-pub(crate) fn local_count(scopes: &Scopes) -> u64
+/// How many local objects the function has so far, which is the place that the next one has.
+pub fn local_count(scopes: &Scopes) -> u64
     ensures { (t : Table) → result ≡ locals_so_far (state_of scopes.now t) }
 {
     match scopes.find(COUNT_NAME) {
@@ -73,8 +73,10 @@ fn count_symbol(types: &TypeTable, level: u32, n: u64) -> Result<Symbol, Memory>
     })
 }
 
-/// From here on the function has so many local objects.
-pub(crate) fn set_count(scopes: &mut Scopes, types: &TypeTable, n: u64) -> Result<(), Memory>
+/// From here on the function has so many local objects, in all scopes from the one on in which the number
+/// stands; where none has it, in the innermost scope. Where the number is above 2^63 - 1, the answer is that of
+/// refused memory.
+pub fn set_count(scopes: &mut Scopes, types: &TypeTable, n: u64) -> Result<(), Memory>
     requires { AreSymbolsIn (length types.now.forms) scopes.old.symbols }
     ensures state { OnOk result (state_of scopes.new types.now ≡ with_count (state_of scopes.old types.now) n) }
     ensures keeps { Keeps scopes.old types.now scopes.new types.now }

@@ -84,8 +84,10 @@ fn definition(initialised: bool, before: Option<i64>) -> Option<i64>
     }
 }
 
-/// Notes that what the symbol, if there is one, stands for is defined, or tentatively so.
-fn note(
+/// Notes at the symbol, if there is one, that what all declarations of its name declare is defined, or
+/// tentatively so where it isn't initialised (C89 3.7.2). Where no such symbol was declared, the answer is that
+/// of refused memory.
+pub fn note(
     scopes: &mut Scopes,
     types: &TypeTable,
     initialised: bool,

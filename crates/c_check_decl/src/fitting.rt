@@ -15,8 +15,8 @@ use c_types::{Qualifiers, TypeId, TypeTable};
 use c_values::values::{plain, qualifiers_under};
 use c_values::{QualifiedType, kinds};
 
-/// Whether the steps make a function of the type.
-pub(crate) fn makes_function(types: &TypeTable, base: TypeId, steps: &[Step]) -> bool
+/// Whether what the steps make of the type is a function (C89 3.5.4.3), told without forming it.
+pub fn makes_function(types: &TypeTable, base: TypeId, steps: &[Step]) -> bool
     requires base { base < length types.now.forms }
     requires steps { AreStepsIn (length types.now.forms) steps.now }
     ensures { result ≡ is_function (formed (type_at types.now base) (steps_seen types.now steps.now)) }
@@ -34,8 +34,9 @@ fn is_function_step(step: &Step) -> bool
     matches!(step, Step::Function { .. } | Step::Named(_) | Step::Open)
 }
 
-/// Whether what the steps make of the type is compatible with the other type.
-pub(crate) fn fits(types: &TypeTable, base: TypeId, steps: &[Step], other: TypeId) -> bool
+/// Whether what the steps make of the type is compatible with the other type (C89 3.1.2.6), told without
+/// forming it.
+pub fn fits(types: &TypeTable, base: TypeId, steps: &[Step], other: TypeId) -> bool
     requires base { base < length types.now.forms }
     requires steps { AreStepsIn (length types.now.forms) steps.now }
     requires other { other < length types.now.forms }

@@ -22,8 +22,8 @@ use c_values::CheckFault;
 use lcc_base::Bytes;
 use std::alloc::Global;
 
-/// The storage class among specifiers, which have one at most.
-fn first_class(classes: &[Storage]) -> Option<Storage>
+/// The storage class among specifiers, which have one at most (C89 3.5.1).
+pub fn first_class(classes: &[Storage]) -> Option<Storage>
     ensures { result ≡ first_of_classes classes.now }
 {
     classes.first().copied()
@@ -39,8 +39,8 @@ fn name_bytes(name: &Option<Bytes>) -> &[u8]
     }
 }
 
-/// The name, or the empty one.
-fn name_or_empty(alloc: Global, name: Option<Bytes>) -> Bytes
+/// The name of a declarator, and the empty one where it has none.
+pub fn name_or_empty(alloc: Global, name: Option<Bytes>) -> Bytes
     ensures { result ≡ or_empty name }
 {
     match name {

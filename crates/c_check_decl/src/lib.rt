@@ -14,6 +14,7 @@ mod linked;
 mod name_faults;
 mod naming;
 mod own_specifiers;
+pub mod pieces;
 mod public;
 mod unlinked;
 mod walk;
@@ -21,5 +22,5 @@ mod whole;
 mod whole_faults;
 
 pub use c_initialisers::{Filled, fill};
-pub use declares::Declares;
+pub use declares::{Declares, DefinedObject, LinkedName};
 pub use public::check_declaration;

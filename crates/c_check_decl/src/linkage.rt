@@ -8,17 +8,19 @@ ghost use Rattle.c_check_decl.specs.Named.{linked};
 use c_ast::Storage;
 use c_symbols::{Scopes, Storage as Class, SymbolId};
 
-/// The linkage of a name.
+/// The linkage of a name (C89 3.1.2.2).
 #[derive(Clone, Copy, Debug, PartialEq, Eq)]
-pub(crate) enum Linkage {
+pub enum Linkage {
     /// It has none.
     Alone,
+    /// Declarations of it within the unit mean the same.
     Internal,
+    /// Declarations of it in all units mean the same.
     External,
 }
 
-/// Whether there is any.
-pub(crate) fn is_linked(linkage: Linkage) -> bool
+/// Whether a name with this linkage has any.
+pub fn is_linked(linkage: Linkage) -> bool
     ensures { result ≡ has_linkage (linked linkage) }
 {
     linkage != Linkage::Alone
@@ -61,8 +63,8 @@ fn earlier(scopes: &Scopes, name: &[u8]) -> Linkage
     }
 }
 
-/// Whether the declaration stands at file scope.
-pub(crate) fn is_outside(scopes: &Scopes) -> bool
+/// Whether the innermost scope is that of the file.
+pub fn is_outside(scopes: &Scopes) -> bool
     ensures { (t : Table) → result ≡ outside (state_of scopes.now t) }
 {
     scopes.level() == 0
@@ -92,8 +94,9 @@ fn static_linkage(scopes: &Scopes) -> Linkage
     }
 }
 
-/// The linkage that a declaration gives a name, by its storage class and by whether it is a function's.
-pub(crate) fn given_linkage(
+/// The linkage that a declaration in the innermost scope gives a name, by its storage class and by whether it
+/// is a function's (C89 3.1.2.2).
+pub fn given_linkage(
     scopes: &Scopes,
     class: Option<Storage>,
     name: &[u8],

@@ -121,8 +121,12 @@ fn declare_linked(
     declare_new(scopes, types, name, symbol)
 }
 
-/// Declares a name, which is in force from its declarator on.
-pub(crate) fn declare_name(
+/// Declares a name on this line in the innermost scope, where it is in force from its declarator on (C89
+/// 3.1.2.1). One with linkage has a symbol more for all its declarations, and each of both symbols gets the
+/// composite of the types that were declared at it (C89 3.1.2.6). A local object gets the next place of its
+/// function. Where the scope has a name without linkage already, or types aren't compatible, the answer is
+/// that of refused memory: who asks has told the constraint.
+pub fn declare_name(
     scopes: &mut Scopes,
     types: &mut TypeTable,
     line: u32,

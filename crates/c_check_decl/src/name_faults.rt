@@ -71,8 +71,9 @@ fn has_other_linkage(scopes: &Scopes, linkage: Linkage, id: Option<SymbolId>) ->
     }
 }
 
-/// 5: the name is declared again in its scope, or with the other linkage.
-fn is_declared_again(scopes: &Scopes, linkage: Linkage, name: &[u8]) -> bool
+/// Whether constraint 5 is broken: the name is declared again in the innermost scope, where one of both
+/// declarations has no linkage, or was declared with the other linkage (C89 3.1.2.2, 3.5).
+pub fn is_declared_again(scopes: &Scopes, linkage: Linkage, name: &[u8]) -> bool
     ensures { (t : Table) → result ≡ (stands_again (state_of scopes.now t) (linked linkage) (symbol_named scopes.now.inner name.now) || was_linked_otherwise (state_of scopes.now t) (linked linkage) (symbol_named scopes.now.links name.now)) }
 {
     is_again(scopes, linkage, scopes.find_here(name))
@@ -92,8 +93,9 @@ fn differs(scopes: &Scopes, types: &TypeTable, of: (TypeId, &[Step]), id: Option
     }
 }
 
-/// 6: the name has linkage, and another declaration of it has a type that isn't compatible.
-fn is_declared_otherwise(
+/// Whether constraint 6 is broken: the name has linkage, and another declaration of it has a type that isn't
+/// compatible with what the steps make of this one (C89 3.1.2.6, 3.5).
+pub fn is_declared_otherwise(
     scopes: &Scopes,
     types: &TypeTable,
     linkage: Linkage,

@@ -3,11 +3,13 @@ use c_ast::Storage;
 use c_types::TypeId;
 use lcc_base::Bytes;
 
-/// A declared name: the storage class that it is declared with, its type and its linkage.
+/// A declared name (C89 3.5, 3.5.4).
 #[derive(Drop)]
-pub(crate) struct Naming {
-    pub(crate) class: Option<Storage>,
-    pub(crate) name: Bytes,
-    pub(crate) of: TypeId,
-    pub(crate) linkage: Linkage,
+pub struct Naming {
+    /// The storage class that it is declared with.
+    pub class: Option<Storage>,
+    pub name: Bytes,
+    /// Its type.
+    pub of: TypeId,
+    pub linkage: Linkage,
 }

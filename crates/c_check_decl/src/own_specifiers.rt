@@ -92,8 +92,10 @@ fn lone_record(list: &[Specifier]) -> Option<(u32, RecordKind, &[u8])>
     }
 }
 
-/// The specifiers before declarators, or with none behind them.
-fn inside(
+/// The specifiers before these declarators, checked: the storage classes and the type. Where there is no
+/// declarator, a tag of a structure or union that is all of them means the innermost scope's, or a new one
+/// there (C89 3.5.2.3).
+pub fn inside(
     alloc: Global,
     scopes: &mut Scopes,
     types: &mut TypeTable,
@@ -112,8 +114,9 @@ fn inside(
     }
 }
 
-/// The specifiers of a declaration.
-pub(crate) fn own_specifiers(
+/// The specifiers of a declaration with these declarators, checked: what `inside` gives, where at file scope
+/// `auto` and `register` break constraint 3 (C89 3.7).
+pub fn own_specifiers(
     alloc: Global,
     scopes: &mut Scopes,
     types: &mut TypeTable,

@@ -61,12 +61,18 @@ fn init(
 {
     let place = next_place(scopes)?;
     let mut n = name(alloc, scopes, types, line, base, &i.declarator)?;
+    let of = n.of;
     n.of = type_here(scopes, types, &n);
     let object = initialised(scopes, types, &n);
     let filled = maybe_initialised(alloc, scopes, types, object, &i.initialiser)?;
     n.of = filled_type(n.of, &filled);
     let own = i.line;
-    let spot = Spot { line, own, place };
+    let spot = Spot {
+        line,
+        own,
+        place,
+        of,
+    };
     at_whole(alloc, scopes, types, spot, (&n, &i.initialiser), filled)
 }
 
@@ -125,15 +131,15 @@ fn is_tag(form: &SpecifierForm) -> bool
     }
 }
 
-/// Whether the declaration declares a name, a tag or an enumerator.
-fn declares_something(d: &Declaration) -> bool
+/// Whether the declaration declares a name, a tag or an enumerator (C89 3.5).
+pub fn declares_something(d: &Declaration) -> bool
     ensures { result ≡ something (declaration_seen d.now) }
 {
     !d.declarators.is_empty() || declares_tag(&d.specifiers)
 }
 
-/// A declaration.
-pub(crate) fn declaration(
+/// A declaration, checked: what `check_declaration` gives, with a contract that walks around it go on from.
+pub fn declaration(
     alloc: Global,
     scopes: &mut Scopes,
     types: &mut TypeTable,

@@ -26,10 +26,10 @@ use lcc_base::{Bytes, Memory};
 
 /// Where a parameter stands: its line, its place among the parameters, and whether it stands alone.
 #[derive(Clone, Copy, Debug)]
-pub(crate) struct ParameterSpot {
-    pub(crate) line: u32,
-    pub(crate) index: usize,
-    pub(crate) alone: bool,
+pub struct ParameterSpot {
+    pub line: u32,
+    pub index: usize,
+    pub alone: bool,
 }
 
 /// A parameter with these storage classes, its name and its type. The name is in force from here on.
@@ -55,7 +55,7 @@ pub(crate) fn parameter(
         });
     }
     let of = adjusted(types, spot.line, of)?;
-    declared(scopes, types, spot, classes, &name, of)?;
+    declare_parameter(scopes, types, spot, classes, &name, of)?;
     Ok(NamedParameter { name, of })
 }
 
@@ -79,8 +79,9 @@ fn broken(
     }
 }
 
-/// Whether there is another storage class than `register`.
-fn is_other_class(classes: &[Storage]) -> bool
+/// Whether there is another storage class than `register`, which is the only one that a parameter may have
+/// (C89 3.5.4.3).
+pub fn is_other_class(classes: &[Storage]) -> bool
     ensures { result ≡ other_class classes.now }
 {
     !matches!(classes, [] | [Storage::Register, ..])
@@ -96,8 +97,10 @@ fn class(classes: &[Storage]) -> Class
     }
 }
 
-/// A parameter of array or function type is a pointer.
-fn adjusted(types: &mut TypeTable, line: u32, of: TypeId) -> Result<TypeId, CheckFault>
+/// The place of the type that a parameter declared with this one has: where it is an array's or a
+/// function's, the pointer's in its stead (C89 3.7.1). Where that pointer passes the limit on depth, that is
+/// told with this line.
+pub fn adjusted(types: &mut TypeTable, line: u32, of: TypeId) -> Result<TypeId, CheckFault>
     requires { of < length types.old.forms }
     ensures means { IfOk result (λ id. type_at types.new id ≡ pointer_instead (type_at types.old of)) }
     ensures within { IfOk result (λ id. id < length types.new.forms) }
@@ -115,8 +118,10 @@ fn adjusted(types: &mut TypeTable, line: u32, of: TypeId) -> Result<TypeId, Chec
     }
 }
 
-/// Declares the parameter's name, if it has one, in the innermost scope.
-fn declared(
+/// Declares the parameter's name, if it has one, in the innermost scope, as an object with its place among
+/// the parameters (C89 3.1.2.1). Where the scope has the name, the answer is that of refused memory: who asks
+/// has told the constraint.
+pub fn declare_parameter(
     scopes: &mut Scopes,
     types: &TypeTable,
     spot: ParameterSpot,

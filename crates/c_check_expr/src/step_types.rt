@@ -19,8 +19,9 @@ use c_values::forming::type_refusal;
 use lcc_base::{Items, Memory};
 use std::alloc::Global;
 
-/// The type that all steps form over this one, at a declarator on this line.
-pub(crate) fn formed(
+/// The place of the type that all steps form over this one, at a declarator on this line (C89 3.5.4). Where
+/// one of the types that they form passes the limit on depth or nesting, that is told.
+pub fn formed(
     alloc: Global,
     types: &mut TypeTable,
     line: u32,

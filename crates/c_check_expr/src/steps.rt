@@ -77,8 +77,8 @@ fn is_bad_size(types: &TypeTable, step: &Step) -> bool
     }
 }
 
-/// The same of some step.
-fn has_bad_size(types: &TypeTable, steps: &[Step]) -> bool
+/// Whether the size of an array that a step makes is no constant above 0 (C89 3.5.4.2).
+pub fn has_bad_size(types: &TypeTable, steps: &[Step]) -> bool
     requires { AreStepsIn (length types.now.forms) steps.now }
     ensures { (t : CType) → result ≡ some_step is_size_bad t (steps_seen types.now steps.now) }
 {
@@ -90,8 +90,8 @@ fn has_bad_size(types: &TypeTable, steps: &[Step]) -> bool
     false
 }
 
-/// Whether an array's element is a function, void or incomplete.
-fn has_bad_element(types: &TypeTable, base: TypeId, steps: &[Step]) -> bool
+/// Whether the element of an array that a step makes is a function, void or incomplete (C89 3.5.4.2).
+pub fn has_bad_element(types: &TypeTable, base: TypeId, steps: &[Step]) -> bool
     requires base { base < length types.now.forms }
     requires steps { AreStepsIn (length types.now.forms) steps.now }
     ensures { result ≡ some_step (is_bad_element (tags types.now)) (type_at types.now base) (steps_seen types.now steps.now) }
@@ -106,8 +106,8 @@ fn has_bad_element(types: &TypeTable, base: TypeId, steps: &[Step]) -> bool
     false
 }
 
-/// Whether a function returns a function or an array.
-fn has_bad_result(types: &TypeTable, base: TypeId, steps: &[Step]) -> bool
+/// Whether a function that a step makes returns a function or an array (C89 3.5.4.3).
+pub fn has_bad_result(types: &TypeTable, base: TypeId, steps: &[Step]) -> bool
     requires base { base < length types.now.forms }
     requires steps { AreStepsIn (length types.now.forms) steps.now }
     ensures { result ≡ some_step is_bad_result (type_at types.now base) (steps_seen types.now steps.now) }
@@ -122,8 +122,8 @@ fn has_bad_result(types: &TypeTable, base: TypeId, steps: &[Step]) -> bool
     false
 }
 
-/// Whether a step is a list of names.
-fn has_name_list(steps: &[Step]) -> bool
+/// Whether a step is a list of names, which only a function's definition has (C89 3.5.4.3).
+pub fn has_name_list(steps: &[Step]) -> bool
     ensures { (k : Table) (t : CType) → result ≡ some_step lists_names t (steps_seen k steps.now) }
 {
     for step in steps {
@@ -134,8 +134,8 @@ fn has_name_list(steps: &[Step]) -> bool
     false
 }
 
-/// Whether a type that the steps form is above the greatest size.
-pub(crate) fn is_large(types: &TypeTable, base: TypeId, steps: &[Step]) -> bool
+/// Whether a type that a step forms is above the greatest size of an object, 16,777,216 bytes.
+pub fn is_large(types: &TypeTable, base: TypeId, steps: &[Step]) -> bool
     requires base { base < length types.now.forms }
     requires steps { AreStepsIn (length types.now.forms) steps.now }
     ensures { result ≡ some_step (is_large_step (tags types.now)) (type_at types.now base) (steps_seen types.now steps.now) }
@@ -150,8 +150,8 @@ pub(crate) fn is_large(types: &TypeTable, base: TypeId, steps: &[Step]) -> bool
     false
 }
 
-/// Whether a function has more parameters than the limit.
-pub(crate) fn has_many_parameters(steps: &[Step]) -> bool
+/// Whether a function that a step makes has more than 127 parameters.
+pub fn has_many_parameters(steps: &[Step]) -> bool
     ensures { (k : Table) (t : CType) → result ≡ some_step is_many_step t (steps_seen k steps.now) }
 {
     for step in steps {

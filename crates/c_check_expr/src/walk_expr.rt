@@ -28,9 +28,10 @@ use c_values::CheckFault;
 use lcc_base::{Bytes, Items};
 use std::alloc::Global;
 
-/// An expression.
+/// An expression, checked: what `check_expr` gives, with a contract that walks around it go on from (C89
+/// 3.3).
 #[cycle(walk)]
-pub(crate) fn expression(
+pub fn expression(
     alloc: Global,
     scopes: &mut Scopes,
     types: &mut TypeTable,
@@ -128,9 +129,9 @@ fn expressions(
     Ok(all)
 }
 
-/// An expression, if there is one.
+/// An expression, checked, if there is one.
 #[cycle(walk)]
-pub(crate) fn maybe_expression(
+pub fn maybe_expression(
     alloc: Global,
     scopes: &mut Scopes,
     types: &mut TypeTable,

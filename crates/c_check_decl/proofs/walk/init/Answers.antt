@@ -10,6 +10,9 @@ at_whole-requires-clause-of c =
     let u = c.maybe_initialised.new.types in
     c.filled_type.ensures.within (length u.forms) (below_later t u c.in_ok-filled.ensures.keeps.extends c.type_here.result c.type_here.ensures.within) c.in_ok-filled.ensures.within
 
+pub at_whole-requires-clause-own : goal.at_whole-requires-clause-own
+at_whole-requires-clause-own c = below_later c.name.new.types c.maybe_initialised.new.types c.in_ok-filled.ensures.keeps.extends c.in_ok-n.n.of c.in_ok-n.ensures.within
+
 pub returns-in_err-n : goal.returns-in_err-n
 returns-in_err-n c =
     let a = c.args.types.now in

@@ -40,8 +40,8 @@ returns-in_err-of-clause-err c =
 pub returns-in_err-of-clause-keeps : goal.returns-in_err-of-clause-keeps
 returns-in_err-of-clause-keeps c = same_kept c.args.scopes.now c.args.types.now c.adjusted.new.types c.adjusted.ensures.grows c.requires.symbols
 
-pub declared-requires-clause-symbols : goal.declared-requires-clause-symbols
-declared-requires-clause-symbols c = symbols_in_later c.args.types.now c.adjusted.new.types c.adjusted.ensures.grows.extends c.args.scopes.now.symbols c.requires.symbols
+pub declare_parameter-requires-clause-symbols : goal.declare_parameter-requires-clause-symbols
+declare_parameter-requires-clause-symbols c = symbols_in_later c.args.types.now c.adjusted.new.types c.adjusted.ensures.grows.extends c.args.scopes.now.symbols c.requires.symbols
 
 pub returns-clause-ok : goal.returns-clause-ok
 returns-clause-ok c =
@@ -51,5 +51,5 @@ returns-clause-ok c =
     let name = c.args.shape.name in
     let of = type_at t c.args.shape.of in
     let x = c.in_ok-of.ensures in
-    parameter_becomes c.args.scopes.now c.declared.new.scopes t c.adjusted.new.types spot classes name of c.in_ok-of.of x.grows c.requires.symbols c.in_ok-declared.ensures.state x.means
+    parameter_becomes c.args.scopes.now c.declare_parameter.new.scopes t c.adjusted.new.types spot classes name of c.in_ok-of.of x.grows c.requires.symbols c.in_ok-declare_parameter.ensures.state x.means
     (fine_parameter (state_of c.args.scopes.now t) spot.line classes name of spot.alone (sym c.broken.ensures ∙ c.in_default.is) (record { size = x.size; nesting = x.nesting }) x.shallow)
