@@ -1,9 +1,10 @@
 -- A list in braces among the items of another: opened, walked, and closed.
-use Rattle.std.proofs.Common.{◌≡◌, ℕ, Bool, false, List, [], ◌++◌, Option, Some, None, length, refl, sym, ap, ◌∙◌, subst}
+use Rattle.std.proofs.Common.{◌≡◌, ℕ, Bool, false, List, [], ◌++◌, Option, Some, None, refl, sym, ap, ◌∙◌, subst}
 use Rattle.std.specs.Prelude.{Result, Ok, Err, IsErrAnd, ◌||◌}
 use Rattle.c_ast.specs.Trees.{Braced, InitialiserTrees}
 use Rattle.c_symbols.specs.Scoping.{Scoping}
 use Rattle.c_types.specs.CType.{CType}
+use Rattle.c_types.specs.Definitions.{AreComplete}
 use Rattle.c_types.specs.Table.{Table, tags}
 use Rattle.c_meaning.specs.Constraints.{Breaks}
 use Rattle.c_meaning.specs.Filling.{Found, begins_with_text, begun_in, is_excess, left_behind}
@@ -24,8 +25,8 @@ use Rattle.c_initialisers.specs.declared.walk.Listing.{Listing}
 use Rattle.c_initialisers.specs.Listed.{item_in, items_in, onto}
 use Rattle.c_initialisers.specs.Opening.{IsOpened, next_of}
 use Rattle.c_initialisers.specs.Storing.{IsFillingIn, filling_in, node_of}
-use Rattle.c_initialisers.specs.StoresStay.{entries_later, waiting_stays}
 use Rattle.c_initialisers.specs.Waiting.{AreEntriesIn, waiting_in}
+use Rattle.c_initialisers.proofs.WaitsStay.{waiting_stays}
 use Rattle.c_initialisers.proofs.PlacedValues.{standing_node, stored_same}
 
 -- ---- what is stored behind what was stored before
@@ -125,15 +126,15 @@ module _ (l m : Listing) (line : ℕ) (is : InitialiserTrees) (comma : Bool) (be
         }
 
     pub list_goes : (within : Bool) (z : Standing) → z.is_static ≡ l.is_static → z.is_barred ≡ false → z.is_unfit ≡ false → within ≡ is_within l.is_scalar N
-        → ((t : State) → (completed : List CType) → first_of init_constraints t (node_of z (Items v.excess within) completed) ≡ None) → AreEntriesIn (length a.forms) o.waits.items
+        → ((t : State) → (completed : List CType) → first_of init_constraints t (node_of z (Items v.excess within) completed) ≡ None) → AreEntriesIn a o.waits.items → AreComplete (tags b)
         → Walks filling_in IsFillingIn (item_in s a l B (Braced line is comma)) s a u b (Ok (record { places = v.places; waits = o.waits; excess = o.excess }))
-    list_goes within z i j k e h entries =
+    list_goes within z i j k e h entries complete =
         record {
           ok =
               item_is ∙ braced_fine l line is comma B (state_of s a) N (state_of u b) X inner_fine.1.0 (node_is None within z i j k e h)
               ∙ ap (Fine (state_of u b))
-              (stored_same (B.places ++ X.places) (filling_in b v).places (left_behind N B.left) (waiting_in b o.waits.items) (B.excess || is_excess N B.left) o.excess (ap (λ (x : Stored). x.places) inner_fine.1.1) (sym (waiting_stays a b w.keeps.extends o.waits.items entries ∙ opened.left)) (sym opened.excess));
+              (stored_same (B.places ++ X.places) (filling_in b v).places (left_behind N B.left) (waiting_in b o.waits.items) (B.excess || is_excess N B.left) o.excess (ap (λ (x : Stored). x.places) inner_fine.1.1) (sym (waiting_stays a b w.keeps.extends complete o.waits.items entries ∙ opened.left)) (sym opened.excess));
           err = tt;
-          within = record { places = w.within.places; waits = entries_later a b w.keeps.extends o.waits.items entries };
+          within = record { places = w.within.places };
           keeps = w.keeps;
         }

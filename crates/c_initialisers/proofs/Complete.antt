@@ -4,8 +4,8 @@ use Rattle.std.proofs.Common.{◌≡◌, ℕ, ◌+◌, ◌*◌, ◌<◌, Bool, t
 use Rattle.std.specs.Prelude.{Option, Some, None, map, is_some, ◌==◌, ◌&&◌, if◌then◌else◌}
 use Rattle.std.proofs.lemmas.Bool.{eqb-true}
 use Rattle.c_types.specs.declared.extent.Extent.{Extent}
-use Rattle.c_types.specs.CType.{CType, Plain, Array, Kind, Simple, Pointer, Function, Structure, Union, Enumeration}
-use Rattle.c_types.specs.Layout.{MemberType, Tag, extent, known, times, fields, spots, start, structure_extent, greatest_nesting, size_or_zero}
+use Rattle.c_types.specs.CType.{Basic, Void, Char, SignedChar, UnsignedChar, Short, UnsignedShort, Int, Unsigned, Long, UnsignedLong, CType, Plain, Array, Kind, Simple, Pointer, Function, Structure, Union, Enumeration}
+use Rattle.c_types.specs.Layout.{MemberType, Tag, basic_extent, extent, known, times, fields, spots, start, structure_extent, greatest_nesting, size_or_zero}
 use Rattle.c_types.specs.Members.{MemberAt, is_named, member_at, named_places, tag_places}
 use Rattle.c_types.specs.Table.{are_objects}
 use Rattle.c_meaning.specs.Filling.{element, enter, enter_by, entered_known, entered_kind, elements_behind, fills, first_member, first_only, found, is_none_left, members_in, members_of, moved_to, or_else, place_of, with_left, Whole}
@@ -30,7 +30,7 @@ element_some (Some n) None h = h
 element_some None s h = absurd (true≢false (sym h))
 
 -- a further definition is of another number than what is complete
-apart : (tag : Tag) (older : List Tag) (n : ℕ) → is_some (known older tag.number).size ≡ false → is_some (known older n).size ≡ true → (n == tag.number) ≡ false
+pub apart : (tag : Tag) (older : List Tag) (n : ℕ) → is_some (known older tag.number).size ≡ false → is_some (known older n).size ≡ true → (n == tag.number) ≡ false
 apart tag older n f h = by (n == tag.number) refl
   where
     by : (b : Bool) → (n == tag.number) ≡ b → b ≡ false
@@ -48,6 +48,37 @@ extent_stays tag older f (Plain q (Structure n)) h = known_stays tag older n f h
 extent_stays tag older f (Plain q (Union n)) h = known_stays tag older n f h
 extent_stays tag older f (Plain q (Enumeration n)) h = refl
 extent_stays tag older f (Array t n) h = rw (extent_stays tag older f t (element_some n (extent older t).size h)) refl
+
+-- ---- each type is nested once at least
+
+basic_nested : (b : Basic) → 0 < (basic_extent b).nesting
+basic_nested Void = omega arith
+basic_nested Char = omega arith
+basic_nested SignedChar = omega arith
+basic_nested UnsignedChar = omega arith
+basic_nested Short = omega arith
+basic_nested UnsignedShort = omega arith
+basic_nested Int = omega arith
+basic_nested Unsigned = omega arith
+basic_nested Long = omega arith
+basic_nested UnsignedLong = omega arith
+
+known_nested : (tags : List Tag) (n : ℕ) → 0 < (known tags n).nesting
+known_nested [] n = omega arith
+known_nested (tag ∷ older) n = by (n == tag.number) (known_nested older n)
+  where
+    by : (b : Bool) → 0 < (known older n).nesting → 0 < (if b then structure_extent tag.is_union (fields (known older) tag.members) else known older n).nesting
+    by true h = omega arith
+    by false h = h
+
+pub nested_once : (tags : List Tag) (t : CType) → 0 < (extent tags t).nesting
+nested_once tags (Plain q (Simple b)) = basic_nested b
+nested_once tags (Plain q (Pointer to)) = omega arith
+nested_once tags (Plain q (Function r ps)) = omega arith
+nested_once tags (Plain q (Structure n)) = known_nested tags n
+nested_once tags (Plain q (Union n)) = known_nested tags n
+nested_once tags (Plain q (Enumeration n)) = omega arith
+nested_once tags (Array of count) = omega arith
 
 -- ---- members are objects, and nested less than so much
 

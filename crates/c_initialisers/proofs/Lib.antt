@@ -15,5 +15,7 @@ mod WholeNodes
 mod Stacks
 mod Complete
 mod Told
-mod MemberStacks
+mod MemberLists
+mod Searches
+mod WaitsStay
 mod Tops

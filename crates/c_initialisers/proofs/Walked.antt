@@ -10,6 +10,7 @@ use Rattle.c_ast.specs.UnitViews.{initialisers_of}
 use Rattle.c_ast.specs.SeenUnits.{initialiser_form_seen, initialiser_seen}
 use Rattle.c_ast.specs.SeenUnits.{initialiser_parts}
 use Rattle.c_symbols.specs.Scoping.{Scoping}
+use Rattle.c_types.specs.Definitions.{AreComplete}
 use Rattle.c_types.specs.Table.{Table, Grows, tags, type_at}
 use Rattle.c_meaning.specs.Constraints.{Breaks, Passes}
 use Rattle.c_meaning.specs.CoreTrees.{CoreOf, IsIn, seen}
@@ -29,6 +30,7 @@ use Rattle.c_initialisers.specs.declared.stored.Filling.{Filling}
 use Rattle.c_initialisers.specs.declared.walk.Listing.{Listing}
 use Rattle.c_initialisers.specs.Listed.{item_in, items_in, onto, value_onto}
 use Rattle.c_initialisers.specs.Storing.{IsFillingIn, filling_in}
+use Rattle.c_initialisers.specs.Waiting.{AreEntriesIn}
 use Rattle.c_initialisers.proofs.FillingStays.{filling_stays}
 
 -- ---- expressions, by the public contract of their checker
@@ -104,16 +106,16 @@ items_end l start r s a t list done i k g = going_ends filling_in IsFillingIn (s
 
 -- ---- an expression among the items
 
-pub value_walk : (l : Listing) (line : ℕ) (e : ExprTree) (before : Filling) (s u : Scoping) (a b d : Table) (c : CoreOf ℕ) (r : Result Filling CheckFault) → IsFillingIn (length a.forms) before
+pub value_walk : (l : Listing) (line : ℕ) (e : ExprTree) (before : Filling) (s u : Scoping) (a b d : Table) (c : CoreOf ℕ) (r : Result Filling CheckFault) → IsFillingIn (length a.forms) before → AreEntriesIn a before.waits.items → AreComplete (tags b)
     → Walks core IsIn (typed (state_of s a) e) s a u b (Ok c) → Grows b d
     → IfOk r (λ f. (s : State) → s.tags ≡ tags b → value_onto s l.is_static line (filling_in b before) (seen (type_at b) c) ≡ Fine s (filling_in d f))
     → IfErr r (λ e. (s : State) → s.tags ≡ tags b → Tells e (value_onto s l.is_static line (filling_in b before) (seen (type_at b) c)))
     → IfOk r (IsFillingIn (length d.forms))
     → Walks filling_in IsFillingIn (item_in s a l (filling_in a before) (ByExpr line e)) s a u d r
 unfolding item_in
-value_walk l line e before s u a b d c r w x g ok err within =
+value_walk l line e before s u a b d c r w i k x g ok err within =
     let B = filling_in a before in
-    let stay : filling_in b before ≡ B = filling_stays a b x.keeps.extends before w in
+    let stay : filling_in b before ≡ B = filling_stays a b x.keeps.extends k before w i in
     let next : State → _ → Outcome Stored = λ m k. value_onto m l.is_static line B k in
     let node : Walks filling_in IsFillingIn (value_onto (state_of u b) l.is_static line (filling_in b before) (core b c)) u b u d r = walk_grown filling_in IsFillingIn (λ m. value_onto m l.is_static line (filling_in b before) (core b c)) u b d r x.keeps.symbols g ok err within in
     walk_as (then_do (typed (state_of s a) e) next) (item_in s a l B (ByExpr line e)) (then_then (typed (state_of s a) e) _ _)

@@ -1,13 +1,11 @@
--- The members of structures and unions that are initialised, and stacks of them.
-use Rattle.std.specs.Prelude.{ℕ, ◌+◌, Bool, true, false, List, [], ◌∷◌, ◌++◌}
+-- The members of structures and unions that are initialised.
+use Rattle.std.specs.Prelude.{ℕ, ◌+◌, Bool, true, false, List, []}
 use Rattle.c_types.specs.CType.{CType, Plain, Array, Kind, Structure, Union}
 use Rattle.c_types.specs.declared.type_form.MemberPlace.{MemberPlace}
 use Rattle.c_types.specs.Layout.{Tag}
 use Rattle.c_types.specs.Members.{MemberAt}
 use Rattle.c_meaning.specs.Filling.{members_in}
 use Rattle.c_initialisers.specs.declared.place.Place.{Place}
-use Rattle.c_initialisers.specs.declared.waits.Waits.{Waits}
-use Rattle.c_initialisers.specs.declared.waits.Waits.TheVariants as waits
 
 abbrev pub is_union_kind : Kind → Bool
 is_union_kind (Union n) = true
@@ -31,8 +29,3 @@ type_members tags (Array of count) offset = []
 abbrev pub moved_place : ℕ → MemberPlace → Place
 moved_place offset m =
     record { of = record { of = m.of; qualifiers = record { 0 = 0 } }; offset = offset + m.offset; first = m.first; width = m.width }
-
--- a stack of members, the first of them on its top
-abbrev pub stacked : ℕ → List MemberPlace → List Waits
-stacked offset [] = []
-stacked offset (m ∷ ms) = stacked offset ms ++ waits.Whole (moved_place offset m) ∷ []

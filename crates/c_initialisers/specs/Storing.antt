@@ -8,7 +8,7 @@ use Rattle.c_meaning.specs.Initialising.{InitForm, InitNode, Stored as StoredTre
 use Rattle.c_initialisers.specs.declared.stored.Filling.{Filling}
 use Rattle.c_initialisers.specs.declared.stored.Stored.{Stored}
 use Rattle.c_initialisers.specs.declared.nodes.Standing.{Standing}
-use Rattle.c_initialisers.specs.Waiting.{AreEntriesIn, waiting_in}
+use Rattle.c_initialisers.specs.Waiting.{waiting_in}
 
 abbrev pub stored_in : Table → Stored → FilledOf CType
 stored_in t p = record { of = type_at t p.of; offset = p.offset; first = p.first; width = p.width; value = seen (type_at t) p.value }
@@ -26,7 +26,6 @@ AreStoredIn n (p ∷ ps) = IsStoredIn n p × AreStoredIn n ps
 
 pub record IsFillingIn (n : ℕ) (f : Filling) : Type 0 where
   pub places : AreStoredIn n f.places.items
-  pub waits : AreEntriesIn n f.waits.items
 
 -- the node of an initialiser that stands so, and completes these types
 abbrev pub node_of : Standing → InitForm → List CType → InitNode

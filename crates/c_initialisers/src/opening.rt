@@ -66,7 +66,7 @@ pub(crate) fn begun(
 ) -> Result<Vec<Waits>, Memory>
     requires { IfSome at (IsPlaceIn (length types.now.forms)) }
     ensures waits { IfOk result (λ ws. (is : InitialiserTrees) → text_begins is ≡ is_text → (around : List WaitsValue) → waiting_in types.now ws.items ≡ begun_in (tags types.now) is (found_in types.now around at)) }
-    ensures entries { IfOk result (λ ws. AreEntriesIn (length types.now.forms) ws.items) }
+    ensures entries { IfOk result (λ ws. AreEntriesIn types.now ws.items) }
 {
     match at {
         Some(at) => begin(alloc, types, at, is_text),
@@ -85,11 +85,13 @@ pub(crate) fn open(
     is_text: bool,
     before: Filling,
 ) -> Result<Opened, Memory>
-    requires { IsFillingIn (length types.now.forms) before }
+    requires before { IsFillingIn (length types.now.forms) before }
+    requires entries { AreEntriesIn types.now before.waits.items }
     ensures is { IfOk result (IsOpened types.now (filling_in types.now before) is_text) }
     ensures at { IfOk result (λ o. IfSome o.at (IsPlaceIn (length types.now.forms))) }
-    ensures waits { IfOk result (λ o. AreEntriesIn (length types.now.forms) o.waits.items) }
+    ensures waits { IfOk result (λ o. AreEntriesIn types.now o.waits.items) }
     ensures inner { IfOk result (λ o. IsFillingIn (length types.now.forms) o.inner) }
+    ensures entries { IfOk result (λ o. AreEntriesIn types.now o.inner.waits.items) }
 {
     let Filling {
         places,

@@ -1,13 +1,16 @@
 //! What an object consists of: elements, or members with names (C89 3.5.7).
-ghost use Rattle.std.specs.Prelude.{◌≡◌, ◌<◌, ◌++◌, All, ℕ, length, map, IfOk, IfSome, OnOk, OnErr, option_to_list};
+ghost use Rattle.std.specs.Prelude.{◌≡◌, ◌<◌, ◌++◌, ◌∷◌, [], All, ℕ, Some, false, length, map, IfOk, IfSome, OnOk, OnErr, option_to_list};
 ghost use Rattle.c_types.specs.Table.{member_seen, tags, type_at, types as types_in};
-ghost use Rattle.c_meaning.specs.Filling.{element as element_in, moved_to};
+ghost use Rattle.c_meaning.specs.Filling.{Elements as ElementsIn, element as element_in, moved_to, next as next_place, parts as parts_in};
+ghost use Rattle.c_meaning.specs.Types.{is_array};
 ghost use Rattle.c_values.specs.Valued.{qualified_in};
-ghost use Rattle.c_initialisers.specs.Entering.{IsFrontIn, front_in, front_of};
-ghost use Rattle.c_initialisers.specs.Members.{is_union_type, moved_place, stacked, type_members};
-ghost use Rattle.c_initialisers.specs.Waiting.{IsEntryIn, IsPlaceIn, entry_in, place_in};
+ghost use Rattle.c_initialisers.specs.Entering.{IsFrontIn, front_in};
+ghost use Rattle.c_initialisers.specs.Members.{is_union_type, moved_place, type_members};
+ghost use Rattle.c_initialisers.specs.Waiting.{IsEntryIn, IsPlaceIn, entries_in, place_in, waiting_in};
+ghost use Rattle.c_initialisers.specs.declared.waits.Waits.TheVariants.{Members as MembersFrom};
 
 use crate::front::Front;
+use crate::kinds::array_of;
 use crate::place::Place;
 use crate::waits::Waits;
 use c_types::{MemberPlace, TypeForm, TypeId, TypeTable};
@@ -31,11 +34,59 @@ fn element(types: &TypeTable, of: QualifiedType, begin: u64, index: u32) -> Resu
     })
 }
 
+/// The first of the elements that wait, and what is left behind it. None where none is left.
+fn first_element(
+    types: &TypeTable,
+    of: QualifiedType,
+    begin: u64,
+    index: u32,
+    count: Option<u32>,
+) -> Result<Option<Front>, Memory>
+    requires { of.of < length types.now.forms }
+    ensures is { IfOk result (λ f. front_in types.now f ≡ next_place (tags types.now) (ElementsIn (qualified_in types.now of) begin index count ∷ [])) }
+    ensures within { IfOk result (λ f. IfSome f (IsFrontIn types.now)) }
+{
+    let left = match count {
+        Some(0) => return Ok(None),
+        Some(count) => Some(count - 1),
+        None => None,
+    };
+    let place = element(types, of, begin, index)?;
+    let behind = Waits::Elements {
+        of,
+        begin,
+        index: index.checked_add(1).ok_or(Memory)?,
+        count: left,
+    };
+    Ok(Some(Front {
+        place,
+        behind: Some(behind),
+    }))
+}
+
+/// The member at the index, in a structure or union that begins at an offset, and what is left behind it.
+fn first_member(types: &TypeTable, of: TypeId, begin: u64, index: usize) -> Result<Front, Memory>
+    requires of { of < length types.now.forms }
+    requires index { index < length (type_members (tags types.now) (type_at types.now of) begin) }
+    ensures is { IfOk result (λ f. front_in types.now (Some f) ≡ next_place (tags types.now) (entries_in types.now (MembersFrom of begin index))) }
+    ensures within { IfOk result (IsFrontIn types.now) }
+{
+    let members = initialised(types, of);
+    let place = moved(begin, members[index])?;
+    let index = index + 1;
+    let behind = if index < members.len() {
+        Some(Waits::Members { of, begin, index })
+    } else {
+        None
+    };
+    Ok(Front { place, behind })
+}
+
 /// The first place of what waits, and what is left behind it. None where there is no place in it.
 pub(crate) fn front(types: &TypeTable, entry: Waits) -> Result<Option<Front>, Memory>
-    requires { IsEntryIn (length types.now.forms) entry }
-    ensures is { IfOk result (λ f. front_in types.now f ≡ front_of (tags types.now) (entry_in types.now entry)) }
-    ensures within { IfOk result (λ f. IfSome f (IsFrontIn (length types.now.forms))) }
+    requires { IsEntryIn types.now entry }
+    ensures is { IfOk result (λ f. front_in types.now f ≡ next_place (tags types.now) (entries_in types.now entry)) }
+    ensures within { IfOk result (λ f. IfSome f (IsFrontIn types.now)) }
 {
     match entry {
         Waits::Nowhere => Ok(None),
@@ -48,23 +99,10 @@ pub(crate) fn front(types: &TypeTable, entry: Waits) -> Result<Option<Front>, Me
             begin,
             index,
             count,
-        } => {
-            let left = match count {
-                Some(0) => return Ok(None),
-                Some(count) => Some(count - 1),
-                None => None,
-            };
-            let place = element(types, of, begin, index)?;
-            let behind = Waits::Elements {
-                of,
-                begin,
-                index: index.checked_add(1).ok_or(Memory)?,
-                count: left,
-            };
-            Ok(Some(Front {
-                place,
-                behind: Some(behind),
-            }))
+        } => first_element(types, of, begin, index, count),
+        Waits::Members { of, begin, index } => {
+            let front = first_member(types, of, begin, index)?;
+            Ok(Some(front))
         }
     }
 }
@@ -93,7 +131,7 @@ fn is_union(types: &TypeTable, id: TypeId) -> bool
 }
 
 /// The members that are initialised, in order: those with names, and of a union only the first.
-pub(crate) fn initialised(types: &TypeTable, id: TypeId) -> &[MemberPlace]
+fn initialised(types: &TypeTable, id: TypeId) -> &[MemberPlace]
     requires { id < length types.now.forms }
     ensures members { (offset : ℕ) → map (moved_to offset) (map (member_seen (types_in types.now)) result.now) ≡ type_members (tags types.now) (type_at types.now id) offset }
     ensures within { All (λ m. m.of < length types.now.forms) result.now }
@@ -108,7 +146,7 @@ pub(crate) fn initialised(types: &TypeTable, id: TypeId) -> &[MemberPlace]
 }
 
 /// A member's place in an object at the offset. Memory comes where no object is so large.
-pub(crate) fn moved(offset: u64, member: MemberPlace) -> Result<Place, Memory>
+fn moved(offset: u64, member: MemberPlace) -> Result<Place, Memory>
     ensures { IfOk result (λ p. p ≡ moved_place offset member) }
 {
     let offset = offset.checked_add(u64::from(member.offset)).ok_or(Memory)?;
@@ -120,18 +158,36 @@ pub(crate) fn moved(offset: u64, member: MemberPlace) -> Result<Place, Memory>
     })
 }
 
-/// Puts members on the stack, the first of them on its top.
-pub(crate) fn push_members(
-    waits: &mut Vec<Waits>,
-    offset: u64,
-    members: &[MemberPlace],
-) -> Result<(), Memory>
-    ensures { OnOk result (waits.new.items ≡ waits.old.items ++ stacked offset members.now) }
+/// What an object consists of: elements, or members. None where there is nothing in it.
+pub(crate) fn parts(types: &TypeTable, at: Place) -> Option<Waits>
+    requires { IsPlaceIn (length types.now.forms) at }
+    ensures are { waiting_in types.now (option_to_list result) ≡ parts_in (tags types.now) (qualified_in types.now at.of) at.offset }
+    ensures within { IfSome result (IsEntryIn types.now) }
 {
-    let mut left = members.len();
-    while left > 0 {
-        left -= 1;
-        waits.push(Waits::Whole(moved(offset, members[left])?))?;
+    match array_of(types, at.of) {
+        Some((of, count)) => Some(Waits::Elements {
+            of,
+            begin: at.offset,
+            index: 0,
+            count,
+        }),
+        None => members(types, at),
     }
-    Ok(())
+}
+
+/// The members of an object that is no array. None where it has none.
+fn members(types: &TypeTable, at: Place) -> Option<Waits>
+    requires at { IsPlaceIn (length types.now.forms) at }
+    requires array { is_array (qualified_in types.now at.of) ≡ false }
+    ensures are { waiting_in types.now (option_to_list result) ≡ parts_in (tags types.now) (qualified_in types.now at.of) at.offset }
+    ensures within { IfSome result (IsEntryIn types.now) }
+{
+    if initialised(types, at.of.of).is_empty() {
+        return None;
+    }
+    Some(Waits::Members {
+        of: at.of.of,
+        begin: at.offset,
+        index: 0,
+    })
 }

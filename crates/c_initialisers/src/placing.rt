@@ -9,9 +9,9 @@ ghost use Rattle.c_meaning.specs.Types.{is_scalar as scalar};
 ghost use Rattle.c_values.specs.Valued.{qualified_in};
 ghost use Rattle.c_initialisers.specs.Waiting.{AreEntriesIn, IsPlaceIn, found_in, place_in, waiting_in};
 
-use crate::entering::enter_front;
-use crate::kinds::{array_of, is_of_chars, is_scalar};
-use crate::parts::{front, initialised, push_behind, push_members};
+use crate::entering::enter_entry;
+use crate::kinds::{is_of_chars, is_scalar};
+use crate::parts::{front, parts, push_behind};
 use crate::place::Place;
 use crate::waits::Waits;
 use c_meaning::CoreExpr;
@@ -28,12 +28,12 @@ pub(crate) fn take(
     c: &CoreExpr,
     waits: &mut Vec<Waits>,
 ) -> Result<Option<Place>, Memory>
-    requires entries { AreEntriesIn (length types.now.forms) waits.old.items }
+    requires entries { AreEntriesIn types.now waits.old.items }
     requires within { IsIn (length types.now.forms) c.now }
     ensures found { IfOk result (λ p. taken (tags types.now) (seen (type_at types.now) c.now) (waiting_in types.now waits.old.items) ≡ found_in types.now waits.new.items p) }
     ensures left { IfOk result (λ p. waiting_in types.now waits.new.items ≡ left_behind (found_in types.now waits.new.items p) (waiting_in types.now waits.old.items)) }
     ensures place { IfOk result (λ p. IfSome p (IsPlaceIn (length types.now.forms))) }
-    ensures entries { AreEntriesIn (length types.now.forms) waits.new.items }
+    ensures entries { AreEntriesIn types.now waits.new.items }
 {
     let mut left = Vec::new(alloc);
     let mut under = waits.len();
@@ -43,12 +43,10 @@ pub(crate) fn take(
         if let Waits::Nowhere = entry {
             return Ok(None);
         }
-        if let Some(front) = front(types, entry)? {
-            if let Some(place) = enter_front(types, c, front, &mut left)? {
-                waits.truncate(under);
-                waits.extend_from_slice(&left)?;
-                return Ok(Some(place));
-            }
+        if let Some(place) = enter_entry(types, c, entry, &mut left)? {
+            waits.truncate(under);
+            waits.extend_from_slice(&left)?;
+            return Ok(Some(place));
         }
     }
     Ok(None)
@@ -57,11 +55,11 @@ pub(crate) fn take(
 /// The object that a list in braces fills, which is taken from the stack. None where nothing waits, and
 /// then the stack stands for what it did.
 pub(crate) fn next(types: &TypeTable, waits: &mut Vec<Waits>) -> Result<Option<Place>, Memory>
-    requires { AreEntriesIn (length types.now.forms) waits.old.items }
+    requires { AreEntriesIn types.now waits.old.items }
     ensures found { IfOk result (λ p. next_place (tags types.now) (waiting_in types.now waits.old.items) ≡ found_in types.now waits.new.items p) }
     ensures left { IfOk result (λ p. waiting_in types.now waits.new.items ≡ left_behind (found_in types.now waits.new.items p) (waiting_in types.now waits.old.items)) }
     ensures place { IfOk result (λ p. IfSome p (IsPlaceIn (length types.now.forms))) }
-    ensures entries { AreEntriesIn (length types.now.forms) waits.new.items }
+    ensures entries { AreEntriesIn types.now waits.new.items }
 {
     let mut under = waits.len();
     while under > 0 {
@@ -81,6 +79,7 @@ pub(crate) fn next(types: &TypeTable, waits: &mut Vec<Waits>) -> Result<Option<P
 
 /// Whether what waits next is nothing, since the object can't be initialised.
 pub(crate) fn is_nowhere(types: &TypeTable, waits: &[Waits]) -> bool
+    requires { AreEntriesIn types.now waits.now }
     ensures { result ≡ nowhere (waiting_in types.now waits.now) }
 {
     match waits.last() {
@@ -109,26 +108,13 @@ pub(crate) fn begin(
 ) -> Result<Vec<Waits>, Memory>
     requires { IsPlaceIn (length types.now.forms) at }
     ensures waits { IfOk result (λ ws. (is : InitialiserTrees) → begins_with_text is ≡ is_text → waiting_in types.now ws.items ≡ begun (tags types.now) is (place_in types.now at)) }
-    ensures entries { IfOk result (λ ws. AreEntriesIn (length types.now.forms) ws.items) }
+    ensures entries { IfOk result (λ ws. AreEntriesIn types.now ws.items) }
 {
     let mut waits = Vec::new(alloc);
     if is_begun_whole(types, at.of, is_text) {
         waits.push(Waits::Whole(at))?;
-        return Ok(waits);
+    } else {
+        push_behind(&mut waits, parts(types, at))?;
     }
-    match array_of(types, at.of) {
-        Some((of, count)) => {
-            waits.push(Waits::Elements {
-                of,
-                begin: at.offset,
-                index: 0,
-                count,
-            })?;
-            Ok(waits)
-        }
-        None => {
-            push_members(&mut waits, at.offset, initialised(types, at.of.of))?;
-            Ok(waits)
-        }
-    }
+    Ok(waits)
 }

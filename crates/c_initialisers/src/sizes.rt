@@ -1,6 +1,6 @@
 //! Which objects can be initialised, and the size that an initialiser gives an array of unknown size (C89
 //! 3.5.7).
-ghost use Rattle.std.specs.Prelude.{◌≡◌, ◌<◌, ◌+◌, ◌∷◌, [], List, Some, None, length, map, true, false, IfErr, IfNone, IfOk, IfSome, OnOk};
+ghost use Rattle.std.specs.Prelude.{◌≡◌, ◌<◌, ◌+◌, ◌++◌, ◌∷◌, [], List, Some, None, length, map, true, false, IfErr, IfNone, IfOk, IfSome, OnOk};
 ghost use Rattle.c_types.specs.CType.{Array};
 ghost use Rattle.c_types.specs.Layout.{size_or_zero};
 ghost use Rattle.c_types.specs.Table.{Grows, Table, tags, type_at};
@@ -12,7 +12,7 @@ ghost use Rattle.c_meaning.specs.Types.{has_size as of_objects};
 ghost use Rattle.c_values.specs.Valued.{qualified_in};
 ghost use Rattle.c_check_expr.specs.Completed.{IsPassed};
 ghost use Rattle.c_initialisers.specs.Storing.{AreStoredIn, stored_in};
-ghost use Rattle.c_initialisers.specs.Waiting.{entry_in, waiting_in};
+ghost use Rattle.c_initialisers.specs.Waiting.{AreEntriesIn, entries_in, waiting_in};
 
 use crate::kinds;
 use crate::stored::{Filling, Stored};
@@ -49,7 +49,8 @@ fn element_of_unknown(types: &TypeTable, of: TypeId) -> Option<QualifiedType>
 /// How many elements an array of unknown size gets from a list: as many as were begun, or those that the
 /// string fills with which the list begins.
 pub(crate) fn stored_elements(types: &TypeTable, filling: &Filling) -> u32
-    requires { AreStoredIn (length types.now.forms) filling.now.places.items }
+    requires places { AreStoredIn (length types.now.forms) filling.now.places.items }
+    requires entries { AreEntriesIn types.now filling.now.waits.items }
     ensures { result ≡ elements_stored (waiting_in types.now filling.now.waits.items) (map (stored_in types.now) filling.now.places.items) }
 {
     let waits = filling.waits.as_slice();
@@ -94,8 +95,9 @@ fn elements_begun(waits: &[Waits]) -> u32
 }
 
 /// How many were begun where this entry is the next, and so many were in those behind it.
+#[tactic(auto, using(crate::proofs::WaitingLists::begun_under))]
 fn begun_with(entry: &Waits, begun: u32) -> u32
-    ensures { (t : Table) → (ws : List Waiting) → begun ≡ begun_in ws → result ≡ begun_in (entry_in t entry.now ∷ ws) }
+    ensures { (t : Table) → (ws : List Waiting) → begun ≡ begun_in ws → result ≡ begun_in (entries_in t entry.now ++ ws) }
 {
     match entry {
         Waits::Elements {

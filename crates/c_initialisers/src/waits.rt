@@ -1,7 +1,9 @@
 use crate::place::Place;
+use c_types::TypeId;
 use c_values::QualifiedType;
 
-/// What waits for its initialiser (C89 3.5.7). A stack of these has the next one last.
+/// What waits for its initialiser (C89 3.5.7). A stack of these has the next one last, and an entry stands
+/// for any number of parts of one aggregate.
 #[derive(Clone, Copy)]
 pub(crate) enum Waits {
     /// Nothing: the object can't be initialised.
@@ -14,5 +16,11 @@ pub(crate) enum Waits {
         begin: u64,
         index: u32,
         count: Option<u32>,
+    },
+    /// Members of a structure or union that begins at an offset, from this one on, which it has.
+    Members {
+        of: TypeId,
+        begin: u64,
+        index: usize,
     },
 }

@@ -16,7 +16,7 @@ ghost use Rattle.c_check_expr.specs.Known.{AreSymbolsIn, state_of};
 ghost use Rattle.c_check_expr.specs.Walks.{Walks, core};
 ghost use Rattle.c_initialisers.specs.Listed.{item_in, items_in, value_in, value_onto};
 ghost use Rattle.c_initialisers.specs.Storing.{IsFillingIn, filling_in};
-ghost use Rattle.c_initialisers.specs.Waiting.{IsPlaceIn, found_in, place_in, waiting_in};
+ghost use Rattle.c_initialisers.specs.Waiting.{AreEntriesIn, IsPlaceIn, found_in, place_in, waiting_in};
 ghost use Rattle.c_initialisers.specs.declared.waits.Waits.{Waits as WaitsValue};
 
 use crate::kinds;
@@ -90,9 +90,11 @@ fn placed(
     requires at { IsPlaceIn (length types.old.forms) at }
     requires within { IsIn (length types.old.forms) c }
     requires others { IsFillingIn (length types.old.forms) others }
+    requires entries { AreEntriesIn types.old others.waits.items }
     ensures ok { IfOk result (λ f. (s : State) → s.tags ≡ tags types.old → value_in s stands.1.is_static stands.0 (place_in types.old at) (seen (type_at types.old) c) (filling_in types.old others) ≡ Fine s (filling_in types.new f)) }
     ensures err { IfErr result (λ e. (s : State) → s.tags ≡ tags types.old → Tells e (value_in s stands.1.is_static stands.0 (place_in types.old at) (seen (type_at types.old) c) (filling_in types.old others))) }
     ensures within { IfOk result (IsFillingIn (length types.new.forms)) }
+    ensures entries { IfOk result (λ f. AreEntriesIn types.new f.waits.items) }
     ensures grows { Grows types.old types.new }
 {
     let (line, listing) = stands;
@@ -105,6 +107,7 @@ fn placed(
         excess,
     } = others;
     store(alloc, types, line, at, c, &mut places)?;
+    types.members_are_complete();
     Ok(Filling {
         places,
         waits,
@@ -114,6 +117,7 @@ fn placed(
 
 /// Whether an item found no place, where the last one found none and others perhaps before it.
 fn with_excess(types: &TypeTable, waits: &[Waits], excess: bool) -> bool
+    requires { AreEntriesIn types.now waits.now }
     ensures { result ≡ (excess || not (nowhere (waiting_in types.now waits.now))) }
 {
     excess || !is_nowhere(types, waits)
@@ -130,9 +134,11 @@ fn value(
 ) -> Result<Filling, CheckFault>
     requires within { IsIn (length types.old.forms) c }
     requires before { IsFillingIn (length types.old.forms) before }
+    requires entries { AreEntriesIn types.old before.waits.items }
     ensures ok { IfOk result (λ f. (s : State) → s.tags ≡ tags types.old → value_onto s listing.is_static line (filling_in types.old before) (seen (type_at types.old) c) ≡ Fine s (filling_in types.new f)) }
     ensures err { IfErr result (λ e. (s : State) → s.tags ≡ tags types.old → Tells e (value_onto s listing.is_static line (filling_in types.old before) (seen (type_at types.old) c))) }
     ensures within { IfOk result (IsFillingIn (length types.new.forms)) }
+    ensures entries { IfOk result (λ f. AreEntriesIn types.new f.waits.items) }
     ensures grows { Grows types.old types.new }
 {
     let Filling {
@@ -172,7 +178,9 @@ pub(crate) fn items(
 ) -> Result<Filling, CheckFault>
     requires symbols { AreSymbolsIn (length types.old.forms) scopes.old.symbols }
     requires start { IsFillingIn (length types.old.forms) start }
-    ensures { Walks filling_in IsFillingIn (items_in scopes.old types.old listing (filling_in types.old start) (initialisers_of (map initialiser_seen list.now))) scopes.old types.old scopes.new types.new result }
+    requires entries { AreEntriesIn types.old start.waits.items }
+    ensures walks { Walks filling_in IsFillingIn (items_in scopes.old types.old listing (filling_in types.old start) (initialisers_of (map initialiser_seen list.now))) scopes.old types.old scopes.new types.new result }
+    ensures entries { IfOk result (λ f. AreEntriesIn types.new f.waits.items) }
 {
     let mut all = start;
     for i in list {
@@ -193,12 +201,15 @@ fn item(
 ) -> Result<Filling, CheckFault>
     requires symbols { AreSymbolsIn (length types.old.forms) scopes.old.symbols }
     requires before { IsFillingIn (length types.old.forms) before }
-    ensures { Walks filling_in IsFillingIn (item_in scopes.old types.old listing (filling_in types.old before) (initialiser_seen i.now)) scopes.old types.old scopes.new types.new result }
+    requires entries { AreEntriesIn types.old before.waits.items }
+    ensures walks { Walks filling_in IsFillingIn (item_in scopes.old types.old listing (filling_in types.old before) (initialiser_seen i.now)) scopes.old types.old scopes.new types.new result }
+    ensures entries { IfOk result (λ f. AreEntriesIn types.new f.waits.items) }
 {
     let line = i.line;
     match &i.form {
         InitialiserForm::Expr(e) => {
             let c = expression(alloc, scopes, types, e)?;
+            types.members_are_complete();
             value(alloc, types, listing, line, c, before)
         }
         InitialiserForm::List { items, .. } => {
@@ -226,13 +237,16 @@ fn list(
 ) -> Result<Filling, CheckFault>
     requires symbols { AreSymbolsIn (length types.old.forms) scopes.old.symbols }
     requires before { IsFillingIn (length types.old.forms) before }
-    ensures { (comma : Bool) → Walks filling_in IsFillingIn (item_in scopes.old types.old stands.1 (filling_in types.old before) (Braced stands.0 (initialisers_of (map initialiser_seen list.now)) comma)) scopes.old types.old scopes.new types.new result }
+    requires entries { AreEntriesIn types.old before.waits.items }
+    ensures walks { (comma : Bool) → Walks filling_in IsFillingIn (item_in scopes.old types.old stands.1 (filling_in types.old before) (Braced stands.0 (initialisers_of (map initialiser_seen list.now)) comma)) scopes.old types.old scopes.new types.new result }
+    ensures entries { IfOk result (λ f. AreEntriesIn types.new f.waits.items) }
 {
     let (line, listing) = stands;
     let opened = open(alloc, types, begins_with_text(list), before)?;
     let within = is_within(listing, opened.at);
     let inner = inside(types, listing, opened.at);
     let filled = items(alloc, scopes, types, inner, list, opened.inner)?;
+    types.members_are_complete();
     if let Some(number) = list_broken(standing(listing), filled.excess, within) {
         return Err(CheckFault::Constraint { number, line });
     }

@@ -13,7 +13,7 @@ ghost use Rattle.c_check_expr.specs.Known.{AreSymbolsIn};
 ghost use Rattle.c_check_expr.specs.Walks.{Walks};
 ghost use Rattle.c_initialisers.specs.Objects.{IsFilledIn, filled_in, object_in};
 ghost use Rattle.c_initialisers.specs.Storing.{IsFillingIn, filling_in};
-ghost use Rattle.c_initialisers.specs.Waiting.{IsPlaceIn, found_in, place_in};
+ghost use Rattle.c_initialisers.specs.Waiting.{AreEntriesIn, IsPlaceIn, found_in, place_in};
 ghost use Rattle.c_initialisers.specs.Wholes.{object_of, whole_in, whole_list as list_whole, whole_value as value_whole};
 
 use crate::filled::Filled;
@@ -97,6 +97,7 @@ fn close(
 ) -> Result<Filled, CheckFault>
     requires of { of < length types.old.forms }
     requires inner { IsFillingIn (length types.old.forms) inner }
+    requires entries { AreEntriesIn types.old inner.waits.items }
     ensures ok { IfOk result (λ f. (t : State) → t.tags ≡ tags types.old → list_whole t line (object_of types.old of standing) standing.is_unfit (filling_in types.old inner) ≡ Fine t (filled_in types.new f)) }
     ensures err { IfErr result (λ e. (t : State) → t.tags ≡ tags types.old → Tells e (list_whole t line (object_of types.old of standing) standing.is_unfit (filling_in types.old inner))) }
     ensures within { IfOk result (IsFilledIn (length types.new.forms)) }
@@ -137,6 +138,7 @@ fn start(
     requires unfit { is_unfit ≡ not (initialisable (tags types.now) (type_at types.now of)) }
     ensures is { IfOk result (λ f. filling_in types.now f ≡ stored [] (begun_in (tags types.now) (initialisers_of (map initialiser_seen list.now)) (whole (tags types.now) (type_at types.now of))) false) }
     ensures within { IfOk result (IsFillingIn (length types.now.forms)) }
+    ensures entries { IfOk result (λ f. AreEntriesIn types.now f.waits.items) }
 {
     let at = object_place(of, is_unfit);
     Ok(Filling {

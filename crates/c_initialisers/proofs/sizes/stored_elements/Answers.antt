@@ -20,4 +20,4 @@ returns-else-is_empty c =
     let f = c.args.filling.now in
     let s = c.as_slice-waits.ensures in
     c.elements_begun.ensures t ∙ ap (λ l. elements_begun (waiting_in t l)) s.value
-    ∙ sym (begun_counts t f.waits.items (map (stored_in t) f.places.items) (c.if-is_empty.ensures ∙ ap (λ l. length l == 0) s.value))
+    ∙ sym (begun_counts t f.waits.items (map (stored_in t) f.places.items) c.requires.entries (c.if-is_empty.ensures ∙ ap (λ l. length l == 0) s.value))

@@ -11,10 +11,10 @@ use Rattle.c_check_expr.specs.AtNode.{Tells}
 use Rattle.c_check_expr.specs.Completed.{IsPassed}
 use Rattle.c_initialisers.specs.Listed.{value_in}
 use Rattle.c_initialisers.specs.Storing.{filling_in}
-use Rattle.c_initialisers.specs.StoresStay.{entries_later, waiting_stays}
 use Rattle.c_initialisers.specs.Waiting.{place_in}
 use Rattle.c_initialisers.proofs.Handed.{handed_on}
 use Rattle.c_initialisers.proofs.NodeFaults.{node_breaks, node_fine, node_told}
+use Rattle.c_initialisers.proofs.WaitsStay.{entries_later, waiting_stays}
 use Rattle.c_initialisers.proofs.PlacedValues.{standing_first, stored_same}
 use Rattle.c_initialisers.proofs.walk.placed.Goals as goal
 
@@ -48,7 +48,10 @@ returns-clause-ok c s t =
     let others = filling_in c.args.types.now c.args.others in
     node_fine s c.args.stands.0 (inner_node static (Value (Some at) v)) _ (standing_first c.standing.result static (Value (Some at) v) s None z.storage z.barred z.unfit (c.in_default.ensures s [] t))
     (subst (λ (ts : List Tag). passed_by ts (value_type v ∷ []) ≡ None) (sym t) k.passes)
-    ∙ ap (Fine s) (stored_same _ _ _ _ _ _ (sym k.stored) (sym (waiting_stays c.args.types.now c.store.new.types k.grows.extends c.args.others.waits.items c.requires.others.waits)) refl)
+    ∙ ap (Fine s) (stored_same _ _ _ _ _ _ (sym k.stored) (sym (waiting_stays c.args.types.now c.store.new.types k.grows.extends c.members_are_complete.ensures c.args.others.waits.items c.requires.entries)) refl)
 
 pub returns-clause-within : goal.returns-clause-within
-returns-clause-within c = record { places = c.in_ok-store.ensures.within; waits = entries_later c.args.types.now c.store.new.types c.in_ok-store.ensures.grows.extends c.args.others.waits.items c.requires.others.waits }
+returns-clause-within c = record { places = c.in_ok-store.ensures.within }
+
+pub returns-clause-entries : goal.returns-clause-entries
+returns-clause-entries c = entries_later c.args.types.now c.store.new.types c.in_ok-store.ensures.grows.extends c.members_are_complete.ensures c.args.others.waits.items c.requires.entries

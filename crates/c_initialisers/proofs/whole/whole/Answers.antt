@@ -68,7 +68,7 @@ returns-in_err-inner-in-List c =
     let r = c.from_residual-in_err-inner-in-List.result in
     let is = initialisers_of (map initialiser_seen c.as_slice-list.result.now) in
     whole_as o s u a b r i _ _ c.in-List.is (form_list c.in-List.list c.in-List.comma i.line ∙ ap (λ l. Braced i.line (initialisers_of (map initialiser_seen l)) c.in-List.comma) (sym c.as_slice-list.ensures))
-    (whole_list_stops s a o (not c.can_be_initialised.result) (ap not c.can_be_initialised.ensures) i.line is c.in-List.comma (record { is_static = c.args.object.is_static; is_scalar = c.is_scalar.result }) c.in_ok-begun-in-List.begun refl (c.is_scalar.ensures ∙ ap is_scalar (c.plain.ensures.means a)) c.in_ok-begun-in-List.ensures.is u b c.in_err-inner-in-List.field-0.0 r c.from_residual-in_err-inner-in-List.ensures.1 c.in_err-inner-in-List.ensures)
+    (whole_list_stops s a o (not c.can_be_initialised.result) (ap not c.can_be_initialised.ensures) i.line is c.in-List.comma (record { is_static = c.args.object.is_static; is_scalar = c.is_scalar.result }) c.in_ok-begun-in-List.begun refl (c.is_scalar.ensures ∙ ap is_scalar (c.plain.ensures.means a)) c.in_ok-begun-in-List.ensures.is u b c.in_err-inner-in-List.field-0.0 r c.from_residual-in_err-inner-in-List.ensures.1 c.in_err-inner-in-List.ensures.walks)
 
 pub returns-in_ok-inner-in-List : goal.returns-in_ok-inner-in-List
 returns-in_ok-inner-in-List c =
@@ -82,10 +82,10 @@ returns-in_ok-inner-in-List c =
     let r = c.close.result in
     let k = c.close.ensures in
     let z : Standing = record { is_static = c.args.object.is_static; is_barred = c.args.object.is_barred; is_unfit = not c.can_be_initialised.result } in
-    let same = object_stays a b c.args.object.of z c.in_ok-inner-in-List.ensures.keeps.extends c.requires.of in
+    let same = object_stays a b c.args.object.of z c.in_ok-inner-in-List.ensures.walks.keeps.extends c.requires.of in
     let v = filling_in b c.in_ok-inner-in-List.inner in
     let is = initialisers_of (map initialiser_seen c.as_slice-list.result.now) in
     whole_as o s u a d r i _ _ c.in-List.is (form_list c.in-List.list c.in-List.comma i.line ∙ ap (λ l. Braced i.line (initialisers_of (map initialiser_seen l)) c.in-List.comma) (sym c.as_slice-list.ensures))
-    (whole_list_goes s a o (not c.can_be_initialised.result) (ap not c.can_be_initialised.ensures) i.line is c.in-List.comma (record { is_static = c.args.object.is_static; is_scalar = c.is_scalar.result }) c.in_ok-begun-in-List.begun refl (c.is_scalar.ensures ∙ ap is_scalar (c.plain.ensures.means a)) c.in_ok-begun-in-List.ensures.is u b d c.in_ok-inner-in-List.inner r c.in_ok-inner-in-List.ensures k.grows
+    (whole_list_goes s a o (not c.can_be_initialised.result) (ap not c.can_be_initialised.ensures) i.line is c.in-List.comma (record { is_static = c.args.object.is_static; is_scalar = c.is_scalar.result }) c.in_ok-begun-in-List.begun refl (c.is_scalar.ensures ∙ ap is_scalar (c.plain.ensures.means a)) c.in_ok-begun-in-List.ensures.is u b d c.in_ok-inner-in-List.inner r c.in_ok-inner-in-List.ensures.walks k.grows
     (subst (λ (w : Initialised). IfOk r (λ f. (t : State) → t.tags ≡ tags b → whole_list t i.line w z.is_unfit v ≡ Fine t (filled_in d f))) same k.ok)
     (subst (λ (w : Initialised). IfErr r (λ e. (t : State) → t.tags ≡ tags b → Tells e (whole_list t i.line w z.is_unfit v))) same k.err) k.within)
