@@ -1,0 +1,3 @@
+pub mod StatementExamples
+pub mod DefinitionExamples
+pub mod EndExamples

@@ -1,0 +1,14 @@
+pub mod Marks
+pub mod Statements
+pub mod Bodies
+pub mod Definitions
+pub mod Functions
+pub mod Externals
+pub mod Ends
+pub mod Wholes
+pub mod Typing
+pub mod BodiesRelation
+pub mod UnitsRelation
+pub mod UnitNodes
+pub mod UnitSamples
+pub mod UnitExamples
