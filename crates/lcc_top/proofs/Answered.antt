@@ -43,15 +43,15 @@ known : (call : Call) (c d : Command) (input bytes : List ℕ) (Holds : Command 
 known call c d input bytes Holds asked words is holds =
     subst (λ x. Holds x bytes) (one_command d c call.words asked.words words) (subst (λ l. Holds d l) (read_input call input bytes asked.read is) holds)
 
-its_refusal : (c : Command) (call : Call) (bytes : List ℕ) (why : Refusal) → InputRefused call why → AreWordsOf c call.words → call.left ≡ Some bytes → Refuses c bytes why
+pub its_refusal : (c : Command) (call : Call) (bytes : List ℕ) (why : Refusal) → InputRefused call why → AreWordsOf c call.words → call.left ≡ Some bytes → Refuses c bytes why
 its_refusal c call bytes why h words is = known call c h.command h.input bytes (λ x l. Refuses x l why) h.asked words is h.refuses
 
-its_text : (c : Command) (call : Call) (bytes text : List ℕ) (d : Command) (input : List ℕ) (end : End) → Asked call d input → Writes d input end text → AreWordsOf c call.words → call.left ≡ Some bytes → Writes c bytes end text
+pub its_text : (c : Command) (call : Call) (bytes text : List ℕ) (d : Command) (input : List ℕ) (end : End) → Asked call d input → Writes d input end text → AreWordsOf c call.words → call.left ≡ Some bytes → Writes c bytes end text
 its_text c call bytes text d input end asked writes words is = known call c d input bytes (λ x l. Writes x l end text) asked words is writes
 
 -- ---- work that is done
 
-did : (c : Command) (call : Call) (bytes : List ℕ) (end : End) (report report_after : Option (List ℕ)) → Done call end → AreWordsOf c call.words → call.left ≡ Some bytes → Appends report report_after (line_of (outcome.Done end)) → HasDone c bytes call.taken call.taken_after report report_after (status_of (outcome.Done end))
+pub did : (c : Command) (call : Call) (bytes : List ℕ) (end : End) (report report_after : Option (List ℕ)) → Done call end → AreWordsOf c call.words → call.left ≡ Some bytes → Appends report report_after (line_of (outcome.Done end)) → HasDone c bytes call.taken call.taken_after report report_after (status_of (outcome.Done end))
 did c call bytes end report report_after h words is told =
     record { end = end; text = h.text; writes = its_text c call bytes h.text h.command h.input end h.asked h.writes words is; written = h.written; answered = refl; reported = told }
 

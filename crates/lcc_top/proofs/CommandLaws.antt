@@ -31,6 +31,7 @@ use Rattle.lcc_top.specs.RunWords.{AreSimrun}
 use Rattle.lcc_top.specs.Cover.{WritesCover, RefusesDescription, RefusesCover}
 use Rattle.lcc_top.specs.Tables.{WritesTables}
 use Rattle.lcc_top.specs.Simulation.{IsSimulation, RefusesAssembly, IsIdle, RefusesSimrun}
+use Rattle.lcc_top.specs.RunAnswer.{IsRunnable}
 use Rattle.lcc_top.specs.Compilation.{WritesRcc, RefusesRcc}
 use Rattle.lcc_top.specs.Commands.{AreWordsOf, Writes, Refuses, AreAccepted, IsSized}
 use Rattle.lcc_top.proofs.PartedOnce.{parted_once}
@@ -147,14 +148,19 @@ idle_apart : TextLaws → (assembly : List ℕ) (p : MAssembly) (main : ℕ) →
 idle_apart laws assembly p main is has (q, also, idle) =
     idle main (subst (λ (x : MAssembly). HasMain x main) (laws.one_program assembly p q is.text also.text) has)
 
-simrun_apart : TextLaws → (o : RunOptions) (input text : List ℕ) (end : End) (why : Refusal) → IsSimulation o input end text → RefusesSimrun input why → ⊥
-simrun_apart laws o input text end why s (assembly, bytes, parted, refuses) =
-    let same : assembly ≡ s.assembly = (parted_once input assembly bytes s.assembly s.bytes parted s.parted).0 in
+-- a program's text that has a code label main isn't refused
+pub runnable_apart : TextLaws → (input : List ℕ) (why : Refusal) → IsRunnable input → RefusesSimrun input why → ⊥
+runnable_apart laws input why r (assembly, bytes, parted, refuses) =
+    let same : assembly ≡ r.assembly = (parted_once input assembly bytes r.assembly r.bytes parted r.parted).0 in
     let Refused : List ℕ → Type 0 = λ a. RefusesAssembly a why ⊎ ((why ≡ refusal.NoMain) × IsIdle a) in
     elim (subst Refused same refuses) [
-      | inl (f, first, gives) ↦ laws.no_assembly_fault s.assembly s.program f s.is_assembly first
-      | inr (is, idle) ↦ idle_apart laws s.assembly s.program s.run.main s.is_assembly s.run.has_main idle
+      | inl (f, first, gives) ↦ laws.no_assembly_fault r.assembly r.program f r.is_assembly first
+      | inr (is, idle) ↦ idle_apart laws r.assembly r.program r.main r.is_assembly r.has_main idle
     ]
+
+simrun_apart : TextLaws → (o : RunOptions) (input text : List ℕ) (end : End) (why : Refusal) → IsSimulation o input end text → RefusesSimrun input why → ⊥
+simrun_apart laws o input text end why s refuses =
+    runnable_apart laws input why (record { assembly = s.assembly; bytes = s.bytes; parted = s.parted; program = s.program; is_assembly = s.is_assembly; main = s.run.main; has_main = s.run.has_main }) refuses
 
 -- a fault of assembly is told in one way
 told_once_of_assembly : (f g : AsmFault) (why other : Refusal) → f ≡ g → of_assembly f ≡ Refused why → of_assembly g ≡ Refused other → why ≡ other

@@ -13,6 +13,7 @@ pub mod Worked
 pub mod Answered
 pub mod Faults
 pub mod Headlines
+pub mod RunAnswers
 pub mod Assembled
 pub mod FirstRuns
 pub mod ClassWords

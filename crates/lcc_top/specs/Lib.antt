@@ -16,4 +16,5 @@ pub mod Work
 pub mod Call
 pub mod Answers
 pub mod Headline
+pub mod RunAnswer
 pub mod Printing

@@ -11,6 +11,7 @@ ghost use Rattle.lcc_top.specs.Compilation.{AreRcc};
 ghost use Rattle.lcc_top.specs.Commands.{AreWordsOf, Refuses, Accepts, AreAccepted};
 ghost use Rattle.lcc_top.specs.Call.{Call, IsCaused, IsReported, IsFree, NoFault};
 ghost use Rattle.lcc_top.specs.Answers.{IsEndStatus, HasDone, IsTold};
+ghost use Rattle.lcc_top.specs.RunAnswer.{IsRunnable, RunAnswer};
 ghost use Rattle.lcc_top.specs.Headline.{CoverHeadline, IsRunStatus, RunHeadline, CompilerHeadline};
 
 use crate::outcome::status;
@@ -71,6 +72,16 @@ pub fn top<S: Source, K: Sink, E: Sink>(
     ensures simrun_headline { (o : RunOptions) (bytes : List ℕ) → AreSimrun o (map string_bytes words.now) → S.left input.old ≡ Some bytes
         → IsRunStatus result
         → RunHeadline o bytes (K.taken output.old) (K.taken output.new) (E.taken report.old) (E.taken report.new) result }
+
+    // What `simrun` answers to a program's text with a label `main`: output, status and report are those of its run's end,
+    // or a write failed, or memory was wanted. A run that has begun doesn't want memory: where it is wanted neither the output nor
+    // the report took anything.
+    ensures simrun_answers { (o : RunOptions) (bytes : List ℕ) → AreSimrun o (map string_bytes words.now) → S.left input.old ≡ Some bytes
+        → length bytes ≤ 16777216 → IsRunnable bytes → NoFault (S.faults input.old) (S.faults input.new)
+        → RunAnswer o bytes (K.taken output.old) (K.taken output.new) (E.taken report.old) (E.taken report.new) result }
+    // Once the run has written, it ends with a status of its own, unless a write fails.
+    ensures simrun_begun { (o : RunOptions) → AreSimrun o (map string_bytes words.now) → (Keeps (K.taken output.old) (K.taken output.new) → ⊥)
+        → IsRunStatus result ⊎ (result ≡ Status.WriteFault) }
 
     // The headline of `rcc`, where the input tells what it had left.
     ensures compiler_headline { (bytes : List ℕ) → AreRcc (map string_bytes words.now) → S.left input.old ≡ Some bytes

@@ -4,9 +4,12 @@ use Rattle.lcc_top.specs.declared.status.Status.{Status}
 use Rattle.lcc_top.specs.declared.status.Status.TheVariants as status
 use Rattle.lcc_top.specs.Call.{IsFree}
 use Rattle.lcc_top.specs.Answers.{IsEndStatus, HasDone, IsTold}
+use Rattle.lcc_top.specs.Headline.{IsRunStatus}
+use Rattle.lcc_top.specs.RunAnswer.{RunAnswer}
 use Rattle.lcc_top.proofs.Answered.{has_done, done_or_memory, refused_kept, told_or_free}
 use Rattle.lcc_top.proofs.CommandLaws.{TextLaws}
 use Rattle.lcc_top.proofs.Faults.{input_kept, usage, too_long_or_free, fault_told, fault_of_input, fault_of_output, memory_kept}
+use Rattle.lcc_top.proofs.RunAnswers.{run_answer, run_untold, begun}
 use Rattle.lcc_top.proofs.Headlines.{cover_headline, run_headline, compiler_headline}
 use Rattle.lcc_top.proofs.calling.top.Goals as goal
 
@@ -20,6 +23,21 @@ returns-in-Ok-clause-cover_headline g c = λ bytes words is. cover_headline byte
 
 pub returns-in-Ok-clause-simrun_headline : goal.returns-in-Ok-clause-simrun_headline
 returns-in-Ok-clause-simrun_headline g c = λ o bytes words is. run_headline o bytes _ _ _ _ _ (returns-in-Ok-clause-done g c (Simrun o) bytes words is)
+
+pub returns-in-Ok-clause-simrun_answers : goal.returns-in-Ok-clause-simrun_answers
+returns-in-Ok-clause-simrun_answers g c = λ o bytes words is small runs fine.
+    (let laws : TextLaws = record { one_fault = c.one_fault.ensures.one; no_fault = c.one_fault.ensures.none; one_description = c.one_description.ensures; one_tree_fault = c.one_tree_fault.ensures.one; no_tree_fault = c.one_tree_fault.ensures.none; one_assembly_fault = c.one_fault-2.ensures.one; no_assembly_fault = c.one_fault-2.ensures.fine; one_program = c.one_program.ensures } in
+    let Answer : Status → Type 0 = λ s. RunAnswer o bytes (g.K.Sink.taken c.args.output.now) (g.K.Sink.taken c.run-outcome.new.output) (g.E.Sink.taken c.args.report.now) (g.E.Sink.taken c.write_line.new.report) s in
+    subst Answer (sym c.status.ensures) (run_answer laws o _ c.run-outcome.result bytes _ _ c.run-outcome.ensures.caused words is small runs fine c.in-Ok.ensures.all))
+
+pub returns-in-Err-clause-simrun_answers : goal.returns-in-Err-clause-simrun_answers
+returns-in-Err-clause-simrun_answers g c = λ o bytes words is small runs fine.
+    inr (inl (refl, run_untold o _ c.run-outcome.result bytes c.run-outcome.ensures.caused words is small runs fine))
+
+pub returns-in-Ok-clause-simrun_begun : goal.returns-in-Ok-clause-simrun_begun
+returns-in-Ok-clause-simrun_begun g c = λ o words moved.
+    (let Answer : Status → Type 0 = λ s. IsRunStatus s ⊎ (s ≡ status.WriteFault) in
+    subst Answer (sym c.status.ensures) (begun o _ c.run-outcome.result c.run-outcome.ensures.caused words moved))
 
 pub returns-in-Ok-clause-compiler_headline : goal.returns-in-Ok-clause-compiler_headline
 returns-in-Ok-clause-compiler_headline g c = λ bytes words is. compiler_headline bytes _ _ _ _ _ (returns-in-Ok-clause-done g c Rcc bytes words is)
