@@ -1,13 +1,12 @@
-//! Reading a case file, line by line.
+//! Reading a case file.
 use crate::case::{Case, Step};
-use case_files::{CaseFault, NamedText, Refused, bytes_of};
+use case_files::{CaseFault, CaseReader, Refused, read_file};
 use std::alloc::{AllocError, Global};
 
 /// Where in a case file the next line stands. The sections of a case are in their order.
 #[derive(Clone, Copy, Debug, PartialEq, Eq, PartialOrd, Ord)]
 enum Section {
-    Start,
-    Text,
+    Between,
     Name,
     Words,
     Input,
@@ -16,51 +15,19 @@ enum Section {
     Status,
 }
 
-impl Section {
-    /// Whether no case is open here.
-    fn is_between_cases(self) -> bool {
-        matches!(self, Section::Start | Section::Text | Section::Status)
-    }
-}
-
-/// What a case file has so far.
+/// The cases of a file so far.
 #[derive(Drop)]
 struct Reader {
     alloc: Global,
     section: Section,
     /// Whether the open step states its output.
     is_output_stated: bool,
-    texts: Vec<NamedText>,
     cases: Vec<Case>,
 }
 
 impl Reader {
-    fn new(alloc: Global) -> Self {
-        Reader {
-            alloc,
-            section: Section::Start,
-            is_output_stated: false,
-            texts: Vec::new(alloc),
-            cases: Vec::new(alloc),
-        }
-    }
-
-    fn begin_text(&mut self, name: &str) -> Result<(), CaseFault> {
-        if !self.section.is_between_cases() {
-            return Err(CaseFault::NoStatus);
-        }
-        self.texts.push(NamedText {
-            name: String::from_str(self.alloc, name)?,
-            bytes: Vec::new(self.alloc),
-        })?;
-        self.section = Section::Text;
-        Ok(())
-    }
-
     fn begin_case(&mut self, name: &str) -> Result<(), CaseFault> {
-        if !self.section.is_between_cases() {
-            return Err(CaseFault::NoStatus);
-        }
+        self.close()?;
         self.cases.push(Case {
             name: String::from_str(self.alloc, name)?,
             input: Vec::new(self.alloc),
@@ -145,15 +112,25 @@ impl Reader {
         }
         Ok(())
     }
+}
 
-    /// Adds bytes to the section that is open.
+impl CaseReader for Reader {
+    fn named(&mut self, word: &str, rest: &str) -> Result<(), CaseFault> {
+        match word {
+            "case" => self.begin_case(rest),
+            "words" => self.words(rest),
+            "word" => self.word(rest),
+            "input" => self.enter(Section::Input),
+            "output" => self.output(),
+            "report" => self.enter(Section::Report),
+            "status" => self.status(rest),
+            "then" => self.then(rest),
+            _ => Err(CaseFault::UnknownLine),
+        }
+    }
+
     fn add(&mut self, bytes: &[u8]) -> Result<(), CaseFault> {
         match self.section {
-            Section::Text => {
-                if let Some(text) = self.texts.last_mut() {
-                    text.bytes.extend_from_slice(bytes)?;
-                }
-            }
             Section::Input => {
                 if let Some(case) = self.cases.last_mut() {
                     case.input.extend_from_slice(bytes)?;
@@ -174,34 +151,13 @@ impl Reader {
         Ok(())
     }
 
-    /// Reads a line that begins with a word.
-    fn named(&mut self, word: &str, rest: &str) -> Result<(), CaseFault> {
-        match word {
-            "text" => self.begin_text(rest),
-            "case" => self.begin_case(rest),
-            "words" => self.words(rest),
-            "word" => self.word(rest),
-            "input" => self.enter(Section::Input),
-            "output" => self.output(),
-            "report" => self.enter(Section::Report),
-            "status" => self.status(rest),
-            "then" => self.then(rest),
-            _ => Err(CaseFault::UnknownLine),
-        }
-    }
-
-    /// Reads a line. An empty one is skipped, and so is a comment, which begins with `#`.
-    fn line(&mut self, line: &str) -> Result<(), CaseFault> {
-        if line.is_empty() || line.starts_with('#') {
-            return Ok(());
-        }
-        if line.starts_with(['|', '>', '%', '@', '*', '+']) {
-            let bytes = bytes_of(self.alloc, &self.texts, line)?;
-            return self.add(&bytes);
-        }
-        match line.split_once(' ') {
-            Some((word, rest)) => self.named(word, rest),
-            None => self.named(line, ""),
+    fn close(&mut self) -> Result<(), CaseFault> {
+        match self.section {
+            Section::Between | Section::Status => {
+                self.section = Section::Between;
+                Ok(())
+            }
+            _ => Err(CaseFault::NoStatus),
         }
     }
 }
@@ -232,26 +188,15 @@ fn split_words(alloc: Global, text: &str) -> Result<Vec<String>, AllocError> {
     Ok(words)
 }
 
-/// The cases of a file, in order, or the first fault. A case without a status is told at the line
-/// where another begins, or at the last.
+/// The cases of a file, in order, or the first fault.
 pub fn read_cases(alloc: Global, text: &str) -> Result<Vec<Case>, Refused> {
-    let mut reader = Reader::new(alloc);
-    let mut number = 0u64;
-    for line in text.lines() {
-        number = number.saturating_add(1);
-        if let Err(fault) = reader.line(line) {
-            return Err(Refused {
-                line: number,
-                fault,
-            });
-        }
-    }
-    if !reader.section.is_between_cases() {
-        return Err(Refused {
-            line: number,
-            fault: CaseFault::NoStatus,
-        });
-    }
+    let mut reader = Reader {
+        alloc,
+        section: Section::Between,
+        is_output_stated: false,
+        cases: Vec::new(alloc),
+    };
+    read_file(alloc, text, &mut reader)?;
     let Reader { cases, .. } = reader;
     Ok(cases)
 }

@@ -3,7 +3,7 @@ ghost use Rattle.std.specs.Prelude.{◌≤◌, length};
 
 use crate::case::Question;
 use crate::checking::{tell_checked, tell_linked};
-use crate::pieces::{tell_piece, tell_printed};
+use crate::pieces::{tell_piece, tell_printed, tell_unit};
 use crate::tokens::tell_tokens;
 use std::alloc::{AllocError, Global};
 
@@ -17,6 +17,7 @@ fn answer_short(alloc: Global, question: Question, source: &[u8]) -> Result<Stri
     match question {
         Question::Tokens => tell_tokens(alloc, source),
         Question::Piece(production) => tell_piece(alloc, production, source),
+        Question::Unit => tell_unit(alloc, source),
         Question::Printed => tell_printed(alloc, source),
         Question::Checked => tell_checked(alloc, source),
         Question::Linked => tell_linked(alloc, source),

@@ -12,8 +12,10 @@ pub struct Case {
 pub enum Question {
     /// Its tokens, and the fault behind them.
     Tokens,
-    /// Whether it is such a piece.
+    /// Whether such a piece stands at its beginning, and what is behind.
     Piece(Production),
+    /// Whether it is a unit.
+    Unit,
     /// The unit that it is, printed.
     Printed,
     /// What its declarations declare, and what its expressions are.
@@ -30,7 +32,6 @@ pub enum Production {
     Initialiser,
     Declaration,
     Statement,
-    Unit,
 }
 
 /// The question that words ask, if they do.
@@ -42,7 +43,7 @@ pub fn question_of(words: &str) -> Option<Question> {
         "initialiser" => Question::Piece(Production::Initialiser),
         "declaration" => Question::Piece(Production::Declaration),
         "statement" => Question::Piece(Production::Statement),
-        "unit" => Question::Piece(Production::Unit),
+        "unit" => Question::Unit,
         "printed" => Question::Printed,
         "checked" => Question::Checked,
         "linked" => Question::Linked,

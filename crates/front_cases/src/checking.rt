@@ -52,6 +52,26 @@ fn tell_declaration(
     }
 }
 
+/// What the next declaration declares, or its fault, and whether it has none.
+fn tell_next(
+    parser: &mut Parser,
+    scopes: &mut Scopes,
+    types: &mut TypeTable,
+    into: &mut String,
+) -> Result<bool, AllocError>
+    requires { AreSymbolsIn (length types.old.forms) scopes.old.symbols }
+    ensures { AreSymbolsIn (length types.new.forms) scopes.new.symbols }
+{
+    let alloc = parser.alloc();
+    match declaration(parser) {
+        Ok(d) => tell_declaration(alloc, scopes, types, &d, into),
+        Err(fault) => {
+            write!(into, "{fault}\n")?;
+            Ok(false)
+        }
+    }
+}
+
 /// The declarations up to what is none, or to the first fault, and whether there is none.
 fn tell_declarations(
     parser: &mut Parser,
@@ -66,17 +86,8 @@ fn tell_declarations(
         if !begins_specifier(parser) {
             return Ok(true);
         }
-        let alloc = parser.alloc();
-        match declaration(parser) {
-            Ok(d) => {
-                if !tell_declaration(alloc, scopes, types, &d, into)? {
-                    return Ok(false);
-                }
-            }
-            Err(fault) => {
-                write!(into, "{fault}\n")?;
-                return Ok(false);
-            }
+        if !tell_next(parser, scopes, types, into)? {
+            return Ok(false);
         }
     }
     Ok(true)
@@ -119,6 +130,23 @@ fn tell_checked_expression(
     }
 }
 
+/// The next expression's type and value, or its fault.
+fn tell_next_expression(
+    parser: &mut Parser,
+    scopes: &mut Scopes,
+    types: &mut TypeTable,
+    into: &mut String,
+) -> Result<(), AllocError>
+    requires { AreSymbolsIn (length types.old.forms) scopes.old.symbols }
+    ensures { AreSymbolsIn (length types.new.forms) scopes.new.symbols }
+{
+    let alloc = parser.alloc();
+    match parser.expression() {
+        Ok(e) => tell_checked_expression(alloc, scopes, types, &e, into),
+        Err(fault) => write!(into, "{fault}\n"),
+    }
+}
+
 /// The expressions up to the end of the source, or to what is none.
 fn tell_expressions(
     parser: &mut Parser,
@@ -132,10 +160,9 @@ fn tell_expressions(
         if parser.token().is_none() {
             return Ok(());
         }
-        let alloc = parser.alloc();
-        match parser.expression() {
-            Ok(e) => tell_checked_expression(alloc, scopes, types, &e, into)?,
-            Err(fault) => return write!(into, "{fault}\n"),
+        tell_next_expression(parser, scopes, types, into)?;
+        if parser.fault().is_some() {
+            return Ok(());
         }
         if !takes_sign(parser, SEMICOLON) {
             return write!(into, "no semicolon\n");
@@ -191,6 +218,15 @@ fn class_word(class: Storage) -> &'static str {
     }
 }
 
+/// Whether a symbol with this value is defined, or so tentatively.
+fn definition_word(value: Option<i64>) -> &'static str {
+    match value {
+        None => "declared",
+        Some(0) => "tentative",
+        Some(_) => "defined",
+    }
+}
+
 /// The symbol of all declarations of `x` that are linked: its class and type, and whether it is defined, or
 /// so tentatively.
 fn tell_symbol(into: &mut String, scopes: &Scopes, types: &TypeTable) -> Result<(), AllocError>
@@ -204,13 +240,26 @@ fn tell_symbol(into: &mut String, scopes: &Scopes, types: &TypeTable) -> Result<
     }
     let symbol = scopes.symbol(id);
     let class = class_word(symbol.class);
+    let defined = definition_word(symbol.value);
     write!(into, "{class} ")?;
     tell_type(into, types, symbol_type(scopes, types, id))?;
-    match symbol.value {
-        None => write!(into, " declared\n"),
-        Some(0) => write!(into, " tentative\n"),
-        Some(_) => write!(into, " defined\n"),
+    write!(into, " {defined}\n")
+}
+
+/// What all declarations of `x` come to, where they have no fault.
+fn tell_all_linked(
+    parser: &mut Parser,
+    scopes: &mut Scopes,
+    types: &mut TypeTable,
+    into: &mut String,
+) -> Result<(), AllocError>
+    requires { AreSymbolsIn (length types.old.forms) scopes.old.symbols }
+{
+    if !tell_declarations(parser, scopes, types, into)? {
+        return Ok(());
     }
+    into.clear();
+    tell_symbol(into, scopes, types)
 }
 
 /// What all declarations of `x` in a source come to.
@@ -222,12 +271,9 @@ pub fn tell_linked(alloc: Global, source: &[u8]) -> Result<String, AllocError>
     let Ok(mut scopes) = Scopes::new(alloc) else {
         return Ok(told);
     };
-    let Ok(mut parser) = Parser::new(alloc, source) else {
-        return Ok(told);
-    };
-    if tell_declarations(&mut parser, &mut scopes, &mut types, &mut told)? {
-        told.clear();
-        tell_symbol(&mut told, &scopes, &types)?;
+    match Parser::new(alloc, source) {
+        Ok(mut parser) => tell_all_linked(&mut parser, &mut scopes, &mut types, &mut told)?,
+        Err(fault) => write!(&mut told, "{fault}\n")?,
     }
     Ok(told)
 }

@@ -44,14 +44,20 @@ pub fn tell_type(into: &mut String, types: &TypeTable, id: TypeId) -> Result<(),
     }
 }
 
+/// Whether it is a string literal.
+fn is_text(value: &CoreExpr) -> bool {
+    matches!(value.what, CoreKind::Text(_) | CoreKind::Literal(_))
+}
+
 /// The value of an expression: a number where it is an integer constant expression, and else what its root is.
 fn tell_value(into: &mut String, value: &CoreExpr) -> Result<(), AllocError> {
     if let Some(number) = fold(value) {
         return write!(into, "{number}");
     }
-    match &value.what {
-        CoreKind::Text(_) | CoreKind::Literal(_) => write!(into, "text"),
-        _ => write!(into, "value"),
+    if is_text(value) {
+        write!(into, "text")
+    } else {
+        write!(into, "value")
     }
 }
 
@@ -132,8 +138,8 @@ fn tell_fill(into: &mut String, fill: &CoreStmt) -> Result<(), AllocError> {
 
 /// What a declaration declares.
 pub fn tell_declared(into: &mut String, what: &Declares) -> Result<(), AllocError> {
-    for object in what.objects.as_slice() {
-        tell_object(into, object)?;
+    for defined in what.objects.as_slice() {
+        tell_object(into, &defined.object)?;
     }
     if !what.locals.is_empty() {
         let many = what.locals.len();
