@@ -42,14 +42,14 @@ impl Scope {
     }
 
     /// How many names there are.
-    pub(crate) fn len(&self) -> usize
+    pub fn len(&self) -> usize
         ensures { result ≡ length self.now }
     {
         self.names.len()
     }
 
     /// The name that was declared with this many before it, and its symbol.
-    pub(crate) fn entry(&self, place: usize) -> (&[u8], SymbolId)
+    pub fn entry(&self, place: usize) -> (&[u8], SymbolId)
         requires { place < length self.now }
         ensures { slice_get self.now place ≡ Some (result.0.now, result.1) }
     {

@@ -170,6 +170,13 @@ impl Scopes {
         self.links.find(name)
     }
 
+    /// The names with linkage, in the order of their first declarations.
+    pub fn links(&self) -> &Scope
+        ensures { result.now ≡ self.now.links }
+    {
+        &self.links
+    }
+
     /// Each name has one of the symbols that were declared.
     pub fn names_are_declared(&self)
         ensures { IsDeclared self.now }
