@@ -205,34 +205,38 @@ copied_types s = map (λ (l : LocalAt). l.of) (all_copies (expressions s))
 
 -- ---- functions and objects
 
+abbrev pub whole_function : (ℕ → CoreKind) → List (List ℕ) → FunctionTree → FunctionTree
+whole_function meant texts f =
+    record {
+      name = f.name;
+      of = f.of;
+      parameters = f.parameters;
+      locals = f.locals ++ copied_types f.body;
+      body = placed_stmt (length f.locals) (whole_stmt meant texts f.body);
+    }
+
 abbrev pub whole_functions : (ℕ → CoreKind) → List (List ℕ) → List DefinedFunction → List FunctionTree
 whole_functions meant texts [] = []
-whole_functions meant texts (f ∷ fs) =
-    record {
-      name = f.function.name;
-      of = f.function.of;
-      parameters = f.function.parameters;
-      locals = f.function.locals ++ copied_types f.function.body;
-      body = placed_stmt (length f.function.locals) (whole_stmt meant texts f.function.body);
-    }
-    ∷ whole_functions meant texts fs
+whole_functions meant texts (f ∷ fs) = whole_function meant texts f.function ∷ whole_functions meant texts fs
 
 -- A static object of a block has behind its name a dot and its place among the objects, as no identifier has.
 abbrev pub whole_name : Bool → ℕ → List ℕ → List ℕ
 whole_name true place name = name
 whole_name false place name = name ++ codes "." ++ decimal place
 
+abbrev pub whole_object : (ℕ → CoreKind) → List (List ℕ) → Bool → ℕ → ObjectTree → ObjectTree
+whole_object meant texts linked place o =
+    record {
+      name = whole_name linked place o.name;
+      of = o.of;
+      line = o.line;
+      constant = o.constant;
+      places = whole_places meant texts o.places;
+    }
+
 abbrev pub whole_objects : State → (ℕ → CoreKind) → List (List ℕ) → ℕ → List Defined → List ObjectTree
 whole_objects s meant texts place [] = []
-whole_objects s meant texts place (o ∷ os) =
-    record {
-      name = whole_name (is_link s.links o.symbol) place o.object.name;
-      of = o.object.of;
-      line = o.object.line;
-      constant = o.object.constant;
-      places = whole_places meant texts o.object.places;
-    }
-    ∷ whole_objects s meant texts (suc place) os
+whole_objects s meant texts place (o ∷ os) = whole_object meant texts (is_link s.links o.symbol) place o.object ∷ whole_objects s meant texts (suc place) os
 
 abbrev pub main_from : ℕ → List DefinedFunction → ℕ
 main_from k [] = 0
