@@ -1,40 +1,18 @@
 -- What is told at the node of a declarator: what is told of its steps.
-use Rattle.std.proofs.Common.{◌≡◌, ℕ, Bool, true, false, List, [], ◌∷◌, refl, ap, ◌∙◌}
-use Rattle.std.specs.Prelude.{◌||◌, Option, Some, None, nat_lt, if◌then◌else◌}
-use Rattle.c_types.specs.CType.{CType, depth}
-use Rattle.c_types.specs.Layout.{Tag, extent}
-use Rattle.c_meaning.specs.Constraints.{Fault, Breaks, broken_or, extents, fault_at, formings, some_deep, some_large, some_many, some_nested}
+use Rattle.std.proofs.Common.{◌≡◌, ℕ, true, false, List, refl, ap, ◌∙◌}
+use Rattle.std.specs.Prelude.{Option, Some, None, if◌then◌else◌}
+use Rattle.c_types.specs.CType.{CType}
+use Rattle.c_types.specs.Layout.{Tag}
+use Rattle.c_meaning.specs.Constraints.{Fault, Breaks, broken_or, fault_at}
 use Rattle.c_meaning.specs.Nodes.{Node, Step, Typing, Declarator, ParameterDeclarator}
 use Rattle.c_meaning.specs.State.{State}
-use Rattle.c_meaning.specs.TypeConstraints.{is_taken, some_step}
-use Rattle.c_meaning.specs.TypeRows.{formed_by}
+use Rattle.c_meaning.specs.TypeConstraints.{is_taken}
 use Rattle.c_meaning.specs.Typing.{Fine, at, unless}
 use Rattle.c_values.specs.declared.check_fault.CheckFault.{CheckFault}
 use Rattle.c_values.specs.declared.check_fault.CheckFault.TheVariants.{Constraint, Limit, Memory}
 use Rattle.c_check_expr.specs.AtNode.{Tells}
-use Rattle.c_check_expr.specs.StepFaults.{IsFault, is_deep_step, is_large_step, is_many_step, steps_broken, steps_fault, steps_passed}
-
--- ---- limits of all types that are formed are those of the steps
-
-large_steps : (tags : List Tag) (t : CType) (ps : List Step) → some_large (extents tags (formings t ps)) ≡ some_step (is_large_step tags) t ps
-large_steps tags t [] = refl
-large_steps tags t (p ∷ ps) = rw (large_steps tags (formed_by p t) ps) refl
-
-both_or : (a x b y z : Bool) → (x || y) ≡ z → ((a || x) || (b || y)) ≡ ((a || b) || z)
-both_or true x b y z h = refl
-both_or false x false y z h = h
-both_or false true true y z h = refl
-both_or false false true y z h = refl
-
-deep_steps : (tags : List Tag) (t : CType) (ps : List Step) → (some_nested (extents tags (formings t ps)) || some_deep (formings t ps)) ≡ some_step (is_deep_step tags) t ps
-deep_steps tags t [] = refl
-deep_steps tags t (p ∷ ps) =
-    let u = formed_by p t in
-    both_or (nat_lt 500 (extent tags u).nesting) (some_nested (extents tags (formings u ps))) (nat_lt 500 (depth u)) (some_deep (formings u ps)) (some_step (is_deep_step tags) u ps) (deep_steps tags u ps)
-
-many_steps : (t : CType) (ps : List Step) → some_many ps ≡ some_step is_many_step t ps
-many_steps t [] = refl
-many_steps t (p ∷ ps) = rw (many_steps (formed_by p t) ps) refl
+use Rattle.c_check_expr.specs.StepFaults.{IsFault, steps_broken, steps_fault, steps_passed}
+use Rattle.c_check_expr.proofs.lemmas.StepLimits.{deep_steps, large_steps, many_steps}
 
 -- ---- the node
 

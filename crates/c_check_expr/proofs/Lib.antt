@@ -35,3 +35,4 @@ mod WalkParts
 mod WalkStays
 mod WalkTypes
 mod WalkViews
+pub mod lemmas

@@ -1,16 +1,17 @@
 //! Nodes of declarators: the types that their steps form (C89 3.5.4).
-ghost use Rattle.std.specs.Prelude.{◌≡◌, ◌<◌, None, length, IfOk, IfErr, OnOk};
+ghost use Rattle.std.specs.Prelude.{◌≡◌, ◌<◌, None, false, length, IfOk, IfErr, OnOk};
 ghost use Rattle.c_types.specs.Table.{Grows, Table, tags, type_at};
 ghost use Rattle.c_meaning.specs.Nodes as node;
 ghost use Rattle.c_meaning.specs.State.{State};
-ghost use Rattle.c_meaning.specs.TypeConstraints.{is_taken as is_name_taken};
+ghost use Rattle.c_meaning.specs.Constraints.{passed_fault};
+ghost use Rattle.c_meaning.specs.TypeConstraints.{is_bad_element, is_taken as is_name_taken, some_step};
 ghost use Rattle.c_meaning.specs.TypeRows.{formed};
 ghost use Rattle.c_meaning.specs.Typing.{Fine, at, shaped};
 ghost use Rattle.c_values.specs.declared.check_fault.CheckFault.TheVariants.{Limit};
 ghost use Rattle.c_check_expr.specs.AtNode.{Tells};
 ghost use Rattle.c_check_expr.specs.Known.{AreSymbolsIn, state_of};
 ghost use Rattle.c_check_expr.specs.PartsSeen.{AreStepsIn, shaped_seen, steps_seen};
-ghost use Rattle.c_check_expr.specs.StepFaults.{IsFault, steps_fault};
+ghost use Rattle.c_check_expr.specs.StepFaults.{IsFault, steps_fault, steps_passed};
 
 use crate::parts::{Declared, Shaped, Step};
 use crate::step_types::formed as all_formed;
@@ -93,6 +94,27 @@ fn checked(
     if let Some(number) = broken(types, base, steps) {
         return Err(CheckFault::Constraint { number, line });
     }
+    limited(alloc, types, line, base, steps)
+}
+
+/// The type that the steps form, at a declarator on this line, where no type that they form and no number of
+/// parameters passes a limit: a size before a depth before a number.
+pub fn limited(
+    alloc: Global,
+    types: &mut TypeTable,
+    line: u32,
+    base: TypeId,
+    steps: &[Step],
+) -> Result<TypeId, CheckFault>
+    requires base { base < length types.old.forms }
+    requires steps { AreStepsIn (length types.old.forms) steps.now }
+    requires elements { some_step (is_bad_element (tags types.old)) (type_at types.old base) (steps_seen types.old steps.now) ≡ false }
+    ensures ok { OnOk result (steps_passed (tags types.old) (type_at types.old base) (steps_seen types.old steps.now) ≡ None) }
+    ensures err { IfErr result (λ e. IsFault e (passed_fault line (steps_passed (tags types.old) (type_at types.old base) (steps_seen types.old steps.now)))) }
+    ensures means { IfOk result (λ id. type_at types.new id ≡ formed (type_at types.old base) (steps_seen types.old steps.now)) }
+    ensures within { IfOk result (λ id. id < length types.new.forms) }
+    ensures grows { Grows types.old types.new }
+{
     if is_large(types, base, steps) {
         return Err(limit(Which::Object, line));
     }

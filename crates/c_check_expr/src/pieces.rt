@@ -1,6 +1,6 @@
 //! Of what checkers of declarations and statements are made, beside whole expressions and declared types.
 
-pub use crate::declarators::shape;
+pub use crate::declarators::{limited, shape};
 pub use crate::declaring::{declare, level};
 pub use crate::outline::array_length;
 pub use crate::parameters::{ParameterSpot, adjusted, declare_parameter, is_other_class};
