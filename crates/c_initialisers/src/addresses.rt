@@ -199,7 +199,7 @@ fn pointer_address(types: &TypeTable, c: &CoreExpr) -> Option<Address>
 }
 
 /// Whether the value is an integer constant or an address constant.
-fn is_constant(types: &TypeTable, v: &CoreExpr) -> bool
+pub fn is_constant(types: &TypeTable, v: &CoreExpr) -> bool
     requires { IsIn (length types.now.forms) v.now }
     ensures { result ≡ static_value (tags types.now) (seen (type_at types.now) v.now) }
 {

@@ -11,6 +11,7 @@ mod kinds;
 mod nodes;
 mod opening;
 mod parts;
+pub mod pieces;
 mod place;
 mod placing;
 mod public;

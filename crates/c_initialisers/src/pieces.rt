@@ -1,0 +1,3 @@
+//! Of what checkers of units are made, beside whole initialisers.
+
+pub use crate::addresses::is_constant;
