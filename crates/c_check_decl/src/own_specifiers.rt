@@ -24,7 +24,7 @@ use c_values::CheckFault;
 use std::alloc::Global;
 
 /// Whether the first storage class means nothing at file scope.
-fn is_inner_class(classes: &[Storage]) -> bool
+pub fn is_inner_class(classes: &[Storage]) -> bool
     ensures { result ≡ stays_inside classes.now }
 {
     matches!(classes.first(), Some(Storage::Auto | Storage::Register))

@@ -9,5 +9,6 @@ pub use crate::linkage::{Linkage, given_linkage, is_linked, is_outside};
 pub use crate::linked::declare_name;
 pub use crate::name_faults::{is_declared_again, is_declared_otherwise};
 pub use crate::naming::Naming;
-pub use crate::own_specifiers::{inside, own_specifiers};
+pub use crate::own_specifiers::{inside, is_inner_class, own_specifiers};
 pub use crate::walk::{declaration, declares_something};
+pub use crate::whole_faults::{is_defined, is_typedef};

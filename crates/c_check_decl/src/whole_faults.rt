@@ -15,7 +15,7 @@ use c_types::{TypeId, TypeTable};
 use c_values::kinds;
 
 /// Whether the declaration names a type.
-pub(crate) fn is_typedef(class: Option<Storage>) -> bool
+pub fn is_typedef(class: Option<Storage>) -> bool
     ensures { result ≡ typedefs class }
 {
     class == Some(Storage::Typedef)
@@ -34,7 +34,7 @@ fn differs(scopes: &Scopes, types: &TypeTable, of: TypeId, id: Option<SymbolId>)
 }
 
 /// Whether what the symbol stands for was defined.
-fn is_defined(scopes: &Scopes, id: Option<SymbolId>) -> bool
+pub fn is_defined(scopes: &Scopes, id: Option<SymbolId>) -> bool
     ensures { (t : Table) → result ≡ was_defined (state_of scopes.now t) id }
 {
     match id {
