@@ -12,4 +12,6 @@ pub mod Sound
 pub mod SoundStatements
 pub mod SoundCalls
 pub mod SoundRuns
+pub mod Locals
+pub mod Passed
 pub mod Tame

@@ -180,7 +180,7 @@ assigned_sound n purpose tags of os from to h = copied_sound n purpose os from t
 
 -- ---- tests and changes
 
-abbrev part : CoreTree → (ℕ → World → Result) → Part
+abbrev pub part : CoreTree → (ℕ → World → Result) → Part
 part c act = record { tree = c; does = act }
 
 pub asked_act : (u : UnitTree) (m : ℕ) (c : CoreTree) (act : ℕ → World → Result) (line : ℕ) → SoundAct u m act → SoundAct u m (λ k w. asked (part c act) line k w)
@@ -310,7 +310,7 @@ result_sound : (n : ℕ) (b : Bool) (locals : List Value) (m : ℕ) → EachIs (
 result_sound n true locals m h = each_get (IsSoundValue n) locals m h
 result_sound n false locals m h = tt
 
-arguments_more : (m n : ℕ) (xs : List Argument) → m ≤ n → EachIs (IsSoundArgument m) xs → EachIs (IsSoundArgument n) xs
+pub arguments_more : (m n : ℕ) (xs : List Argument) → m ≤ n → EachIs (IsSoundArgument m) xs → EachIs (IsSoundArgument n) xs
 arguments_more m n xs l h = each_of (IsSoundArgument m) (IsSoundArgument n) xs (λ a. value_more m n a.value l) h
 
 value_calls : (s : Setting) → CallsSound s.unit s.calls → (n : ℕ) (v : Value) (xs : List Argument) (of : CType) (m line : ℕ) → EachIs (IsSoundArgument n) xs → SoundAct s.unit n (λ k w. call_value s v (call_of xs of (result_place of w.locals m) line w) line k w)

@@ -1,6 +1,6 @@
 -- Calls and runs keep worlds sound.
 use Rattle.std.specs.Prelude.{◌≡◌, ◌≤◌, ℕ, ◌+◌, ◌==◌, zero, suc, Bool, true, false, Option, Some, None, IfSome, List, [], ◌∷◌, ◌++◌, length, take, drop, replicate, slice_get, Result as Checked, Ok, Err, refl}
-use Rattle.std.proofs.Common.{ap, sym, ◌∙◌, arith, append_assoc, append-nil}
+use Rattle.std.proofs.Common.{ap, sym, subst, ◌∙◌, arith, append_assoc, append-nil}
 use Rattle.lcc_base.specs.declared.cause.Cause.{Cause}
 use Rattle.lcc_base.specs.declared.order.Order.{Order}
 use Rattle.lcc_base.specs.Traces.{Opened, Closed}
@@ -27,7 +27,7 @@ use Rattle.c_runs.specs.Calls.{Argument, Call, Setting, with_parameter, with_par
 use Rattle.c_runs.specs.Statements.{Start, exec}
 use Rattle.c_runs.specs.Run.{setting, body_run, function_run, called, calls_below, call, context}
 use Rattle.c_meaning.specs.Numbers.{IsText}
-use Rattle.c_runs.specs.Soundness.{IsSoundValue, IsSoundByte, IsSoundObject, IsSoundEvent, IsSound, IsSoundHow, Keeps, Outline, outline, outlines, declared, IsTameFunction, IsTameUnit, EvalStaysSound, ExecStaysSound}
+use Rattle.c_runs.specs.Soundness.{IsSoundValue, IsSoundByte, IsSoundObject, IsSoundEvent, IsSound, IsSoundHow, Keeps, Outline, outline, outlines, declared, IsTameFunction, IsTameUnit, EvalStaysSound, ExecStaysSound, CopiesStaySound}
 use Rattle.c_runs.proofs.Each.{each_get, each_append, each_of, each_take, each_replicate}
 use Rattle.c_runs.proofs.SoundValues.{IfOk, Changed, value_more, object_more, converted_sound, scalar_bytes_sound}
 use Rattle.c_runs.proofs.Sound.{Sound, changed_world, fine_one, assigned_sound, IsSoundArgument, IsSoundCall, CallsSound, eval_act}
@@ -49,7 +49,7 @@ flagged_same [] place constant = refl
 flagged_same (x ∷ xs) zero constant = refl
 flagged_same (x ∷ xs) (suc n) constant = ap (λ zs. outline x ∷ zs) (flagged_same xs n constant)
 
-through_same : (os : List Object) (p : Value) (constant : Bool) → outlines (flagged_through os p constant) ≡ outlines os
+pub through_same : (os : List Object) (p : Value) (constant : Bool) → outlines (flagged_through os p constant) ≡ outlines os
 through_same os (Pointer o x) constant = flagged_same os o.place constant
 through_same os (Number n) constant = refl
 through_same os (Function f) constant = refl
@@ -150,18 +150,18 @@ parameter_sound u order old t a go h g k w s e =
     (λ x sx. let bytes : List (Byte Value) = scalar_bytes order (scalar_of t).width x in
     g k (with_local (is_const t) bytes w) (local_sound u w (is_const t) bytes s (scalar_bytes_sound (m + 1) order (scalar_of t).width x (value_more m (m + 1) x (omega arith) sx))) (local_extends old w (is_const t) bytes e)))
 
-parameters_sound : (u : UnitTree) (order : Order) (old : World) (ts : List CType) (xs : List Argument) (go : ℕ → World → Out) → EachIs (IsSoundArgument old.storage.made) xs → GoesOn u old go → GoesOn u old (λ k w. with_parameters u.tags order ts xs k w go)
+pub parameters_sound : (u : UnitTree) (order : Order) (old : World) (ts : List CType) (xs : List Argument) (go : ℕ → World → Out) → EachIs (IsSoundArgument old.storage.made) xs → GoesOn u old go → GoesOn u old (λ k w. with_parameters u.tags order ts xs k w go)
 parameters_sound u order old [] xs go h g k w s e = g k w s e
 parameters_sound u order old (t ∷ ts) [] go h g k w s e = record { by = (tt, s) }
 parameters_sound u order old (t ∷ ts) (a ∷ xs) go h g k w s e = parameter_sound u order old t a _ h.0 (parameters_sound u order old ts xs go h.1 g) k w s e
 
-locals_sound : (u : UnitTree) (tags : List Tag) (old : World) (ts : List CType) (w : World) → IsSound u w → Extends old w → IsSound u (with_locals tags ts w) × Extends old (with_locals tags ts w)
+pub locals_sound : (u : UnitTree) (tags : List Tag) (old : World) (ts : List CType) (w : World) → IsSound u w → Extends old w → IsSound u (with_locals tags ts w) × Extends old (with_locals tags ts w)
 locals_sound u tags old [] w s e = (s, e)
 locals_sound u tags old (t ∷ ts) w s e =
     let bytes : List (Byte Value) = replicate (size_of tags t) unknown_byte in
     locals_sound u tags old ts (with_local (is_const t) bytes w) (local_sound u w (is_const t) bytes s (each_replicate (IsSoundByte (w.storage.made + 1)) (size_of tags t) unknown_byte (omega arith, omega arith))) (local_extends old w (is_const t) bytes e)
 
-entered_sound : (u : UnitTree) (w : World) (number : ℕ) → IsSound u w → IsSound u (entered (Opened number) w) × Extends w (entered (Opened number) w)
+pub entered_sound : (u : UnitTree) (w : World) (number : ℕ) → IsSound u w → IsSound u (entered (Opened number) w) × Extends w (entered (Opened number) w)
 entered_sound u w number s = (
   record { own = s.own; others = s.others; live = s.live; objects = s.objects; locals = tt; input = s.input; trace = each_append IsSoundEvent w.trace (Opened number ∷ []) s.trace (tt, tt) },
   record { made = omega arith; rest = []; lives = sym (append-nil (outlines (objects w))) },
@@ -252,3 +252,9 @@ eval_sound u order c k w t h s = ((eval_act (context u order) (call_sound u orde
 pub exec_sound : ExecStaysSound
 unfolding context
 exec_sound u order x e k w t h s = ((exec_act (context u order) (call_sound u order t) t.texts x e h).by k w (omega arith) s).by
+
+fine_is : {A : Type 0} (P : A → Type 0) (c : Checked A Cause) (a : A) → c ≡ Ok a → IfOk P c → P a
+fine_is P c a e h = let g : IfOk P (Ok a) = subst (λ x. IfOk P x) e h in g
+
+pub copies_stay_sound : CopiesStaySound
+copies_stay_sound u purpose of from to w os s e = changed_world u w os s (fine_is (Changed w.storage.made (objects w)) (assigned purpose u.tags of (objects w) from to) os e (assigned_sound w.storage.made purpose u.tags of (objects w) from to s.objects))

@@ -10,6 +10,7 @@ pub mod Run
 pub mod Room
 pub mod Laws
 pub mod Soundness
+pub mod Locals
 pub mod RowExamples
 pub mod Samples
 pub mod CauseExamples
@@ -17,4 +18,5 @@ pub mod ExpressionExamples
 pub mod StatementExamples
 pub mod CallExamples
 pub mod CountExamples
+pub mod LocalExamples
 pub mod RunExamples

@@ -1,9 +1,10 @@
 -- What every world of a run keeps: numbers are words, bytes are bytes, names were made, and what lives keeps its size.
-use Rattle.std.specs.Prelude.{◌≡◌, ◌≤◌, ◌<◌, ◌^◌, ℕ, ◌+◌, IfSome, Option, List, [], ◌∷◌, ◌++◌, length, map}
+use Rattle.std.specs.Prelude.{◌≡◌, ◌≤◌, ◌<◌, ◌^◌, ℕ, ◌+◌, IfSome, Option, Some, List, [], ◌∷◌, ◌++◌, length, map, slice_get, Ok}
 use Rattle.lcc_base.specs.declared.order.Order.{Order}
 use Rattle.lcc_base.specs.Traces.{Event, Wrote, Opened, Closed}
 use Rattle.objects.specs.declared.byte.Byte.{Byte}
 use Rattle.objects.specs.declared.byte.Byte.TheVariants.{Bits, Part}
+use Rattle.objects.specs.declared.purpose.Purpose.{Purpose}
 use Rattle.objects.specs.declared.value.Value.{Value}
 use Rattle.objects.specs.declared.value.Value.TheVariants.{Number, Pointer, Function}
 use Rattle.objects.specs.Objects.{Object}
@@ -16,9 +17,9 @@ use Rattle.c_meaning.specs.Each.{EachIs, EachKind, EachKinds, EachExpr, EachExpr
 use Rattle.c_meaning.specs.Numbers.{IsByte, IsText}
 use Rattle.c_meaning.specs.Units.{CoreUnit, FunctionTree, ObjectTree, UnitTree, IsUnit, IsWhole, unit_seen}
 use Rattle.c_meaning.specs.Values.{CoreTree, CoreTrees}
-use Rattle.c_runs.specs.Worlds.{World}
+use Rattle.c_runs.specs.Worlds.{World, with_objects}
 use Rattle.c_runs.specs.Outcomes.{How, Undefined, OutOfTurns, Exit, Result, Gives, GivesNone, Ends, Out, Next, Break, Continue, Return, Goto, Over}
-use Rattle.c_runs.specs.Places.{size_of}
+use Rattle.c_runs.specs.Places.{size_of, assigned}
 use Rattle.c_runs.specs.Expressions.{eval}
 use Rattle.c_runs.specs.Statements.{Entry, exec}
 use Rattle.c_runs.specs.Run.{context, run_tree, run}
@@ -85,6 +86,23 @@ pub record Keeps (old w : World) : Type 0 where
   pub made : old.storage.made ≤ w.storage.made
   pub lives : outlines w.storage.objects ≡ outlines old.storage.objects
   pub locals : w.locals ≡ old.locals
+
+-- ---- the objects of the running call's locals
+
+-- a pointer to the first byte of an object of so many bytes, which is among these
+abbrev pub IsObjectOf : List Outline → ℕ → Value → Type 0
+IsObjectOf lives size (Pointer name offset) = (offset ≡ 0) × ((name.size ≡ size) × (slice_get lives name.place ≡ Some (record { made = name.made; size = size })))
+IsObjectOf lives size v = ⊥
+
+-- one for each of these types, in order, of the size that the type has
+abbrev pub AreObjectsOf : List Tag → List Outline → List CType → List Value → Type 0
+AreObjectsOf tags lives [] [] = Unit {0}
+AreObjectsOf tags lives (t ∷ ts) (v ∷ vs) = IsObjectOf lives (size_of tags t) v × AreObjectsOf tags lives ts vs
+AreObjectsOf tags lives ts vs = ⊥
+
+-- the running call's locals are these: each is an object that lives, and no other is there
+abbrev pub AreLocalsOf : List Tag → List CType → World → Type 0
+AreLocalsOf tags ts w = AreObjectsOf tags (outlines w.storage.objects) ts w.locals
 
 -- ---- outcomes
 
@@ -158,6 +176,12 @@ abbrev pub ExecStaysSound : Type 0
 ExecStaysSound =
     (u : UnitTree) (order : Order) (s : StmtOf CType) (e : Entry) (k : ℕ) (w : World) → IsTameUnit u → IsTameStmt s → IsSound u w
     → IsSoundOut u w (exec (context u order) s e k w)
+
+-- a structure copied, as calls do between their arguments
+abbrev pub CopiesStaySound : Type 0
+CopiesStaySound =
+    (u : UnitTree) (purpose : Purpose) (of : CType) (from to : Value) (w : World) (os : List Object)
+    → IsSound u w → assigned purpose u.tags of w.storage.objects from to ≡ Ok os → IsSound u (with_objects w os) × Keeps w (with_objects w os)
 
 -- a whole run, from an input of bytes
 abbrev pub RunStaysSound : Type 0

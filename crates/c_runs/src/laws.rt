@@ -1,5 +1,6 @@
 ghost use Rattle.c_runs.specs.Laws.{LoopIs, JumpIs, CallIs, EvalFalls, ExecFalls, EvalGrows, ExecGrows, RunsGoFurther, OutputsGrow, DepthsGrow, CallsStandAlone};
-ghost use Rattle.c_runs.specs.Soundness.{EvalStaysSound, ExecStaysSound, RunStaysSound, UnitsAreTame, CoreStaysSound};
+ghost use Rattle.c_runs.specs.Soundness.{EvalStaysSound, ExecStaysSound, CopiesStaySound, RunStaysSound, UnitsAreTame, CoreStaysSound};
+ghost use Rattle.c_runs.specs.Locals.{BodiesStart, EntriesMakeLocals, EntriesStaySound, FittingIsPassed, CheckedCallsHaveLocals, BodiesKeepLocals, CallsPassCopies, LocalsAreKept, CopiesAreKept, LocalIsObject};
 
 /// A loop is its own repetition, with the turns that it leaves; so is a block that catches gotos, and
 /// a call runs the body of its function among the same calls.
@@ -38,11 +39,28 @@ pub fn calls_stand_alone()
 /// In every run of a checked unit numbers stay words, and bytes bytes; each pointer's object was made, and
 /// the pointer stays in it; what lives keeps its size; and the running call keeps its objects. Of units,
 /// expressions and statements this is so wherever numbers are words, bit-fields lie in their units, and
-/// texts are of bytes, as they do in each checked unit.
+/// texts are of bytes, as they do in each checked unit; and of a structure that is copied always.
 pub fn runs_stay_sound()
     ensures expressions { EvalStaysSound }
     ensures statements { ExecStaysSound }
+    ensures copies { CopiesStaySound }
     ensures runs { RunStaysSound }
     ensures units { UnitsAreTame }
     ensures checked { CoreStaysSound }
+{}
+
+/// In a call's body each local of its function is an object that lives, with the size of its type, where
+/// the parameters are scalars or whole structures, as a checked function's are, and each structure is passed
+/// as a copy, as calls in such a body do. What expressions and statements keep is enough for it to stay so.
+pub fn locals_are_objects()
+    ensures starts { BodiesStart }
+    ensures entries { EntriesMakeLocals }
+    ensures sound { EntriesStaySound }
+    ensures fitting { FittingIsPassed }
+    ensures checked { CheckedCallsHaveLocals }
+    ensures returns { BodiesKeepLocals }
+    ensures calls { CallsPassCopies }
+    ensures kept { LocalsAreKept }
+    ensures copies { CopiesAreKept }
+    ensures each { LocalIsObject }
 {}

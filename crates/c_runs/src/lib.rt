@@ -4,6 +4,6 @@
 mod laws;
 
 pub use laws::{
-    calls_stand_alone, runs_go_further, runs_stay_sound, traces_grow, turns_are_repetitions,
-    turns_fall,
+    calls_stand_alone, locals_are_objects, runs_go_further, runs_stay_sound, traces_grow,
+    turns_are_repetitions, turns_fall,
 };

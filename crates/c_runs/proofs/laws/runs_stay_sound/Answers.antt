@@ -1,4 +1,4 @@
-use Rattle.c_runs.proofs.SoundCalls.{eval_sound, exec_sound}
+use Rattle.c_runs.proofs.SoundCalls.{eval_sound, exec_sound, copies_stay_sound}
 use Rattle.c_runs.proofs.SoundRuns.{run_sound, core_sound}
 use Rattle.c_runs.proofs.Tame.{units_are_tame}
 use Rattle.c_runs.proofs.laws.runs_stay_sound.Goals as goal
@@ -17,3 +17,6 @@ returns-clause-units c = units_are_tame
 
 pub returns-clause-checked : goal.returns-clause-checked
 returns-clause-checked c = core_sound
+
+pub returns-clause-copies : goal.returns-clause-copies
+returns-clause-copies c = copies_stay_sound
