@@ -1,0 +1,4 @@
+pub mod Growing
+pub mod Sound
+pub mod Laws
+pub mod FitLawExamples

@@ -1,0 +1,22 @@
+ghost use Rattle.c_fits.specs.Laws.{DeclaredFollows, FittingStays, NamedFollows, NothingIsSound, TypedFits, TypedFollows, TypedValueFits};
+
+/// Each expression of the grammar that typing accepts, where what is known is sound, has the operands and the type
+/// that its kind promises; so has its value.
+pub fn typed_expressions_fit()
+    ensures expressions { TypedFits }
+    ensures values { TypedValueFits }
+{}
+
+/// What is known where a unit begins is sound; and so it is behind an expression, a type name or a declarator that
+/// typing accepts, where it was so before: a structure or union is defined once, and no symbol becomes another one.
+pub fn typing_keeps_what_is_sound()
+    ensures start { NothingIsSound }
+    ensures expressions { TypedFollows }
+    ensures names { NamedFollows }
+    ensures declared { DeclaredFollows }
+{}
+
+/// What fits does so still where further structures and unions are defined.
+pub fn fitting_stays()
+    ensures expressions { FittingStays }
+{}
