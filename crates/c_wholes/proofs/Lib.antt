@@ -1,0 +1,10 @@
+mod Layers
+mod OnceLists
+mod LiteralTrees
+mod KindTrees
+mod PlacedParts
+mod Loops
+mod WholeCopies
+mod PlacedStmts
+mod PlacedLists
+mod WholeParts

@@ -1,0 +1,4 @@
+pub mod TextLists
+pub mod Kinds
+pub mod Literals
+pub mod Placing
