@@ -1,0 +1,15 @@
+mod AtPlaces
+mod ByStandings
+mod CalledNames
+mod FaultsTold
+mod FirstTypes
+mod Firsts
+mod Missing
+mod OverTypes
+mod PartsStay
+mod PastPlaces
+mod SameUses
+mod Shapes
+mod TentativeNames
+mod TypeLists
+mod WholeNames

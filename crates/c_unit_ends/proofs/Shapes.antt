@@ -1,0 +1,23 @@
+-- What each checked statement is as a tree.
+use Rattle.std.proofs.Common.{◌≡◌, ℕ, Option, List, sym, ap, ◌∙◌}
+use Rattle.std.specs.Global.{Box}
+use Rattle.c_meaning.specs.CoreTrees.{CoreOf}
+use Rattle.c_meaning.specs.declared.core_stmt.CoreCase.{CoreCase}
+use Rattle.c_meaning.specs.declared.core_stmt.CoreStmt.{CoreStmt, CoreStmt-F, fold-roll-CoreStmt}
+use Rattle.c_meaning.specs.declared.core_stmt.CoreStmt.TheVariants as stmt
+use Rattle.c_meaning.specs.StmtTrees.{StmtOf, If, While, Do, For, Switch, stmt_layer, stmt_of}
+
+pub is_if : (e : CoreOf ℕ) (s u : Box CoreStmt) → stmt_of (stmt.If e s u) ≡ If e (stmt_of s.value) (stmt_of u.value)
+is_if e s u = ap stmt_of (sym (stmt.rolls-If e s u)) ∙ fold-roll-CoreStmt (StmtOf ℕ) stmt_layer (CoreStmt-F.If e s u)
+
+pub is_while : (e : CoreOf ℕ) (s : Box CoreStmt) → stmt_of (stmt.While e s) ≡ While e (stmt_of s.value)
+is_while e s = ap stmt_of (sym (stmt.rolls-While e s)) ∙ fold-roll-CoreStmt (StmtOf ℕ) stmt_layer (CoreStmt-F.While e s)
+
+pub is_do : (s : Box CoreStmt) (e : CoreOf ℕ) → stmt_of (stmt.Do s e) ≡ Do (stmt_of s.value) e
+is_do s e = ap stmt_of (sym (stmt.rolls-Do s e)) ∙ fold-roll-CoreStmt (StmtOf ℕ) stmt_layer (CoreStmt-F.Do s e)
+
+pub is_for : (x y z : Option (CoreOf ℕ)) (s : Box CoreStmt) → stmt_of (stmt.For x y z s) ≡ For x y z (stmt_of s.value)
+is_for x y z s = ap stmt_of (sym (stmt.rolls-For x y z s)) ∙ fold-roll-CoreStmt (StmtOf ℕ) stmt_layer (CoreStmt-F.For x y z s)
+
+pub is_switch : (e : CoreOf ℕ) (cases : List CoreCase) (default : Option ℕ) (s : Box CoreStmt) → stmt_of (stmt.Switch e cases default s) ≡ Switch e cases default (stmt_of s.value)
+is_switch e cases default s = ap stmt_of (sym (stmt.rolls-Switch e cases default s)) ∙ fold-roll-CoreStmt (StmtOf ℕ) stmt_layer (CoreStmt-F.Switch e cases default s)

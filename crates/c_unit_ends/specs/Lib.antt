@@ -1,0 +1,7 @@
+pub mod BuiltIns
+pub mod MainFunction
+pub mod NameFaults
+pub mod Over
+pub mod Standing
+pub mod TentativeObjects
+pub mod Uses
