@@ -1,0 +1,6 @@
+mod Shapes
+mod NodeEnds
+mod ExpressionLeaves
+mod Readiness
+mod SpotParts
+mod PartEnds
