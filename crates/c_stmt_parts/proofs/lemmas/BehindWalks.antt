@@ -1,44 +1,38 @@
 -- `do` and `if` with `else`: what is typed behind their first statement.
-use Rattle.std.proofs.Common.{◌≡◌, ℕ, ◌<◌, length, refl, sym, ap, ◌∙◌, subst}
+use Rattle.std.proofs.Common.{◌≡◌, ℕ, ◌<◌, length, refl, sym, ap, ◌∙◌}
 use Rattle.std.specs.Prelude.{Result, Ok, Err, IsErrAnd}
-use Rattle.std.specs.Global.{Box}
 use Rattle.c_ast.specs.Trees.{ExprTree, StatementTree, Do, IfElse}
 use Rattle.c_symbols.specs.Scoping.{Scoping}
 use Rattle.c_types.specs.CType.{CType}
-use Rattle.c_types.specs.Table.{Table, Grows}
+use Rattle.c_types.specs.Table.{Table}
 use Rattle.c_meaning.specs.CoreTrees.{CoreOf, IsIn}
 use Rattle.c_meaning.specs.State.{State}
-use Rattle.c_meaning.specs.StmtTrees.{StmtOf, IsStmtIn, stmt_of}
+use Rattle.c_meaning.specs.StmtTrees.{StmtOf}
 use Rattle.c_meaning.specs.StmtTrees as code
 use Rattle.c_meaning.specs.Typing.{Outcome, Fine, then_do, typed}
 use Rattle.c_meaning.specs.Values.{CoreTree, value}
 use Rattle.c_meaning.specs.declared.core_stmt.CoreStmt.{CoreStmt}
-use Rattle.c_meaning.specs.declared.core_stmt.CoreStmt.TheVariants as stmt
-use Rattle.c_values.specs.Stays.{extends_on, seen_stays}
+use Rattle.c_values.specs.Stays.{seen_stays}
 use Rattle.c_values.specs.declared.check_fault.CheckFault.{CheckFault}
-use Rattle.c_values.specs.declared.check_fault.CheckFault.TheVariants.{Memory}
-use Rattle.c_check_expr.specs.Kept.{below_later, keeps_grown, keeps_on}
+use Rattle.c_check_expr.specs.Kept.{below_later}
 use Rattle.c_check_expr.specs.Known.{AreSymbolsIn, state_of}
 use Rattle.c_check_expr.specs.TypedIn.{expr_in}
-use Rattle.c_check_expr.specs.Walking.{memory_stops}
 use Rattle.c_check_expr.specs.Walks.{Walks, core}
 use Rattle.c_check_decl.specs.Declares.{stmt_in}
-use Rattle.c_check_decl.specs.StmtsStay.{stmt_later, stmt_stays}
 use Rattle.c_units.specs.Bodies.{Typed, Within as WithinTrees, at_stmt, done, in_loop, on_code, typed_stmt}
-use Rattle.c_units.specs.Statements.{Around as AroundTrees, StmtNode}
+use Rattle.c_units.specs.Statements.{Around as AroundTrees}
 use Rattle.c_units.specs.Statements as node
 use Rattle.c_stmt_parts.specs.declared.around.Within.{Within}
 use Rattle.c_stmt_parts.specs.declared.body.Body.{Body}
-use Rattle.c_stmt_parts.specs.Asked.{IsSound, IsToldAt}
 use Rattle.c_stmt_parts.specs.BodiesSeen.{IsBodyIn, body_in, within_in}
 use Rattle.c_stmt_parts.specs.BodiesStay.{body_stays, within_stays}
-use Rattle.c_stmt_parts.specs.StatementsIn.{IsCodeIn, WalksStmt, code_in, statement_in, with_body}
-use Rattle.c_stmt_parts.proofs.lemmas.StatementNodes.{do_code, do_code_within, do_is, if_else_code, if_else_is, if_else_within}
-use Rattle.c_stmt_parts.proofs.lemmas.StatementWalks.{Parts, inner_goes, inner_stops, kept_on, part_stops, parts_go, parts_stop_inside, parts_told, single_goes, single_stops, single_told, walk_nothing, with_err}
+use Rattle.c_stmt_parts.specs.StatementsIn.{WalksStmt, code_in, statement_in}
+use Rattle.c_stmt_parts.proofs.lemmas.StatementNodes.{do_is, if_else_is}
+use Rattle.c_stmt_parts.proofs.lemmas.StatementWalks.{Parts, inner_goes, inner_stops, part_stops, parts_stop_inside, single_stops, walk_nothing}
 
 -- ---- `do`
 
-abbrev test_behind : ℕ → ExprTree → State → ℕ → Typed (StmtOf CType) → Outcome (Typed (StmtOf CType))
+abbrev pub test_behind : ℕ → ExprTree → State → ℕ → Typed (StmtOf CType) → Outcome (Typed (StmtOf CType))
 test_behind line e u n t = then_do (typed u e) (λ v c. at_stmt v line (node.Test c) (on_code (λ x. code.Do x (value c)) t))
 
 module _ (w : Within) (around inner : AroundTrees) (loop : inner ≡ in_loop around) (s : Scoping) (a : Table) (x : Body) (line : ℕ) (e : ExprTree) (st : StatementTree) (known : AreSymbolsIn (length a.forms) s.symbols) (below : w.result < length a.forms) where
@@ -52,35 +46,22 @@ module _ (w : Within) (around inner : AroundTrees) (loop : inner ≡ in_loop aro
   do_stops y r h p = inner_stops do_start w inner (λ n. body_in a x) st (test_behind line e) (do_is (within_in a w) around s a (body_in a x) line e st inner loop) x below (walk_nothing s a known) refl y r h p
 
   module _ {u : Scoping} {c : Table} (y : Body) (inside : CoreStmt) (second : WalksStmt (statement_in (within_in a w) inner s a (body_in a x) st) s a u c y (Ok inside)) where
-    abbrev do_rest : Outcome (Typed (StmtOf CType))
+    abbrev pub do_rest : Outcome (Typed (StmtOf CType))
     do_rest = test_behind line e (state_of u c) 0 (code_in c (y, inside))
 
-    do_behind : {z : Scoping} {q : Table} (v : Body) (r : Result CoreStmt CheckFault) → WalksStmt do_rest u c z q v r → WalksStmt do_tree s a z q v r
+    pub do_behind : {z : Scoping} {q : Table} (v : Body) (r : Result CoreStmt CheckFault) → WalksStmt do_rest u c z q v r → WalksStmt do_tree s a z q v r
     do_behind v r p = inner_goes do_start w inner (λ n. body_in a x) st (test_behind line e) (do_is (within_in a w) around s a (body_in a x) line e st inner loop) x below (walk_nothing s a known) refl y v inside r second refl p
 
-    do_rest_is : do_rest ≡ then_do (expr_in u c e) (λ v k. at_stmt v line (node.Test k) (on_code (λ x. code.Do x (value k)) (code_in c (y, inside))))
+    pub do_rest_is : do_rest ≡ then_do (expr_in u c e) (λ v k. at_stmt v line (node.Test k) (on_code (λ x. code.Do x (value k)) (code_in c (y, inside))))
     unfolding expr_in
     do_rest_is = refl
 
     pub do_stops_behind : {z : Scoping} {q : Table} {d : CheckFault} (r : Result CoreStmt CheckFault) → IsErrAnd r (λ y. y ≡ d) → Walks core IsIn (expr_in u c e) u c z q (Err d) → WalksStmt do_tree s a z q y r
     do_stops_behind r h p = do_behind y r (single_stops (expr_in u c e) line (λ k. node.Test k) (λ k. on_code (λ x. code.Do x (value k)) (code_in c (y, inside))) do_rest_is y r h p)
 
-    module _ {z : Scoping} {t : Table} {v : CoreOf ℕ} (third : Walks core IsIn (expr_in u c e) u c z t (Ok v)) where
-      pub do_told : {q : Table} (d : CheckFault) (r : Result CoreStmt CheckFault) → IsErrAnd r (λ y. y ≡ d) → Grows t q → IsToldAt t line (node.Test (core t v)) d → WalksStmt do_tree s a z q y r
-      do_told d r h g told = do_behind y r (single_told (expr_in u c e) line (λ k. node.Test k) (λ k. on_code (λ x. code.Do x (value k)) (code_in c (y, inside))) do_rest_is third d y r h g told)
-
-      pub do_memory : {q : Table} (r : Result CoreStmt CheckFault) → IsErrAnd r (λ d. d ≡ Memory) → Grows t q → WalksStmt do_tree s a z q y r
-      do_memory {q = q} r h g = memory_stops code_in IsCodeIn do_tree s z a q (with_body y r) (with_err _ y r h) (keeps_on s z z a t q (kept_on second third) (keeps_grown z t q third.keeps.symbols g))
-
-      pub do_goes : {q : Table} (test : CoreOf ℕ) (b : Box CoreStmt) → Grows t q → IsSound t line (node.Test (core t v)) → core q test ≡ value (core t v) → IsIn (length q.forms) test → b.value ≡ inside → WalksStmt do_tree s a z q y (Ok (stmt.Do b test))
-      do_goes {q = q} test b g sound e1 i e2 =
-          let h = extends_on c t q third.keeps.extends g.extends in
-          do_behind y (Ok (stmt.Do b test)) (single_goes (expr_in u c e) line (λ k. node.Test k) (λ k. on_code (λ x. code.Do x (value k)) (code_in c (y, inside))) do_rest_is third y (stmt.Do b test) g sound
-          (do_code c q h y inside second.within (value (core t v)) test b e1 e2) (do_code_within c q h y inside second.within test b i e2))
-
 -- ---- `if` with `else`
 
-abbrev else_behind : WithinTrees → AroundTrees → ℕ → StatementTree → State → CoreTree → Typed (StmtOf CType) → Outcome (Typed (StmtOf CType))
+abbrev pub else_behind : WithinTrees → AroundTrees → ℕ → StatementTree → State → CoreTree → Typed (StmtOf CType) → Outcome (Typed (StmtOf CType))
 else_behind f around line other u c t = then_do (typed_stmt f around u t.body other) (λ v x. at_stmt v line (node.Test c) (done x.body (code.If (value c) t.code x.code)))
 
 module _ (w : Within) (around : AroundTrees) (s : Scoping) (a : Table) (x : Body) (line : ℕ) (e : ExprTree) (st other : StatementTree) (below : w.result < length a.forms) (within : IsBodyIn (length a.forms) x) where
@@ -98,16 +79,16 @@ module _ (w : Within) (around : AroundTrees) (s : Scoping) (a : Table) (x : Body
     if_stops_inside y r h p = inner_stops (expr_in s a e) w around (λ n. body_in a x) st (else_behind (within_in a w) around line other) if_is x below first (body_stays a t first.keeps.extends x within) y r h p
 
     module _ {u : Scoping} {c : Table} (y : Body) (inside : CoreStmt) (second : WalksStmt (statement_in (within_in t w) around m t (body_in t x) st) m t u c y (Ok inside)) where
-      same : core c v ≡ core t v
+      pub same : core c v ≡ core t v
       same = seen_stays t c second.keeps.extends v first.within
 
-      else_behind_first : {z : Scoping} {q : Table} (k : Body) (r : Result CoreStmt CheckFault) → WalksStmt (else_behind (within_in a w) around line other (state_of u c) (core c v) (code_in c (y, inside))) u c z q k r → WalksStmt if_tree s a z q k r
+      pub else_behind_first : {z : Scoping} {q : Table} (k : Body) (r : Result CoreStmt CheckFault) → WalksStmt (else_behind (within_in a w) around line other (state_of u c) (core c v) (code_in c (y, inside))) u c z q k r → WalksStmt if_tree s a z q k r
       else_behind_first k r p = inner_goes (expr_in s a e) w around (λ n. body_in a x) st (else_behind (within_in a w) around line other) if_is x below first (body_stays a t first.keeps.extends x within) y k inside r second same p
 
-      later : w.result < length c.forms
+      pub later : w.result < length c.forms
       later = below_later t c second.keeps.extends w.result (below_later a t first.keeps.extends w.result below)
 
-      abbrev else_parts : Parts ℕ w c (else_behind (within_in a w) around line other (state_of u c) (core c v) (code_in c (y, inside)))
+      abbrev pub else_parts : Parts ℕ w c (else_behind (within_in a w) around line other (state_of u c) (core c v) (code_in c (y, inside)))
       else_parts =
           record {
             o = Fine (state_of u c) 0;
@@ -123,20 +104,3 @@ module _ (w : Within) (around : AroundTrees) (s : Scoping) (a : Table) (x : Body
 
       pub if_stops_behind : {z : Scoping} {q : Table} {d : CheckFault} (k : Body) (r : Result CoreStmt CheckFault) → IsErrAnd r (λ y. y ≡ d) → WalksStmt (statement_in (within_in c w) around u c (body_in c y) other) u c z q k (Err d) → WalksStmt if_tree s a z q k r
       if_stops_behind k r h p = else_behind_first k r (parts_stop_inside else_parts y later (walk_nothing u c second.keeps.symbols) refl k r h p)
-
-      module _ {z : Scoping} {d : Table} (k : Body) (otherwise : CoreStmt) (third : WalksStmt (statement_in (within_in c w) around u c (body_in c y) other) u c z d k (Ok otherwise)) where
-        same_behind : core d v ≡ core c v
-        same_behind = seen_stays t d (extends_on t c d second.keeps.extends third.keeps.extends) v first.within ∙ sym same
-
-        pub if_told : {q : Table} (f : CheckFault) (r : Result CoreStmt CheckFault) → IsErrAnd r (λ y. y ≡ f) → Grows d q → IsToldAt d line (node.Test (core d v)) f → WalksStmt if_tree s a z q k r
-        if_told f r h g told = else_behind_first k r (parts_told else_parts y later (walk_nothing u c second.keeps.symbols) refl k otherwise third refl f k r h g (subst (λ n. IsToldAt d line (node.Test n) f) same_behind told))
-
-        pub if_memory : {q : Table} (r : Result CoreStmt CheckFault) → IsErrAnd r (λ d. d ≡ Memory) → Grows d q → WalksStmt if_tree s a z q k r
-        if_memory {q = q} r h g = memory_stops code_in IsCodeIn if_tree s z a q (with_body k r) (with_err _ k r h) (keeps_on s z z a d q (keeps_on s u z a c d (kept_on first second) third.keeps) (keeps_grown z d q third.keeps.symbols g))
-
-        pub if_goes : {q : Table} (test : CoreOf ℕ) (b o : Box CoreStmt) → Grows d q → IsSound d line (node.Test (core d v)) → core q test ≡ value (core d v) → IsIn (length q.forms) test → b.value ≡ inside → o.value ≡ otherwise → WalksStmt if_tree s a z q k (Ok (stmt.If test b o))
-        if_goes {q = q} test b o g sound e1 i e2 e3 =
-            let h = extends_on c d q third.keeps.extends g.extends in
-            else_behind_first k (Ok (stmt.If test b o)) (parts_go else_parts y later (walk_nothing u c second.keeps.symbols) refl k otherwise third refl k (stmt.If test b o) g (subst (λ n. IsSound d line (node.Test n)) same_behind sound)
-            (if_else_code d q g.extends k otherwise third.within (value (core c v)) test b o (stmt_in c inside) (e1 ∙ ap value same_behind) (ap (stmt_in q) e2 ∙ stmt_stays c q h (stmt_of inside) second.within.1) e3)
-            (if_else_within d q g.extends k otherwise third.within test b o i (subst (λ x. IsStmtIn (length q.forms) (stmt_of x)) (sym e2) (stmt_later c q h (stmt_of inside) second.within.1)) e3))

@@ -9,8 +9,7 @@ use Rattle.c_meaning.specs.CoreTrees.{CoreOf, IsIn}
 use Rattle.c_meaning.specs.StmtTrees.{StmtOf, IsSomeIn, IsStmtIn, stmt_of, stmt_seen}
 use Rattle.c_meaning.specs.StmtTrees as code
 use Rattle.c_meaning.specs.Typing.{Fine, then_do, typed}
-use Rattle.c_meaning.specs.Values.{CoreTree, promoted_value, value}
-use Rattle.c_meaning.specs.declared.core_stmt.CoreCase.{CoreCase}
+use Rattle.c_meaning.specs.Values.{CoreTree, value}
 use Rattle.c_meaning.specs.declared.core_stmt.CoreStmt.{CoreStmt}
 use Rattle.c_meaning.specs.declared.core_stmt.CoreStmt.TheVariants as stmt
 use Rattle.c_check_expr.specs.Known.{state_of}
@@ -19,7 +18,7 @@ use Rattle.c_check_expr.specs.Walks.{core}
 use Rattle.c_check_decl.specs.Declares.{stmt_in}
 use Rattle.c_check_decl.specs.StmtsStay.{stmt_later, stmt_stays}
 use Rattle.c_units.specs.Bodies.{Body as BodyTrees, Within as WithinTrees, at_stmt, done, goto, in_loop, in_switch, is_case_again, is_default_again, labelled, marked, maybe_value, on_code, returned, stands_again, switched, typed_stmt, with_case, with_cases, with_default}
-use Rattle.c_units.specs.Statements.{Around as AroundTrees, StmtNode}
+use Rattle.c_units.specs.Statements.{Around as AroundTrees}
 use Rattle.c_units.specs.Statements as node
 use Rattle.c_stmt_parts.specs.declared.around.Within.{Within}
 use Rattle.c_stmt_parts.specs.declared.body.Body.{Body}
@@ -27,7 +26,7 @@ use Rattle.c_stmt_parts.specs.Asked.{maybe_core}
 use Rattle.c_stmt_parts.specs.Heads.{Heads, head_typed_in}
 use Rattle.c_stmt_parts.specs.BodiesSeen.{IsBodyIn, body_in, within_in}
 use Rattle.c_stmt_parts.specs.BodiesStay.{body_later, body_stays}
-use Rattle.c_stmt_parts.specs.StatementLayers.{do_seen, do_within, expression_seen, expression_within, for_seen, for_within, if_seen, if_within, label_seen, label_within, nothing_seen, nothing_within, return_seen, return_within, switch_seen, switch_within, while_seen, while_within}
+use Rattle.c_stmt_parts.specs.StatementLayers.{expression_seen, expression_within, return_seen, return_within}
 use Rattle.c_stmt_parts.specs.StatementsIn.{IsCodeIn, code_in, statement_in}
 use Rattle.c_stmt_parts.proofs.lemmas.HeadWalks.{head_then}
 use Rattle.c_stmt_parts.proofs.lemmas.StatementWalks.{Parts}
@@ -36,12 +35,6 @@ use Rattle.c_stmt_parts.proofs.lemmas.StatementWalks.{Parts}
 
 done_same : {b d : BodyTrees} {s u : StmtOf CType} → b ≡ d → s ≡ u → done b s ≡ done d u
 done_same h k = rw (h, k) refl
-
-two_same : {A B C : Type 0} (f : A → B → C) {x y : A} {z w : B} → x ≡ y → z ≡ w → f x z ≡ f y w
-two_same f h k = rw (h, k) refl
-
-three_same : {A B C D : Type 0} (f : A → B → C → D) {x y : A} {z w : B} {p q : C} → x ≡ y → z ≡ w → p ≡ q → f x z p ≡ f y w q
-three_same f h k l = rw (h, k, l) refl
 
 -- what a function has is seen the same over the later table
 pub beside : (c q : Table) → Extends c q → (y : Body) (full : CoreStmt) (tree : StmtOf CType) → IsBodyIn (length c.forms) y → stmt_in q full ≡ tree → done (body_in c y) tree ≡ code_in q (y, full)
@@ -177,58 +170,7 @@ module _ (w : Within) (around : AroundTrees) (s : Scoping) (a : Table) (x : Body
         is = for_is (within_in a w) around s a (body_in a x) line st inner x1 x2 x3 k;
       }
 
--- ---- what they become
-
-module _ (c q : Table) (h : Extends c q) (y : Body) (inside : CoreStmt) (i : IsCodeIn (length c.forms) (y, inside)) where
-  pub while_code : (v : CoreTree) (test : CoreOf ℕ) (b : Box CoreStmt) → core q test ≡ v → b.value ≡ inside → on_code (code.While v) (code_in c (y, inside)) ≡ code_in q (y, stmt.While test b)
-  while_code v test b k l = beside c q h y (stmt.While test b) (code.While v (stmt_in c inside)) i.0 (while_seen q test b ∙ two_same code.While k (in_box c q h inside b i.1 l))
-
-  pub while_code_within : (test : CoreOf ℕ) (b : Box CoreStmt) → IsIn (length q.forms) test → b.value ≡ inside → IsCodeIn (length q.forms) (y, stmt.While test b)
-  while_code_within test b k l = (body_later c q h y i.0, while_within (length q.forms) test b k (box_later c q h inside b i.1 l))
-
-  pub do_code : (v : CoreTree) (test : CoreOf ℕ) (b : Box CoreStmt) → core q test ≡ v → b.value ≡ inside → on_code (λ x. code.Do x v) (code_in c (y, inside)) ≡ code_in q (y, stmt.Do b test)
-  do_code v test b k l = beside c q h y (stmt.Do b test) (code.Do (stmt_in c inside) v) i.0 (do_seen q b test ∙ two_same code.Do (in_box c q h inside b i.1 l) k)
-
-  pub do_code_within : (test : CoreOf ℕ) (b : Box CoreStmt) → IsIn (length q.forms) test → b.value ≡ inside → IsCodeIn (length q.forms) (y, stmt.Do b test)
-  do_code_within test b k l = (body_later c q h y i.0, do_within (length q.forms) b test (box_later c q h inside b i.1 l) k)
-
-  pub if_code : (v : CoreTree) (test : CoreOf ℕ) (b o : Box CoreStmt) → core q test ≡ v → b.value ≡ inside → o.value ≡ stmt.Nothing → done (body_in c y) (code.If v (stmt_in c inside) code.Nothing) ≡ code_in q (y, stmt.If test b o)
-  if_code v test b o k l n = beside c q h y (stmt.If test b o) (code.If v (stmt_in c inside) code.Nothing) i.0 (if_seen q test b o ∙ three_same code.If k (in_box c q h inside b i.1 l) (ap (stmt_in q) n ∙ nothing_seen q))
-
-  pub if_code_within : (test : CoreOf ℕ) (b o : Box CoreStmt) → IsIn (length q.forms) test → b.value ≡ inside → o.value ≡ stmt.Nothing → IsCodeIn (length q.forms) (y, stmt.If test b o)
-  if_code_within test b o k l n = (body_later c q h y i.0, if_within (length q.forms) test b o k (box_later c q h inside b i.1 l) (subst (λ v. IsStmtIn (length q.forms) (stmt_of v)) (sym n) (nothing_within (length q.forms))))
-
-  -- an `if` with `else`: the other branch is that behind
-  pub if_else_code : (v : CoreTree) (test : CoreOf ℕ) (b o : Box CoreStmt) (tree : StmtOf CType) → core q test ≡ v → stmt_in q b.value ≡ tree → o.value ≡ inside → done (body_in c y) (code.If v tree (stmt_in c inside)) ≡ code_in q (y, stmt.If test b o)
-  if_else_code v test b o tree k l n = beside c q h y (stmt.If test b o) (code.If v tree (stmt_in c inside)) i.0 (if_seen q test b o ∙ three_same code.If k l (in_box c q h inside o i.1 n))
-
-  pub if_else_within : (test : CoreOf ℕ) (b o : Box CoreStmt) → IsIn (length q.forms) test → IsStmtIn (length q.forms) (stmt_of b.value) → o.value ≡ inside → IsCodeIn (length q.forms) (y, stmt.If test b o)
-  if_else_within test b o k l n = (body_later c q h y i.0, if_within (length q.forms) test b o k l (box_later c q h inside o i.1 n))
-
-  pub labelled_code : (marks label : ℕ) (b : Box CoreStmt) → label ≡ marks → b.value ≡ inside → done (body_in c y) (code.Label marks (stmt_in c inside)) ≡ code_in q (y, stmt.Label label b)
-  labelled_code marks label b k l = beside c q h y (stmt.Label label b) (code.Label marks (stmt_in c inside)) i.0 (label_seen q label b ∙ two_same code.Label k (in_box c q h inside b i.1 l))
-
-  pub labelled_code_within : (label : ℕ) (b : Box CoreStmt) → b.value ≡ inside → IsCodeIn (length q.forms) (y, stmt.Label label b)
-  labelled_code_within label b l = (body_later c q h y i.0, label_within (length q.forms) label b (box_later c q h inside b i.1 l))
-
-  pub for_code : (v1 v2 v3 : Option CoreTree) (x1 x2 x3 : Option (CoreOf ℕ)) (b : Box CoreStmt) → maybe_core q x1 ≡ v1 → maybe_core q x2 ≡ v2 → maybe_core q x3 ≡ v3 → b.value ≡ inside → on_code (code.For v1 v2 v3) (code_in c (y, inside)) ≡ code_in q (y, stmt.For x1 x2 x3 b)
-  for_code v1 v2 v3 x1 x2 x3 b k l m n =
-      beside c q h y (stmt.For x1 x2 x3 b) (code.For v1 v2 v3 (stmt_in c inside)) i.0
-      (for_seen q x1 x2 x3 b ∙ three_same (λ x1 x2 x3. code.For x1 x2 x3 (stmt_in q b.value)) k l m ∙ ap (code.For v1 v2 v3) (in_box c q h inside b i.1 n))
-
-  pub for_code_within : (x1 x2 x3 : Option (CoreOf ℕ)) (b : Box CoreStmt) → IsSomeIn (length q.forms) x1 → IsSomeIn (length q.forms) x2 → IsSomeIn (length q.forms) x3 → b.value ≡ inside → IsCodeIn (length q.forms) (y, stmt.For x1 x2 x3 b)
-  for_code_within x1 x2 x3 b k l m n = (body_later c q h y i.0, for_within (length q.forms) x1 x2 x3 b k l m (box_later c q h inside b i.1 n))
-
-  -- behind a switch those around have their cases again
-  pub switch_code : (before : BodyTrees) (v : CoreTree) (z : Body) (value : CoreOf ℕ) (cases : List CoreCase) (default : Option ℕ) (b : Box CoreStmt) → core q value ≡ promoted_value v → body_in c z ≡ with_cases before.cases before.default (body_in c y) → IsBodyIn (length c.forms) z
-      → cases ≡ y.cases → default ≡ y.default → b.value ≡ inside → done (with_cases before.cases before.default (body_in c y)) (code.Switch (promoted_value v) y.cases y.default (stmt_in c inside)) ≡ code_in q (z, stmt.Switch value cases default b)
-  switch_code before v z value cases default b k e j l m n =
-      ap (λ x. done x (code.Switch (promoted_value v) y.cases y.default (stmt_in c inside))) (sym e)
-      ∙ beside c q h z (stmt.Switch value cases default b) (code.Switch (promoted_value v) y.cases y.default (stmt_in c inside)) j
-      (switch_seen q value cases default b ∙ three_same (λ x y z. code.Switch x y z (stmt_in q b.value)) k l m ∙ ap (code.Switch (promoted_value v) y.cases y.default) (in_box c q h inside b i.1 n))
-
-  pub switch_code_within : (z : Body) (value : CoreOf ℕ) (cases : List CoreCase) (default : Option ℕ) (b : Box CoreStmt) → IsIn (length q.forms) value → IsBodyIn (length c.forms) z → b.value ≡ inside → IsCodeIn (length q.forms) (z, stmt.Switch value cases default b)
-  switch_code_within z value cases default b k j n = (body_later c q h z j, switch_within (length q.forms) value cases default b k (box_later c q h inside b i.1 n))
+-- ---- what those without a statement become
 
 module _ (a q : Table) (h : Extends a q) (x : Body) (i : IsBodyIn (length a.forms) x) where
   pub expression_code : (v : CoreTree) (e : CoreOf ℕ) → core q e ≡ v → done (body_in a x) (code.Expression v) ≡ code_in q (x, stmt.Expression e)

@@ -17,7 +17,7 @@ use Rattle.c_check_expr.specs.Kept.{keeps_grown, keeps_on}
 use Rattle.c_check_expr.specs.Known.{AreSymbolsIn, state_of}
 use Rattle.c_check_expr.specs.StepFaults.{IsFault}
 use Rattle.c_check_expr.specs.SymbolsStay.{state_stays}
-use Rattle.c_check_expr.specs.Walking.{both_go, first_stops, memory_stops, passed, second_stops, walk_as, walk_none, walk_then}
+use Rattle.c_check_expr.specs.Walking.{both_go, first_stops, passed, second_stops, walk_as, walk_none, walk_then}
 use Rattle.c_check_expr.specs.Walks.{Walks}
 use Rattle.c_units.specs.Bodies.{Body as BodyTrees, Typed, Within as WithinTrees, at_stmt, typed_stmt}
 use Rattle.c_units.specs.Statements.{Around as AroundTrees, StmtNode, stmt_fault}
@@ -125,10 +125,6 @@ module _ {V T : Type 0} {view : Table → V → T} {IsPart : ℕ → V → Type 
 
       pub parts_go : {q : Table} (z : Body) (full : CoreStmt) → Grows c q → IsSound c k.line (k.node (view c v)) → k.make (view c v) (code_in c (y, code)) ≡ code_in q (z, full) → IsCodeIn (length q.forms) (z, full) → WalksStmt whole s a u q z (Ok full)
       parts_go z full g sound e i = inner_goes k.o w k.inner k.before k.st (λ u x t. at_stmt u k.line (k.node x) (k.make x t)) k.is x below first started y z code (Ok full) second same (node_fine k.line (k.node (view c v)) (k.make (view c v) (code_in c (y, code))) z full second.keeps.symbols g sound e i)
-
-      -- want of memory behind the node
-      pub parts_memory : {q : Table} (z : Body) (r : Result CoreStmt CheckFault) → IsErrAnd r (λ d. d ≡ Memory) → Grows c q → WalksStmt whole s a u q z r
-      parts_memory {q = q} z r h g = memory_stops code_in IsCodeIn whole s u a q (with_body z r) (with_err _ z r h) (keeps_on s u u a c q (kept_on first second) (keeps_grown u c q second.keeps.symbols g))
 
 -- ---- a part and its node, without a statement
 
