@@ -6,30 +6,29 @@ use Rattle.c_symbols.specs.Scoping.{Scoping}
 use Rattle.c_types.specs.CType.{CType}
 use Rattle.c_types.specs.Table.{Table}
 use Rattle.c_meaning.specs.CoreTrees.{CoreOf, IsIn}
-use Rattle.c_meaning.specs.State.{State}
 use Rattle.c_meaning.specs.StmtTrees.{StmtOf, stmt_of}
 use Rattle.c_meaning.specs.StmtTrees as code
-use Rattle.c_meaning.specs.Typing.{Outcome, Fine, then_do, typed}
-use Rattle.c_meaning.specs.Values.{CoreTree, value}
+use Rattle.c_meaning.specs.Typing.{Outcome, then_do}
+use Rattle.c_meaning.specs.Values.{value}
 use Rattle.c_meaning.specs.declared.core_stmt.CoreStmt.{CoreStmt}
 use Rattle.c_values.specs.Stays.{extends_on, seen_stays}
 use Rattle.c_values.specs.declared.check_fault.CheckFault.{CheckFault}
-use Rattle.c_check_expr.specs.Kept.{below_later}
-use Rattle.c_check_expr.specs.Known.{AreSymbolsIn, state_of}
+use Rattle.c_check_expr.specs.Known.{AreSymbolsIn}
 use Rattle.c_check_expr.specs.TypedIn.{expr_in}
 use Rattle.c_check_expr.specs.Walks.{Walks, core}
 use Rattle.c_check_decl.specs.Declares.{stmt_in}
 use Rattle.c_check_decl.specs.StmtsStay.{stmt_stays}
-use Rattle.c_units.specs.Bodies.{Body as BodyTrees, Typed, Within as WithinTrees, at_stmt, done, in_loop, on_code, typed_stmt}
+use Rattle.c_units.specs.Bodies.{Typed, at_stmt, done, in_loop, on_code}
 use Rattle.c_units.specs.Statements.{Around as AroundTrees, StmtNode}
 use Rattle.c_units.specs.Statements as node
 use Rattle.c_stmt_parts.specs.declared.around.Within.{Within}
 use Rattle.c_stmt_parts.specs.declared.body.Body.{Body}
 use Rattle.c_stmt_parts.specs.BodiesSeen.{IsBodyIn, body_in, within_in}
-use Rattle.c_stmt_parts.specs.BodiesStay.{body_later, body_stays, within_stays}
+use Rattle.c_stmt_parts.specs.BodiesStay.{body_later, body_stays}
 use Rattle.c_stmt_parts.specs.StatementsIn.{WalksStmt, code_in, statement_in}
-use Rattle.c_stmt_parts.proofs.lemmas.StatementNodes.{beside, do_is, if_else_is}
-use Rattle.c_stmt_parts.proofs.lemmas.StatementWalks.{Parts, inner_goes, parts_go, parts_told, single_goes, single_told, walk_nothing}
+use Rattle.c_stmt_parts.proofs.lemmas.BehindWalks.{do_behind, do_rest_is, else_behind_first, else_parts, later, same}
+use Rattle.c_stmt_parts.proofs.lemmas.StatementNodes.{beside}
+use Rattle.c_stmt_parts.proofs.lemmas.StatementWalks.{Parts, parts_go, parts_told, single_goes, single_told, walk_nothing}
 use Rattle.c_check_stmt.specs.Ends.{Ends}
 use Rattle.c_check_stmt.proofs.Shapes.{three_same, two_same}
 
@@ -52,62 +51,31 @@ single_ended o line n make is first x i tree (Err d) e h = single_told o line n 
 
 -- ---- `do`
 
-abbrev do_make : Typed (StmtOf CType) → CoreTree → Typed (StmtOf CType)
-do_make t c = on_code (λ x. code.Do x (value c)) t
-
-abbrev test_behind : ℕ → ExprTree → State → ℕ → Typed (StmtOf CType) → Outcome (Typed (StmtOf CType))
-test_behind line e u n t = then_do (typed u e) (λ v c. at_stmt v line (node.Test c) (do_make t c))
-
 module _ (w : Within) (around inner : AroundTrees) (loop : inner ≡ in_loop around) (s : Scoping) (a : Table) (x : Body) (line : ℕ) (e : ExprTree) (st : StatementTree) (known : AreSymbolsIn (length a.forms) s.symbols) (below : w.result < length a.forms)
     {u : Scoping} {c : Table} (y : Body) (inside : CoreStmt) (second : WalksStmt (statement_in (within_in a w) inner s a (body_in a x) st) s a u c y (Ok inside)) where
-  rest_is : test_behind line e (state_of u c) 0 (code_in c (y, inside)) ≡ then_do (expr_in u c e) (λ v k. at_stmt v line (node.Test k) (do_make (code_in c (y, inside)) k))
-  unfolding expr_in
-  rest_is = refl
-
   pub do_ended : {z : Scoping} {t : Table} {v : CoreOf ℕ} (third : Walks core IsIn (expr_in u c e) u c z t (Ok v)) {q : Table} (r : Result CoreStmt CheckFault) → Ends t line (node.Test (core t v)) (code.Do (stmt_in t inside) (value (core t v))) q r
       → WalksStmt (statement_in (within_in a w) around s a (body_in a x) (Do line st e)) s a z q y r
   do_ended {t = t} {v = v} third r h =
       let l = third.keeps.extends in
-      inner_goes (Fine (state_of s a) 0) w inner (λ n. body_in a x) st (test_behind line e) (do_is (within_in a w) around s a (body_in a x) line e st inner loop) x below (walk_nothing s a known) refl y y inside r second refl
-      (single_ended (expr_in u c e) line (λ k. node.Test k) (do_make (code_in c (y, inside))) rest_is third y (body_later c t l y second.within.0) (code.Do (stmt_in t inside) (value (core t v))) r
+      do_behind w around inner loop s a x line e st known below y inside second y r
+      (single_ended (expr_in u c e) line (λ k. node.Test k) (λ k. on_code (λ x. code.Do x (value k)) (code_in c (y, inside))) (do_rest_is w around inner loop s a x line e st known below y inside second) third
+      y (body_later c t l y second.within.0) (code.Do (stmt_in t inside) (value (core t v))) r
       (two_same done (sym (body_stays c t l y second.within.0)) (ap (λ b. code.Do b (value (core t v))) (sym (stmt_stays c t l (stmt_of inside) second.within.1)))) h)
 
 -- ---- `if` with `else`
 
-abbrev else_behind : WithinTrees → AroundTrees → ℕ → StatementTree → State → CoreTree → Typed (StmtOf CType) → Outcome (Typed (StmtOf CType))
-else_behind f around line other u c t = then_do (typed_stmt f around u t.body other) (λ v x. at_stmt v line (node.Test c) (done x.body (code.If (value c) t.code x.code)))
-
 module _ (w : Within) (around : AroundTrees) (s : Scoping) (a : Table) (x : Body) (line : ℕ) (e : ExprTree) (st other : StatementTree) (below : w.result < length a.forms) (within : IsBodyIn (length a.forms) x)
     {m : Scoping} {t : Table} {v : CoreOf ℕ} (first : Walks core IsIn (expr_in s a e) s a m t (Ok v))
     {u : Scoping} {c : Table} (y : Body) (inside : CoreStmt) (second : WalksStmt (statement_in (within_in t w) around m t (body_in t x) st) m t u c y (Ok inside)) where
-  early : w.result < length t.forms
-  early = below_later a t first.keeps.extends w.result below
-
-  same : core c v ≡ core t v
-  same = seen_stays t c second.keeps.extends v first.within
-
-  abbrev else_parts : Parts ℕ w c (else_behind (within_in a w) around line other (state_of u c) (core c v) (code_in c (y, inside)))
-  else_parts =
-      record {
-        o = Fine (state_of u c) 0;
-        inner = around;
-        before = λ n. body_in c y;
-        st = other;
-        line = line;
-        node = λ n. node.Test (core c v);
-        make = λ n k. done k.body (code.If (value (core c v)) (stmt_in c inside) k.code);
-        is = ap (λ (f : WithinTrees). then_do (typed_stmt f around (state_of u c) (body_in c y) other) (λ v2 k. at_stmt v2 line (node.Test (core c v)) (done k.body (code.If (value (core c v)) (stmt_in c inside) k.code))))
-            (sym (within_stays t c second.keeps.extends w early ∙ within_stays a t first.keeps.extends w below));
-      }
-
   pub else_ended : {z : Scoping} {d : Table} (k : Body) (otherwise : CoreStmt) (third : WalksStmt (statement_in (within_in c w) around u c (body_in c y) other) u c z d k (Ok otherwise)) {q : Table} (r : Result CoreStmt CheckFault)
       → Ends d line (node.Test (core d v)) (code.If (value (core d v)) (stmt_in d inside) (stmt_in d otherwise)) q r → WalksStmt (statement_in (within_in a w) around s a (body_in a x) (IfElse line e st other)) s a z q k r
   else_ended {d = d} k otherwise third {q = q} r h =
       let l = third.keeps.extends in
-      let tested = seen_stays t d (extends_on t c d second.keeps.extends l) v first.within ∙ sym same in
+      let tested = seen_stays t d (extends_on t c d second.keeps.extends l) v first.within ∙ sym (same w around s a x line e st other below within first y inside second) in
       let kept = stmt_stays c d l (stmt_of inside) second.within.1 in
       let tree = code.If (value (core c v)) (stmt_in c inside) (stmt_in d otherwise) in
-      inner_goes (expr_in s a e) w around (λ n. body_in a x) st (else_behind (within_in a w) around line other) (if_else_is (within_in a w) around s a (body_in a x) line e st other) x below first (body_stays a t first.keeps.extends x within) y k inside r second same
-      (parts_ended else_parts y (below_later t c second.keeps.extends w.result early) (walk_nothing u c second.keeps.symbols) refl k otherwise third refl k third.within.0 tree r refl
+      else_behind_first w around s a x line e st other below within first y inside second k r
+      (parts_ended (else_parts w around s a x line e st other below within first y inside second) y (later w around s a x line e st other below within first y inside second) (walk_nothing u c second.keeps.symbols) refl k otherwise third refl
+      k third.within.0 tree r refl
       (subst (λ n. Ends d line n tree q r) (ap (λ n. node.Test n) tested)
       (subst (λ n. Ends d line (node.Test (core d v)) n q r) (three_same code.If (ap value tested) kept refl) h)))
