@@ -1,4 +1,6 @@
 pub mod Growing
 pub mod Sound
+pub mod OpenPlaces
+pub mod OpenDeclares
 pub mod Laws
 pub mod FitLawExamples

@@ -11,7 +11,7 @@ use Rattle.c_fits.proofs.lemmas.Booleans.{and_left, and_right}
 
 -- ---- one member
 
-some_member : (m n : MemberAt) → Some m ≡ Some n → m ≡ n
+pub some_member : (m n : MemberAt) → Some m ≡ Some n → m ≡ n
 some_member m n e = cc
 
 width_within : (name : List ℕ) (width : ℕ) → is_field_width name width ≡ true → width ≤ 32
@@ -38,6 +38,10 @@ placed_within : (union : Bool) (r : _) (e : Extent) (o : Option ℕ) → width_o
 placed_within true r e o l = spot_within start e o l
 placed_within false r e o l = spot_within r e o l
 
+-- a member where it is laid
+pub laid_in_unit : (union : Bool) (k : ℕ → Extent) (r : _) (m : MemberType) → is_field m.name m.of m.width ≡ true → IsInUnit (member_at m (spot_in union r (extent_by k m.of) m.width))
+laid_in_unit union k r m f = record { of = field_typed m m.width f; within = placed_within union r (extent_by k m.of) m.width (field_within m m.width f) }
+
 -- ---- those of definitions
 
 named_in_unit : (union : Bool) (k : ℕ → Extent) (r : _) (ms : List MemberType) (name : List ℕ) (at : MemberAt) → are_fields ms ≡ true → named ms (spots union r (fields k ms)) name ≡ Some at → IsInUnit at
@@ -46,12 +50,7 @@ named_in_unit union k r (m ∷ ms) name at h e =
     by (bytes_eq name m.name) e (named_in_unit union k (next_room union r (extent_by k m.of) m.width) ms name at (and_right (is_field m.name m.of m.width) (are_fields ms) h))
   where
     this : IsInUnit (member_at m (spot_in union r (extent_by k m.of) m.width))
-    this =
-        let f = and_left (is_field m.name m.of m.width) (are_fields ms) h in
-        record {
-          of = field_typed m m.width f;
-          within = placed_within union r (extent_by k m.of) m.width (field_within m m.width f);
-        }
+    this = laid_in_unit union k r m (and_left (is_field m.name m.of m.width) (are_fields ms) h)
 
     by : (b : Bool) → (if b then Some (member_at m (spot_in union r (extent_by k m.of) m.width)) else named ms (spots union (next_room union r (extent_by k m.of) m.width) (fields k ms)) name) ≡ Some at
         → (named ms (spots union (next_room union r (extent_by k m.of) m.width) (fields k ms)) name ≡ Some at → IsInUnit at) → IsInUnit at

@@ -20,13 +20,13 @@ scalar_argument tags to v h = or_true (is_scalar (type_of (converted to v))) (is
 
 -- ---- to a parameter
 
-passed_scalar : (to : CType) (v : CoreTree) → is_scalar to ≡ true → passed_to to v ≡ converted (unqualified to) v
+pub passed_scalar : (to : CType) (v : CoreTree) → is_scalar to ≡ true → passed_to to v ≡ converted (unqualified to) v
 passed_scalar (Plain q (Structure n)) v h = never (sym h)
 passed_scalar (Plain q (Union n)) v h = never (sym h)
 passed_scalar (Plain q k) v h = refl
 passed_scalar (Array of n) v h = refl
 
-passed_record : (to : CType) (v : CoreTree) → is_record to ≡ true → passed_to to v ≡ v
+pub passed_record : (to : CType) (v : CoreTree) → is_record to ≡ true → passed_to to v ≡ v
 passed_record (Plain q (Structure n)) v h = refl
 passed_record (Plain q (Union n)) v h = refl
 passed_record (Plain q k) v h = never (sym h)

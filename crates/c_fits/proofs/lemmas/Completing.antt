@@ -13,12 +13,13 @@ use Rattle.c_meaning.specs.Nodes as node
 use Rattle.c_meaning.specs.State.{Known, State, counted, known_at, level_of, nothing_known, place_here}
 use Rattle.c_meaning.specs.TypeConstraints.{is_defined_record, is_of_kind, is_other_record}
 use Rattle.c_meaning.specs.TypeRows.{completed, is_union, number_of, opened, opened_at, record_type, tag_key, tagged, with_tag}
-use Rattle.c_fits.specs.Sound.{Follows, IsApart, IsNamed, IsSound, StaysKnown, Unnamed, which}
-use Rattle.c_fits.proofs.lemmas.Kinds.{is_of_record, kind_of_record, number_of_record, own_number, same_kind, same_number}
+use Rattle.c_fits.specs.Sound.{AreSized, Follows, IsApart, IsNamed, IsSound, StaysKnown, Unnamed, which}
+use Rattle.c_fits.proofs.lemmas.Kinds.{elements_of_record, is_of_record, kind_of_record, number_of_record, own_number, same_kind, same_number}
 use Rattle.c_fits.proofs.lemmas.Booleans.{and_true, not_false, or_false, or_left, or_right}
-use Rattle.c_fits.proofs.lemmas.Growing.{more_grows, then_grows}
+use Rattle.c_fits.proofs.lemmas.Growing.{elements_stay, more_grows, then_grows}
 use Rattle.c_fits.proofs.lemmas.Constraints.{unbroken}
-use Rattle.c_fits.proofs.lemmas.Following.{counted_follows, last_below, named_below, named_last, same_follows, seam, tag_follows}
+use Rattle.c_fits.proofs.lemmas.Lists.{last_below, named_below, named_last, seam}
+use Rattle.c_fits.proofs.lemmas.Following.{counted_follows, same_follows, tag_follows}
 
 -- the number of what is open between two places
 pub record IsOpen (s t : State) (number : ℕ) : Type 0 where
@@ -26,20 +27,27 @@ pub record IsOpen (s t : State) (number : ℕ) : Type 0 where
   pub other : (n : ℕ) → IsApart s t n → (n == number) ≡ false
   pub below : number < t.count
 
-pub completed_follows : (s t : State) (k : RecordKind) (number : ℕ) (ms : List MemberType) → Follows s t → IsOpen s t number → IsSound s → are_fields ms ≡ true → Follows s (completed t k number ms)
-completed_follows s t k number ms f o h e =
+pub completed_follows : (s t : State) (k : RecordKind) (number : ℕ) (ms : List MemberType) → Follows s t → IsOpen s t number → IsSound s → are_fields ms ≡ true → AreSized t.tags ms → Follows s (completed t k number ms)
+completed_follows s t k number ms f o h e z =
     record {
       sound =
           record {
             fields = and_true (are_fields ms) (have_fields t.tags) e f.sound.fields;
+            once = (o.undefined, f.sound.once);
+            sizes = (z, f.sound.sizes);
+            arrays = λ id. elements_stay t.tags (record { number = number; is_union = is_union k; members = ms } ∷ t.tags) (more_grows t.tags (record { number = number; is_union = is_union k; members = ms }) o.undefined) (known_at t id).of (f.sound.arrays id);
             enumerators = f.sound.enumerators;
             names = f.sound.names;
+            scopes = f.sound.scopes;
+            links = f.sound.links;
+            linked = f.sound.linked;
             fresh = λ n l. defined n (f.sound.fresh n l) (later n l);
           };
       count = f.count;
       symbols = f.symbols;
       here = f.here;
       known = f.known;
+      classes = f.classes;
       tags = then_grows s.tags t.tags (record { number = number; is_union = is_union k; members = ms } ∷ t.tags) f.tags (more_grows t.tags (record { number = number; is_union = is_union k; members = ms }) o.undefined);
       apart = λ n a. defined n (f.apart n a) (o.other n a);
     }
@@ -62,7 +70,7 @@ opened_follows s line k (Some tag) h = by (place_here s (tag_key tag))
   where
     by : (o : Option ℕ) → Follows s (opened_at s line k tag o).state
     by (Some id) = same_follows s h
-    by None = tag_follows s line tag (record_type k s.count) None h (λ n e. is_of_record k n s.count ∙ e)
+    by None = tag_follows s line tag (record_type k s.count) None h (λ n e. is_of_record k n s.count ∙ e) (elements_of_record s.tags k s.count)
 
 -- a new number is of nothing else
 new_number : (s t : State) (n : ℕ) → s.count + 1 ≤ t.count → (n < s.count) ⊎ (t.count ≤ n) → (n == s.count) ≡ false

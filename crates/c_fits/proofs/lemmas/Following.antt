@@ -1,95 +1,19 @@
 -- What is known behind a part follows what was known before: parts one behind the other, further symbols, and scopes.
-use Rattle.std.proofs.Common.{◌≡◌, ◌⊎◌, ℕ, zero, suc, ◌+◌, ◌<◌, ◌≤◌, Bool, true, false, List, [], ◌∷◌, ◌++◌, length, get_or, refl, sym, ap, subst, ◌∙◌, inl, inr, arith, add-zero, le_trans, lt_of_lt_of_le}
-use Rattle.std.specs.Prelude.{◌==◌, Option, Some, None, ℤ, slice_set, if◌then◌else◌}
-use Rattle.std.specs.Str.{bytes_eq}
+use Rattle.std.proofs.Common.{◌≡◌, ◌⊎◌, ℕ, ◌+◌, ◌<◌, ◌≤◌, Bool, true, false, List, [], ◌∷◌, ◌++◌, length, get_or, refl, sym, ap, subst, ◌∙◌, inl, inr, arith, add-zero, le_trans, lt_of_lt_of_le}
+use Rattle.std.specs.Prelude.{◌==◌, Option, ℤ, slice_set}
 use Rattle.std.proofs.lemmas.Bool.Decides.{nat_tests}
-use Rattle.std.proofs.lemmas.List.{get_or_append_left, length-append, length-set}
-use Rattle.std.proofs.lemmas.Slice.Eq.{bytes_eq-Decides}
-use Rattle.c_symbols.specs.Extending.{below_more}
-use Rattle.c_symbols.specs.Scoping.{AreBelow, symbol_named}
+use Rattle.std.proofs.lemmas.List.{get_or_append_left, length-set}
+use Rattle.c_symbols.specs.Extending.{all_below_more, below_more}
+use Rattle.c_symbols.specs.Scoping.{AreAllBelow, AreBelow}
 use Rattle.c_types.specs.CType.{CType}
 use Rattle.c_types.specs.Layout.{Tag}
 use Rattle.c_types.specs.Members.{is_defined}
 use Rattle.c_meaning.specs.State.{Known, State, counted, declared, entered, known_at, left, level_of, nothing_known, replaced}
 use Rattle.c_meaning.specs.TypeRows.{tag_key, tagged, with_tag}
-use Rattle.c_fits.specs.Sound.{Follows, IsNamed, IsNumbered, IsSound, StaysKnown, Unnamed, is_of, which}
+use Rattle.c_fits.specs.Sound.{Follows, IsNamed, IsNumbered, IsOld, IsSound, StaysKnown, StaysOther, Unnamed, has_elements, is_enumerator, is_of, which}
+use Rattle.c_fits.proofs.lemmas.Lists.{all_append, all_below, all_set, below_push, last_below, longer, named_append, named_below, set_related}
 use Rattle.c_fits.proofs.lemmas.Kinds.{same_of}
 use Rattle.c_fits.proofs.lemmas.Growing.{same_grows, then_grows}
-
--- ---- lists
-
-pub all_append : {A : Type 0} (P : A → Type 0) (xs : List A) (k d : A) → ((id : ℕ) → P (get_or xs id d)) → P k → (id : ℕ) → P (get_or (xs ++ k ∷ []) id d)
-all_append P [] k d h q zero = q
-all_append P [] k d h q (suc i) = h 0
-all_append P (x ∷ xs) k d h q zero = h 0
-all_append P (x ∷ xs) k d h q (suc i) = all_append P xs k d (λ j. h (suc j)) q i
-
-pub all_set : {A : Type 0} (P : A → Type 0) (xs : List A) (i : ℕ) (k d : A) → ((id : ℕ) → P (get_or xs id d)) → P k → (id : ℕ) → P (get_or (slice_set xs i k) id d)
-all_set P [] i k d h q j = h j
-all_set P (x ∷ xs) zero k d h q zero = q
-all_set P (x ∷ xs) zero k d h q (suc j) = h (suc j)
-all_set P (x ∷ xs) (suc i) k d h q zero = h 0
-all_set P (x ∷ xs) (suc i) k d h q (suc j) = all_set P xs i k d (λ j. h (suc j)) q j
-
--- what relates an element and what takes its place relates all
-pub set_related : {A : Type 0} (R : A → A → Type 0) (xs : List A) (i : ℕ) (k d : A) → ((x : A) → R x x) → R (get_or xs i d) k → (j : ℕ) → R (get_or xs j d) (get_or (slice_set xs i k) j d)
-set_related R [] i k d r q j = r d
-set_related R (x ∷ xs) zero k d r q zero = q
-set_related R (x ∷ xs) zero k d r q (suc j) = r (get_or xs j d)
-set_related R (x ∷ xs) (suc i) k d r q zero = r x
-set_related R (x ∷ xs) (suc i) k d r q (suc j) = set_related R xs i k d r q j
-
--- what holds of the default and of all elements holds wherever one looks
-pub all_below : {A : Type 0} (P : A → Type 0) (xs : List A) (d : A) → P d → ((id : ℕ) → id < length xs → P (get_or xs id d)) → (id : ℕ) → P (get_or xs id d)
-all_below P [] d q h id = q
-all_below P (x ∷ xs) d q h zero = h 0 (omega arith)
-all_below P (x ∷ xs) d q h (suc i) = all_below P xs d q (λ j l. h (suc j) (omega (arith, l))) i
-
-pub seam : {A : Type 0} (xs : List A) (k d : A) → get_or (xs ++ k ∷ []) (length xs) d ≡ k
-seam [] k d = refl
-seam (x ∷ xs) k d = seam xs k d
-
-one_more : {A : Type 0} (xs : List A) (k : A) → length (xs ++ k ∷ []) ≡ length xs + 1
-one_more xs k = length-append xs (k ∷ [])
-
-pub longer : {A : Type 0} (xs : List A) (k : A) → length xs ≤ length (xs ++ k ∷ [])
-longer xs k = rw (one_more xs k) (omega arith)
-
-pub last_below : {A : Type 0} (xs : List A) (k : A) → length xs < length (xs ++ k ∷ [])
-last_below xs k = rw (one_more xs k) (omega arith)
-
--- ---- names
-
-pub below_push : (n : ℕ) (ns : List (List ℕ × ℕ)) (x : List ℕ) (id : ℕ) → AreBelow n ns → id < n → AreBelow n (ns ++ (x, id) ∷ [])
-below_push n [] x id h k = (k, tt)
-below_push n (m ∷ ms) x id h k = (h.0, below_push n ms x id h.1 k)
-
-some_id : (i id : ℕ) → Some i ≡ Some id → i ≡ id
-some_id i id e = cc
-
-pub named_below : (n : ℕ) (ns : List (List ℕ × ℕ)) (name : List ℕ) (id : ℕ) → AreBelow n ns → symbol_named ns name ≡ Some id → id < n
-named_below n [] name id h e = absurd (let none : ⊥ = cc in none)
-named_below n (m ∷ ms) name id h e = by (bytes_eq name m.0) e (named_below n ms name id h.1)
-  where
-    by : (b : Bool) → (if b then Some m.1 else symbol_named ms name) ≡ Some id → (symbol_named ms name ≡ Some id → id < n) → id < n
-    by true e k = subst (λ i. i < n) (some_id m.1 id e) h.0
-    by false e k = k e
-
-pub named_append : (ns : List (List ℕ × ℕ)) (m : List ℕ × ℕ) (name : List ℕ) (id : ℕ) → symbol_named ns name ≡ Some id → symbol_named (ns ++ m ∷ []) name ≡ Some id
-named_append [] m name id e = absurd (let none : ⊥ = cc in none)
-named_append (x ∷ xs) m name id e = by (bytes_eq name x.0) e (named_append xs m name id)
-  where
-    by : (b : Bool) → (if b then Some x.1 else symbol_named xs name) ≡ Some id → (symbol_named xs name ≡ Some id → symbol_named (xs ++ m ∷ []) name ≡ Some id) → (if b then Some x.1 else symbol_named (xs ++ m ∷ []) name) ≡ Some id
-    by true e k = e
-    by false e k = k e
-
-pub named_last : (ns : List (List ℕ × ℕ)) (name : List ℕ) (id : ℕ) → symbol_named ns name ≡ None → symbol_named (ns ++ (name, id) ∷ []) name ≡ Some id
-named_last [] name id e = rw ((bytes_eq-Decides name name).1 refl)
-named_last (x ∷ xs) name id e = by (bytes_eq name x.0) e (named_last xs name id)
-  where
-    by : (b : Bool) → (if b then Some x.1 else symbol_named xs name) ≡ None → (symbol_named xs name ≡ None → symbol_named (xs ++ (name, id) ∷ []) name ≡ Some id) → (if b then Some x.1 else symbol_named (xs ++ (name, id) ∷ []) name) ≡ Some id
-    by true e k = absurd (let none : ⊥ = cc in none)
-    by false e k = k e
 
 -- ---- numbers without a name
 
@@ -104,7 +28,7 @@ unnamed_set tags symbols id k n h e =
 -- ---- where nothing is known
 
 pub nothing_sound : IsSound (record { outer = []; inner = []; links = []; symbols = []; tags = []; count = 0 })
-nothing_sound = record { fields = refl; enumerators = λ id. tt; names = tt; fresh = λ n l. record { undefined = refl; unmentioned = λ id. refl } }
+nothing_sound = record { fields = refl; once = tt; sizes = tt; arrays = λ id. refl; enumerators = λ id. tt; names = tt; scopes = tt; links = tt; linked = λ name id e. refl; fresh = λ n l. record { undefined = refl; unmentioned = λ id. refl } }
 
 -- ---- one behind the other
 
@@ -116,6 +40,7 @@ same_follows s h =
       symbols = omega arith;
       here = λ name id e. e;
       known = λ id l. refl;
+      classes = λ id l e. e;
       tags = same_grows s.tags;
       apart = λ n a. a.0;
     }
@@ -128,6 +53,7 @@ then_follows s t u f g =
       symbols = le_trans f.symbols g.symbols;
       here = λ name id e. g.here name id (f.here name id e);
       known = λ id l. g.known id (lt_of_lt_of_le l f.symbols) ∙ f.known id l;
+      classes = λ id l e. g.classes id (lt_of_lt_of_le l f.symbols) (f.classes id l e);
       tags = then_grows s.tags t.tags u.tags f.tags g.tags;
       apart = λ n a. g.apart n (f.apart n (a.0, first n a.1), second n a.1);
     }
@@ -163,63 +89,115 @@ named_stays s u f t h n k = h n (unnamed_before s u f n k)
 pub counted_follows : (s : State) → IsSound s → Follows s (counted s)
 counted_follows s h =
     record {
-      sound = record { fields = h.fields; enumerators = h.enumerators; names = h.names; fresh = λ n l. h.fresh n (omega (arith, l)) };
+      sound =
+          record {
+            fields = h.fields;
+            once = h.once;
+            sizes = h.sizes;
+            arrays = h.arrays;
+            enumerators = h.enumerators;
+            names = h.names;
+            scopes = h.scopes;
+            links = h.links;
+            linked = h.linked;
+            fresh = λ n l. h.fresh n (omega (arith, l));
+          };
       count = omega arith;
       symbols = omega arith;
       here = λ name id e. e;
       known = λ id l. refl;
+      classes = λ id l e. e;
       tags = same_grows s.tags;
       apart = λ n a. a.0;
     }
 
+-- a symbol stays where others are added
+pub pushed : (symbols : List Known) (k : Known) (id : ℕ) → id < length symbols → get_or (symbols ++ k ∷ []) id nothing_known ≡ get_or symbols id nothing_known
+pushed symbols k id l = get_or_append_left symbols (k ∷ []) nothing_known id l
+
+pub pushed_other : (symbols : List Known) (k : Known) (id : ℕ) → id < length symbols → StaysOther (get_or symbols id nothing_known) (get_or (symbols ++ k ∷ []) id nothing_known)
+pushed_other symbols k id l e = ap (λ (k : Known). is_enumerator k.class) (pushed symbols k id l) ∙ e
+
+pub declared_sound : (s : State) (name : List ℕ) (k : Known) → IsSound s → IsNumbered k → IsOld s k.of → IsSound (declared s name k)
+declared_sound s name k h i e =
+    record {
+      fields = h.fields;
+      once = h.once;
+      sizes = h.sizes;
+      arrays = all_append (λ (k : Known). has_elements s.tags k.of ≡ true) s.symbols k nothing_known h.arrays e.1;
+      enumerators = all_append IsNumbered s.symbols k nothing_known h.enumerators i;
+      scopes = all_below_more (length s.symbols) (length (s.symbols ++ k ∷ [])) (longer s.symbols k) s.outer h.scopes;
+      links = below_more (length s.symbols) (length (s.symbols ++ k ∷ [])) (longer s.symbols k) s.links h.links;
+      linked = λ x id g. pushed_other s.symbols k id (named_below (length s.symbols) s.links x id h.links g) (h.linked x id g);
+      names = below_push (length (s.symbols ++ k ∷ [])) s.inner name (length s.symbols) (below_more (length s.symbols) (length (s.symbols ++ k ∷ [])) (longer s.symbols k) s.inner h.names) (last_below s.symbols k);
+      fresh = λ n l. unnamed_append s.tags s.symbols k n (h.fresh n l) (e.0 n l);
+    }
+
 -- a further symbol of the innermost scope, and perhaps a further number
-further_follows : (s : State) (name : List ℕ) (k : Known) (more : ℕ) → IsSound s → IsNumbered k → ((n : ℕ) → Unnamed s.tags s.symbols n → (n < s.count) ⊎ (s.count + more ≤ n) → is_of n k.of ≡ false)
+further_follows : (s : State) (name : List ℕ) (k : Known) (more : ℕ) → IsSound s → IsNumbered k → ((n : ℕ) → Unnamed s.tags s.symbols n → (n < s.count) ⊎ (s.count + more ≤ n) → is_of n k.of ≡ false) → has_elements s.tags k.of ≡ true
     → Follows s (record { outer = s.outer; inner = s.inner ++ (name, length s.symbols) ∷ []; links = s.links; symbols = s.symbols ++ k ∷ []; tags = s.tags; count = s.count + more })
-further_follows s name k more h i e =
+further_follows s name k more h i e a =
     record {
       sound =
           record {
             fields = h.fields;
+            once = h.once;
+            sizes = h.sizes;
+            arrays = all_append (λ (k : Known). has_elements s.tags k.of ≡ true) s.symbols k nothing_known h.arrays a;
             enumerators = all_append IsNumbered s.symbols k nothing_known h.enumerators i;
+            scopes = all_below_more (length s.symbols) (length (s.symbols ++ k ∷ [])) (longer s.symbols k) s.outer h.scopes;
+            links = below_more (length s.symbols) (length (s.symbols ++ k ∷ [])) (longer s.symbols k) s.links h.links;
+            linked = λ x id g. pushed_other s.symbols k id (named_below (length s.symbols) s.links x id h.links g) (h.linked x id g);
             names = below_push (length (s.symbols ++ k ∷ [])) s.inner name (length s.symbols) (below_more (length s.symbols) (length (s.symbols ++ k ∷ [])) (longer s.symbols k) s.inner h.names) (last_below s.symbols k);
             fresh = λ n l. let u = h.fresh n (omega (arith, l)) in unnamed_append s.tags s.symbols k n u (e n u (inr l));
           };
       count = omega arith;
       symbols = longer s.symbols k;
       here = λ x id g. named_append s.inner (name, length s.symbols) x id g;
-      known = λ id l. ap (λ (k : Known). which k.of) (get_or_append_left s.symbols (k ∷ []) nothing_known id l);
+      known = λ id l. ap (λ (k : Known). which k.of) (pushed s.symbols k id l);
+      classes = λ id l. pushed_other s.symbols k id l;
       tags = same_grows s.tags;
       apart = λ n a. unnamed_append s.tags s.symbols k n a.0 (e n a.0 a.1);
     }
 
-pub declared_follows : (s : State) (name : List ℕ) (k : Known) → IsSound s → IsNumbered k → IsNamed s k.of → Follows s (declared s name k)
-declared_follows s name k h i e =
+pub declared_follows : (s : State) (name : List ℕ) (k : Known) → IsSound s → IsNumbered k → IsNamed s k.of → has_elements s.tags k.of ≡ true → Follows s (declared s name k)
+declared_follows s name k h i e a =
     subst (λ c. Follows s (record { outer = s.outer; inner = s.inner ++ (name, length s.symbols) ∷ []; links = s.links; symbols = s.symbols ++ k ∷ []; tags = s.tags; count = c })) (add-zero s.count)
-    (further_follows s name k 0 h i (λ n u l. e n u))
+    (further_follows s name k 0 h i (λ n u l. e n u) a)
 
 -- a tag is given the next number
-pub tag_follows : (s : State) (line : ℕ) (tag : List ℕ) (of : CType) (v : Option ℤ) → IsSound s → ((n : ℕ) → (n == s.count) ≡ false → is_of n of ≡ false) → Follows s (with_tag s line tag of v).state
-tag_follows s line tag of v h e = further_follows s (tag_key tag) (tagged line (level_of s) of v) 1 h tt (λ n u l. e n (other n l))
+pub tag_follows : (s : State) (line : ℕ) (tag : List ℕ) (of : CType) (v : Option ℤ) → IsSound s → ((n : ℕ) → (n == s.count) ≡ false → is_of n of ≡ false) → has_elements s.tags of ≡ true → Follows s (with_tag s line tag of v).state
+tag_follows s line tag of v h e a = further_follows s (tag_key tag) (tagged line (level_of s) of v) 1 h tt (λ n u l. e n (other n l)) a
   where
     other : (n : ℕ) → (n < s.count) ⊎ (s.count + 1 ≤ n) → (n == s.count) ≡ false
     other n (inl l) = grind (arith, nat_tests)
     other n (inr l) = grind (arith, nat_tests)
 
 -- another symbol in a place, of the same structure or union, if it is of one
-pub replaced_follows : (s : State) (id : ℕ) (k : Known) → IsSound s → IsNumbered k → StaysKnown (known_at s id) k → Follows s (replaced s id k)
-replaced_follows s id k h i e =
+pub replaced_sound : (s : State) (id : ℕ) (k : Known) → IsSound s → IsNumbered k → StaysOther (known_at s id) k → IsOld s k.of → IsSound (replaced s id k)
+replaced_sound s id k h i o e =
     record {
-      sound =
-          record {
-            fields = h.fields;
-            enumerators = all_set IsNumbered s.symbols id k nothing_known h.enumerators i;
-            names = subst (λ n. AreBelow n s.inner) (sym (length-set s.symbols id k)) h.names;
-            fresh = λ n l. apart n (h.fresh n l);
-          };
+      fields = h.fields;
+      once = h.once;
+      sizes = h.sizes;
+      arrays = all_set (λ (k : Known). has_elements s.tags k.of ≡ true) s.symbols id k nothing_known h.arrays e.1;
+      enumerators = all_set IsNumbered s.symbols id k nothing_known h.enumerators i;
+      names = subst (λ n. AreBelow n s.inner) (sym (length-set s.symbols id k)) h.names;
+      scopes = subst (λ n. AreAllBelow n s.outer) (sym (length-set s.symbols id k)) h.scopes;
+      links = subst (λ n. AreBelow n s.links) (sym (length-set s.symbols id k)) h.links;
+      linked = λ x j g. set_related StaysOther s.symbols id k nothing_known (λ x e. e) o j (h.linked x j g);
+      fresh = λ n l. unnamed_set s.tags s.symbols id k n (h.fresh n l) (e.0 n l);
+    }
+
+pub replaced_follows : (s : State) (id : ℕ) (k : Known) → IsSound s → IsNumbered k → StaysOther (known_at s id) k → StaysKnown (known_at s id) k → has_elements s.tags k.of ≡ true → Follows s (replaced s id k)
+replaced_follows s id k h i o e a =
+    record {
+      sound = replaced_sound s id k h i o (λ n l. let u = h.fresh n l in same_of n k.of (known_at s id).of e ∙ u.unmentioned id, a);
       count = omega arith;
       symbols = rw (length-set s.symbols id k) (omega arith);
       here = λ name id e. e;
       known = λ j l. set_related StaysKnown s.symbols id k nothing_known (λ x. refl) e j;
+      classes = λ j l. set_related StaysOther s.symbols id k nothing_known (λ x e. e) o j;
       tags = same_grows s.tags;
       apart = λ n a. apart n a.0;
     }
@@ -228,23 +206,50 @@ replaced_follows s id k h i e =
     apart n u = unnamed_set s.tags s.symbols id k n u (same_of n k.of (known_at s id).of e ∙ u.unmentioned id)
 
 -- a scope opened, and closed behind what stands in it
+pub all_below_push : (n : ℕ) (ss : List (List (List ℕ × ℕ))) (s : List (List ℕ × ℕ)) → AreAllBelow n ss → AreBelow n s → AreAllBelow n (ss ++ s ∷ [])
+all_below_push n [] s h k = (k, tt)
+all_below_push n (x ∷ ss) s h k = (h.0, all_below_push n ss s h.1 k)
+
 pub entered_sound : (s : State) → IsSound s → IsSound (entered s)
-entered_sound s h = record { fields = h.fields; enumerators = h.enumerators; names = tt; fresh = h.fresh }
+entered_sound s h =
+    record {
+      fields = h.fields;
+      once = h.once;
+      sizes = h.sizes;
+      arrays = h.arrays;
+      enumerators = h.enumerators;
+      names = tt;
+      scopes = all_below_push (length s.symbols) s.outer s.inner h.scopes h.names;
+      links = h.links;
+      linked = h.linked;
+      fresh = h.fresh;
+    }
+
+-- the scopes around are as they were, behind more symbols
+pub left_sound : (s t : State) → IsSound s → IsSound t → length s.symbols ≤ length t.symbols → IsSound (left s.outer s.inner t)
+left_sound s t h g l =
+    record {
+      fields = g.fields;
+      once = g.once;
+      sizes = g.sizes;
+      arrays = g.arrays;
+      enumerators = g.enumerators;
+      names = below_more (length s.symbols) (length t.symbols) l s.inner h.names;
+      scopes = all_below_more (length s.symbols) (length t.symbols) l s.outer h.scopes;
+      links = g.links;
+      linked = g.linked;
+      fresh = g.fresh;
+    }
 
 pub left_follows : (s t : State) → IsSound s → Follows (entered s) t → Follows s (left s.outer s.inner t)
 left_follows s t h f =
     record {
-      sound =
-          record {
-            fields = f.sound.fields;
-            enumerators = f.sound.enumerators;
-            names = below_more (length s.symbols) (length t.symbols) f.symbols s.inner h.names;
-            fresh = f.sound.fresh;
-          };
+      sound = left_sound s t h f.sound f.symbols;
       count = f.count;
       symbols = f.symbols;
       here = λ name id e. e;
       known = f.known;
+      classes = f.classes;
       tags = f.tags;
       apart = f.apart;
     }

@@ -15,6 +15,7 @@ use Rattle.c_meaning.specs.Rows.{parameters_type}
 use Rattle.c_meaning.specs.Values.{CoreTree, CoreTrees}
 use Rattle.c_meaning.specs.Fits.{Fits, AllFit, IsRow, HasSize, IsChanged, AreOpen, AreListed, AreArguments, IsGiven, is_whole}
 use Rattle.c_fits.specs.Growing.{Grows}
+use Rattle.c_fits.specs.Sound.{has_elements}
 use Rattle.c_fits.proofs.lemmas.Booleans.{never, and_left, and_right, and_true, or_cases, or_true}
 
 pub same_grows : (tags : List Tag) → Grows tags tags
@@ -92,6 +93,10 @@ module _ (old new : List Tag) (g : Grows old new) where
 
   pub sized_stays : (t : CType) → has_size old t ≡ true → has_size new t ≡ true
   sized_stays t h = some_size (extent old t).size (extent new t).size h (size_stays t)
+
+  pub elements_stay : (t : CType) → has_elements old t ≡ true → has_elements new t ≡ true
+  elements_stay (Plain q k) h = h
+  elements_stay (Array t n) h = sized_stays t h
 
   pub member_stays : (t : CType) (name : List ℕ) (m : _) → member_of old t name ≡ Some m → member_of new t name ≡ Some m
   member_stays (Plain q (Simple b)) name m h = h

@@ -1,12 +1,13 @@
 -- Which structure or union a type is: its number, and whether it is of a kind.
-use Rattle.std.proofs.Common.{◌≡◌, ℕ, Bool, true, false, refl, sym, ap, ◌∙◌}
+use Rattle.std.proofs.Common.{◌≡◌, ℕ, Bool, true, false, List, refl, sym, ap, ◌∙◌}
 use Rattle.std.specs.Prelude.{◌==◌, Option, Some, None}
 use Rattle.c_ast.specs.declared.specifier.RecordKind.{RecordKind}
 use Rattle.c_ast.specs.declared.specifier.RecordKind.TheVariants as record_kind
 use Rattle.c_types.specs.CType.{CType, Plain, Array, Kind, Structure, Union, Enumeration}
+use Rattle.c_types.specs.Layout.{Tag}
 use Rattle.c_meaning.specs.TypeConstraints.{has_record_kind, is_enumeration, is_of_kind}
 use Rattle.c_meaning.specs.TypeRows.{number_of, number_of_kind, record_type}
-use Rattle.c_fits.specs.Sound.{is_kind_of, is_of, which}
+use Rattle.c_fits.specs.Sound.{has_elements, is_kind_of, is_of, which}
 use Rattle.c_fits.proofs.lemmas.Booleans.{never}
 
 -- ---- by which it is
@@ -65,6 +66,10 @@ same_number k t u e h i = number_which k t h ∙ ap number_in e ∙ sym (number_
 pub is_of_record : (k : RecordKind) (n m : ℕ) → is_of n (record_type k m) ≡ (n == m)
 is_of_record record_kind.Struct n m = refl
 is_of_record record_kind.Union n m = refl
+
+pub elements_of_record : (tags : List Tag) (k : RecordKind) (n : ℕ) → has_elements tags (record_type k n) ≡ true
+elements_of_record tags record_kind.Struct n = refl
+elements_of_record tags record_kind.Union n = refl
 
 pub number_of_record : (k : RecordKind) (n : ℕ) → number_of (record_type k n) ≡ n
 number_of_record record_kind.Struct n = refl

@@ -1,15 +1,15 @@
 -- Types that specifiers, declarators and members make: what has a name, and bit-fields that there may be.
-use Rattle.std.proofs.Common.{◌≡◌, ℕ, zero, suc, Bool, true, false, ◌&&◌, List, [], ◌∷◌, ◌++◌, length, refl, sym, ap, ◌∙◌, arith}
+use Rattle.std.proofs.Common.{◌≡◌, ◌⊎◌, ℕ, zero, suc, Bool, true, false, ◌&&◌, List, [], ◌∷◌, ◌++◌, length, get_or, refl, sym, ap, subst, ◌∙◌, inl, inr, arith}
 use Rattle.std.specs.Prelude.{◌==◌, Option, Some, None, ℤ, pos, negsuc, if◌then◌else◌}
-use Rattle.std.proofs.lemmas.List.{get_or_append_left}
+use Rattle.std.specs.Str.{bytes_eq}
 use Rattle.c_ast.specs.declared.specifier.BasicType.{BasicType}
 use Rattle.c_ast.specs.declared.specifier.Storage.{Storage as StorageClass}
 use Rattle.c_symbols.specs.declared.symbol.Storage.TheVariants as storage
-use Rattle.c_symbols.specs.Extending.{below_more}
-use Rattle.c_symbols.specs.Scoping.{symbol_named}
+use Rattle.c_symbols.specs.Extending.{all_below_more, below_more}
+use Rattle.c_symbols.specs.Scoping.{AreBelow, symbol_named}
 use Rattle.c_types.specs.BitFields.{are_fields, is_field, is_field_type, is_field_width}
 use Rattle.c_types.specs.CType.{Basic, CType, Plain, Array, Simple, Pointer, Function, Structure, Union, Enumeration, qualify}
-use Rattle.c_types.specs.Layout.{MemberType}
+use Rattle.c_types.specs.Layout.{MemberType, Tag}
 use Rattle.c_meaning.specs.Constants.{fold}
 use Rattle.c_meaning.specs.Constraints.{fault_at}
 use Rattle.c_meaning.specs.Nodes.{NamedParameter, Part, Stored, Qualified, Word, Whole, Step, ToPointer, ToArray, ToFunction, ToNamed, ToOpen, Typing}
@@ -20,12 +20,15 @@ use Rattle.c_meaning.specs.TypeRows.{adjusted, awaited, awaited_at, basic_or_non
 use Rattle.c_meaning.specs.Typing.{named_type}
 use Rattle.c_meaning.specs.Values.{CoreTree}
 use Rattle.c_meaning.specs.Words as words
-use Rattle.c_fits.specs.Sound.{Follows, IsIntOf, IsNamed, IsNumbered, IsSound, is_of, which}
+use Rattle.c_meaning.specs.Types.{has_size}
+use Rattle.c_fits.specs.Growing.{Grows}
+use Rattle.c_fits.specs.Sound.{AreSized, Follows, IsIntOf, IsNamed, IsNumbered, IsOld, IsSound, has_elements, is_enumerator, is_of, which}
 use Rattle.c_fits.proofs.lemmas.Booleans.{never, and_left, and_right, and_true, not_false, or_left}
 use Rattle.c_fits.proofs.lemmas.Constraints.{unbroken}
-use Rattle.c_fits.proofs.lemmas.Growing.{same_grows}
+use Rattle.c_fits.proofs.lemmas.Growing.{same_grows, sized_stays}
 use Rattle.c_fits.proofs.lemmas.Kinds.{enumeration_which}
-use Rattle.c_fits.proofs.lemmas.Following.{all_append, counted_follows, declared_follows, replaced_follows, same_follows, seam, tag_follows, then_follows, unnamed_append, longer}
+use Rattle.c_fits.proofs.lemmas.Lists.{all_append, below_push, last_below, longer, named_below, seam}
+use Rattle.c_fits.proofs.lemmas.Following.{counted_follows, declared_follows, pushed, pushed_other, replaced_follows, same_follows, tag_follows, then_follows, unnamed_append}
 
 -- ---- types of specifiers
 
@@ -90,17 +93,27 @@ adjusted_apart n (Plain q (Structure m)) h = h
 adjusted_apart n (Plain q (Union m)) h = h
 adjusted_apart n (Plain q (Enumeration m)) h = h
 
+-- no parameter is an array
+pub adjusted_elements : (tags : List Tag) (t : CType) → has_elements tags (adjusted t) ≡ true
+adjusted_elements tags (Array of m) = refl
+adjusted_elements tags (Plain q (Function r ps)) = refl
+adjusted_elements tags (Plain q (Simple b)) = refl
+adjusted_elements tags (Plain q (Pointer to)) = refl
+adjusted_elements tags (Plain q (Structure m)) = refl
+adjusted_elements tags (Plain q (Union m)) = refl
+adjusted_elements tags (Plain q (Enumeration m)) = refl
+
 -- ---- tags that are named
 
-last_named : (s : State) (line : ℕ) (tag : List ℕ) (of : CType) (v : Option ℤ) → IsNamed (with_tag s line tag of v).state of
-last_named s line tag of v n u = ap (λ (k : Known). is_of n k.of) (sym (seam s.symbols (tagged line (level_of s) of v) nothing_known)) ∙ u.unmentioned (length s.symbols)
+pub tag_named : (s : State) (line : ℕ) (tag : List ℕ) (of : CType) (v : Option ℤ) → IsNamed (with_tag s line tag of v).state of
+tag_named s line tag of v n u = ap (λ (k : Known). is_of n k.of) (sym (seam s.symbols (tagged line (level_of s) of v) nothing_known)) ∙ u.unmentioned (length s.symbols)
 
-pub named_follows : (s : State) (line : ℕ) (tag : List ℕ) (of : CType) → IsSound s → ((n : ℕ) → (n == s.count) ≡ false → is_of n of ≡ false) → Follows s (named s line tag of).state × IsNamed (named s line tag of).state (named s line tag of).of
-named_follows s line tag of h e = by (place_of s (tag_key tag))
+pub named_follows : (s : State) (line : ℕ) (tag : List ℕ) (of : CType) → IsSound s → ((n : ℕ) → (n == s.count) ≡ false → is_of n of ≡ false) → has_elements s.tags of ≡ true → Follows s (named s line tag of).state × IsNamed (named s line tag of).state (named s line tag of).of
+named_follows s line tag of h e a = by (place_of s (tag_key tag))
   where
     by : (o : Option ℕ) → Follows s (named_at s line tag of o).state × IsNamed (named_at s line tag of o).state (named_at s line tag of o).of
     by (Some id) = (same_follows s h, λ n u. u.unmentioned id)
-    by None = (tag_follows s line tag of None h e, last_named s line tag of None)
+    by None = (tag_follows s line tag of None h e a, tag_named s line tag of None)
 
 pub awaited_follows : (s : State) (line : ℕ) (tag : Option (List ℕ)) → IsSound s → Follows s (awaited s line tag)
 awaited_follows s line None h = same_follows s h
@@ -108,33 +121,33 @@ awaited_follows s line (Some tag) h = by (place_here s (tag_key tag))
   where
     by : (o : Option ℕ) → Follows s (awaited_at s line tag o)
     by (Some id) = same_follows s h
-    by None = tag_follows s line tag (enumeration_type s.count) None h (λ n e. refl)
+    by None = tag_follows s line tag (enumeration_type s.count) None h (λ n e. refl) refl
 
 pub enumerated_follows : (s : State) (line : ℕ) (tag : Option (List ℕ)) → IsSound s → fault_at s line (Typing (node.Enumeration tag)) ≡ None → Follows s (enumerated s line tag).state × IsNamed (enumerated s line tag).state (enumerated s line tag).of
 enumerated_follows s line None h e = (counted_follows s h, λ n u. refl)
 enumerated_follows s line (Some tag) h e = by (place_here s (tag_key tag)) (or_left (is_other_enumeration s (place_here s (tag_key tag))) (has_stood s (place_here s (tag_key tag))) (unbroken s line (Typing (node.Enumeration (Some tag))) e 8))
   where
     by : (o : Option ℕ) → is_other_enumeration s o ≡ false → Follows s (enumerated_at s line tag o).state × IsNamed (enumerated_at s line tag o).state (enumerated_at s line tag o).of
-    by None g = (tag_follows s line tag (enumeration_type s.count) (Some (pos 0)) h (λ n e. refl), λ n u. refl)
+    by None g = (tag_follows s line tag (enumeration_type s.count) (Some (pos 0)) h (λ n e. refl) refl, λ n u. refl)
     by (Some id) g =
         let c = counted_follows s h in
-        (then_follows s _ _ c (replaced_follows _ id (tagged line (level_of s) (enumeration_type s.count) (Some (pos 0))) c.sound tt (sym (enumeration_which (known_at s id).of (not_false (is_enumeration (known_at s id).of) g)))), λ n u. refl)
+        (then_follows s _ _ c (replaced_follows _ id (tagged line (level_of s) (enumeration_type s.count) (Some (pos 0))) c.sound tt (λ e. refl) (sym (enumeration_which (known_at s id).of (not_false (is_enumeration (known_at s id).of) g))) refl), λ n u. refl)
 
 -- ---- enumerators, parameters and functions
 
 pub enumerator_follows : (s : State) (line : ℕ) (name : List ℕ) (z : ℤ) → IsSound s → Follows s (with_enumerator s line name z)
-enumerator_follows s line name z h = declared_follows s name _ h refl (λ n u. refl)
+enumerator_follows s line name z h = declared_follows s name _ h refl (λ n u. refl) refl
 
-parameter_numbered : (classes : List StorageClass) (of : CType) → IsIntOf (parameter_class classes) of
+pub parameter_numbered : (classes : List StorageClass) (of : CType) → IsIntOf (parameter_class classes) of
 parameter_numbered classes of = by (is_register classes)
   where
     by : (b : Bool) → IsIntOf (if b then storage.Register else storage.Auto) of
     by true = tt
     by false = tt
 
-pub parameter_follows : (s : State) (line place : ℕ) (classes : List StorageClass) (name : Option (List ℕ)) (of : CType) → IsSound s → IsNamed s of → Follows s (with_parameter s line place classes name of)
-parameter_follows s line place classes None of h e = same_follows s h
-parameter_follows s line place classes (Some name) of h e = declared_follows s name (parameter_known s line place classes of) h (parameter_numbered classes of) e
+pub parameter_follows : (s : State) (line place : ℕ) (classes : List StorageClass) (name : Option (List ℕ)) (of : CType) → IsSound s → IsNamed s of → has_elements s.tags of ≡ true → Follows s (with_parameter s line place classes name of)
+parameter_follows s line place classes None of h e a = same_follows s h
+parameter_follows s line place classes (Some name) of h e a = declared_follows s name (parameter_known s line place classes of) h (parameter_numbered classes of) e a
 
 -- ---- members
 
@@ -159,29 +172,75 @@ member_field s line before name of (Some c) e =
     and_true (is_field_type of) (is_field_width (name_or_empty name) (nat_part (fold c))) (and_left (is_field_type of) (is_width name (fold c)) h)
     (width_is name (fold c) (and_right (is_field_type of) (is_width name (fold c)) h))
 
+pub sized_stay : (old new : List Tag) (ms : List MemberType) → Grows old new → AreSized old ms → AreSized new ms
+sized_stay old new [] g h = tt
+sized_stay old new (m ∷ ms) g h = (sized_stays old new g m.of h.0, sized_stay old new ms g h.1)
+
+pub sized_push : (tags : List Tag) (ms : List MemberType) (m : MemberType) → AreSized tags ms → has_size tags m.of ≡ true → AreSized tags (ms ++ m ∷ [])
+sized_push tags [] m h e = (e, tt)
+sized_push tags (x ∷ xs) m h e = (h.0, sized_push tags xs m h.1 e)
+
+pub member_sized : (s : State) (line : ℕ) (before : List MemberType) (name : Option (List ℕ)) (of : CType) (width : Option CoreTree) → fault_at s line (Typing (node.Field before name of width)) ≡ None
+    → has_size s.tags (member name of width).of ≡ true
+member_sized s line before name of width e = not_false (has_size s.tags of) (unbroken s line (Typing (node.Field before name of width)) e 10)
+
 -- ---- a call of an undeclared name
 
-linked_follows : (s : State) (name : List ℕ) (o : Option ℕ) (k : Known) → IsSound s → IsNumbered k → IsNamed s k.of → Follows s (with_link s name o k)
-linked_follows s name (Some id) k h i e = same_follows s h
-linked_follows s name None k h i e =
+-- a name of a list is one of it or the last
+named_pushed : (ns : List (List ℕ × ℕ)) (name x : List ℕ) (n id : ℕ) → symbol_named (ns ++ (name, n) ∷ []) x ≡ Some id → (symbol_named ns x ≡ Some id) ⊎ (n ≡ id)
+named_pushed [] name x n id e = by (bytes_eq x name) e
+  where
+    by : (b : Bool) → (if b then Some n else None) ≡ Some id → (None ≡ Some id) ⊎ (n ≡ id)
+    by true e = inr cc
+    by false e = inl e
+named_pushed (m ∷ ms) name x n id e = by (bytes_eq x m.0) e (named_pushed ms name x n id)
+  where
+    by : (b : Bool) → (if b then Some m.1 else symbol_named (ms ++ (name, n) ∷ []) x) ≡ Some id → (symbol_named (ms ++ (name, n) ∷ []) x ≡ Some id → (symbol_named ms x ≡ Some id) ⊎ (n ≡ id))
+        → ((if b then Some m.1 else symbol_named ms x) ≡ Some id) ⊎ (n ≡ id)
+    by true e k = inl e
+    by false e k = k e
+
+other_pushed : (links : List (List ℕ × ℕ)) (symbols : List Known) (name : List ℕ) (k : Known) (x : List ℕ) (id : ℕ) → AreBelow (length symbols) links
+    → ((y : List ℕ) (j : ℕ) → symbol_named links y ≡ Some j → is_enumerator (get_or symbols j nothing_known).class ≡ false) → is_enumerator k.class ≡ false
+    → symbol_named (links ++ (name, length symbols) ∷ []) x ≡ Some id → is_enumerator (get_or (symbols ++ k ∷ []) id nothing_known).class ≡ false
+other_pushed links symbols name k x id b h c q = by (named_pushed links name x (length symbols) id q)
+  where
+    by : (symbol_named links x ≡ Some id) ⊎ (length symbols ≡ id) → is_enumerator (get_or (symbols ++ k ∷ []) id nothing_known).class ≡ false
+    by (inl e) = pushed_other symbols k id (named_below (length symbols) links x id b e) (h x id e)
+    by (inr e) = subst (λ i. is_enumerator (get_or (symbols ++ k ∷ []) i nothing_known).class ≡ false) e (ap (λ (k : Known). is_enumerator k.class) (seam symbols k nothing_known) ∙ c)
+
+pub linked_sound : (s : State) (name : List ℕ) (o : Option ℕ) (k : Known) → IsSound s → symbol_named s.links name ≡ o → IsNumbered k → is_enumerator k.class ≡ false → IsOld s k.of → IsSound (with_link s name o k)
+linked_sound s name (Some id) k h g i c e = h
+linked_sound s name None k h g i c e =
     record {
-      sound =
-          record {
-            fields = h.fields;
-            enumerators = all_append IsNumbered s.symbols k nothing_known h.enumerators i;
-            names = below_more (length s.symbols) (length (s.symbols ++ k ∷ [])) (longer s.symbols k) s.inner h.names;
-            fresh = λ n l. let u = h.fresh n l in unnamed_append s.tags s.symbols k n u (e n u);
-          };
+      fields = h.fields;
+      once = h.once;
+      sizes = h.sizes;
+      arrays = all_append (λ (k : Known). has_elements s.tags k.of ≡ true) s.symbols k nothing_known h.arrays e.1;
+      enumerators = all_append IsNumbered s.symbols k nothing_known h.enumerators i;
+      names = below_more (length s.symbols) (length (s.symbols ++ k ∷ [])) (longer s.symbols k) s.inner h.names;
+      scopes = all_below_more (length s.symbols) (length (s.symbols ++ k ∷ [])) (longer s.symbols k) s.outer h.scopes;
+      links = below_push (length (s.symbols ++ k ∷ [])) s.links name (length s.symbols) (below_more (length s.symbols) (length (s.symbols ++ k ∷ [])) (longer s.symbols k) s.links h.links) (last_below s.symbols k);
+      linked = λ x id q. other_pushed s.links s.symbols name k x id h.links (λ y j r. h.linked y j r) c q;
+      fresh = λ n l. unnamed_append s.tags s.symbols k n (h.fresh n l) (e.0 n l);
+    }
+
+pub linked_follows : (s : State) (name : List ℕ) (o : Option ℕ) (k : Known) → IsSound s → symbol_named s.links name ≡ o → IsNumbered k → is_enumerator k.class ≡ false → IsNamed s k.of → has_elements s.tags k.of ≡ true → Follows s (with_link s name o k)
+linked_follows s name (Some id) k h g i c e a = same_follows s h
+linked_follows s name None k h g i c e a =
+    record {
+      sound = linked_sound s name None k h g i c (λ n l. e n (h.fresh n l), a);
       count = omega arith;
       symbols = longer s.symbols k;
       here = λ x id g. g;
-      known = λ id l. ap (λ (k : Known). which k.of) (get_or_append_left s.symbols (k ∷ []) nothing_known id l);
+      known = λ id l. ap (λ (k : Known). which k.of) (pushed s.symbols k id l);
+      classes = λ id l. pushed_other s.symbols k id l;
       tags = same_grows s.tags;
       apart = λ n a. unnamed_append s.tags s.symbols k n a.0 (e n a.0);
     }
 
 pub function_follows : (s : State) (line : ℕ) (name : List ℕ) → IsSound s → Follows s (with_function s line name)
 function_follows s line name h =
-    let f = linked_follows s name (symbol_named s.links name) (external line 0 None) h tt (λ n u. refl) in
+    let f = linked_follows s name (symbol_named s.links name) (external line 0 None) h refl tt refl (λ n u. refl) refl in
     then_follows s (with_link s name (symbol_named s.links name) (external line 0 None)) (with_function s line name) f
-    (declared_follows (with_link s name (symbol_named s.links name) (external line 0 None)) name (external line (level_of s) (Some (pos (link_or_next s name)))) f.sound tt (λ n u. refl))
+    (declared_follows (with_link s name (symbol_named s.links name) (external line 0 None)) name (external line (level_of s) (Some (pos (link_or_next s name)))) f.sound tt (λ n u. refl) refl)

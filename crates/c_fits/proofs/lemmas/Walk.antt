@@ -16,20 +16,21 @@ use Rattle.c_meaning.specs.Typing.{Declared, Shaped, named_type, stands_alone}
 use Rattle.c_meaning.specs.TypingRelation.{IsCallee, Types, TypesAll, TypesCallee, TypesCore, TypesDeclared, TypesDeclarator, TypesEnumerator, TypesEnumerators, TypesField, TypesFields, TypesMaybe, TypesMember, TypesMembers, TypesName, TypesParameter, TypesParameters, TypesParameterShape, TypesPart, TypesParts, TypesShape, TypesSpecifiers, TypesSuffix, TypesSuffixes}
 use Rattle.c_meaning.specs.Values.{CoreTrees}
 use Rattle.c_meaning.specs.Values as values
-use Rattle.c_fits.specs.Sound.{Follows, IsNamed, IsSound, Unnamed, is_of}
+use Rattle.c_meaning.specs.Types.{has_size}
+use Rattle.c_fits.specs.Sound.{AreSized, Follows, IsNamed, IsSound, Unnamed, is_of}
 use Rattle.c_fits.proofs.lemmas.Completing.{completed_follows, completed_named, open_is, opened_follows}
-use Rattle.c_fits.proofs.lemmas.Kinds.{is_of_record}
+use Rattle.c_fits.proofs.lemmas.Kinds.{elements_of_record, is_of_record}
 use Rattle.c_fits.proofs.lemmas.Following.{entered_sound, left_follows, same_follows, then_follows, unnamed_before}
-use Rattle.c_fits.proofs.lemmas.Types.{NoneOf, adjusted_apart, awaited_follows, enumerated_follows, enumerator_follows, fields_push, formed_apart, function_follows, known_named, member_field, named_follows, parameter_follows, specified_apart}
+use Rattle.c_fits.proofs.lemmas.Types.{NoneOf, adjusted_apart, adjusted_elements, awaited_follows, enumerated_follows, enumerator_follows, fields_push, formed_apart, function_follows, known_named, member_field, member_sized, named_follows, parameter_follows, sized_push, sized_stay, specified_apart}
 
 -- a sound state is followed
 abbrev pub Goes : State → State → Type 0
 Goes s u = IsSound s → Follows s u
 
-stay : {s u : State} → s ≡ u → Goes s u
+pub stay : {s u : State} → s ≡ u → Goes s u
 stay {s} {u} e h = subst (Follows s) e (same_follows s h)
 
-go : {s t u : State} → Goes s t → Goes t u → Goes s u
+pub go : {s t u : State} → Goes s t → Goes t u → Goes s u
 go {s} {t} {u} f g h = let a = f h in then_follows s t u a (g a.sound)
 
 -- all whole types among parts have names
@@ -52,9 +53,9 @@ none_first n (node.Word w) ps h k = k
 abbrev Shapes : CType → CType → Type 0
 Shapes t u = (n : ℕ) → is_of n t ≡ false → is_of n u ≡ false
 
--- members are bit-fields that there may be where those before them are
+-- members are bit-fields that there may be, and have sizes, where those before them are and have
 abbrev MembersGo : State → List MemberType → State → List MemberType → Type 0
-MembersGo s before u now = IsSound s → are_fields before ≡ true → Follows s u × (are_fields now ≡ true)
+MembersGo s before u now = IsSound s → are_fields before ≡ true → AreSized s.tags before → Follows s u × ((are_fields now ≡ true) × AreSized u.tags now)
 
 -- a part that a tag names
 tag_goes : (s t u : State) (of : CType) (q : Part) → Follows s t × IsNamed t of → t ≡ u → Whole of ≡ q → Follows s u × AreNamed u (q ∷ [])
@@ -137,10 +138,10 @@ mutual
   part_goes s (tree.NamedType l x) u q h k = tag_goes s s u (named_type s (place_of s x)) q (same_follows s k, known_named s (place_of s x)) h.0 h.1
   part_goes s (tree.RecordTag l c tag) u q h k =
       tag_goes s (named s l tag (record_type c s.count)).state u (named s l tag (record_type c s.count)).of q
-      (named_follows s l tag (record_type c s.count) k (λ n e. is_of_record c n s.count ∙ e)) h.1.0 h.1.1
+      (named_follows s l tag (record_type c s.count) k (λ n e. is_of_record c n s.count ∙ e) (elements_of_record s.tags c s.count)) h.1.0 h.1.1
   part_goes s (tree.EnumerationTag l tag) u q h k =
       tag_goes s (named s l tag (enumeration_type s.count)).state u (named s l tag (enumeration_type s.count)).of q
-      (named_follows s l tag (enumeration_type s.count) k (λ n e. refl)) h.1.0 h.1.1
+      (named_follows s l tag (enumeration_type s.count) k (λ n e. refl) refl) h.1.0 h.1.1
   part_goes s (tree.Enumeration l tag es comma) u q h k =
       let a = awaited_follows s l tag k in
       let b = enumerators_go (awaited s l tag) (pos 0) es h.0 h.1 h.2 a.sound in
@@ -149,40 +150,41 @@ mutual
       (then_follows s h.0 (enumerated h.0 l tag).state (then_follows s (awaited s l tag) h.0 a b) t.0, t.1) h.3.1.0 h.3.1.1
   part_goes s (tree.Record l c tag ms) u q h k =
       let a = opened_follows s l c tag k in
-      let b = members_go (opened s l c tag).state [] ms h.0 h.1 h.2 a.sound refl in
+      let b = members_go (opened s l c tag).state [] ms h.0 h.1 h.2 a.sound refl tt in
       let f = then_follows s (opened s l c tag).state h.0 a b.0 in
       let o = open_is s h.0 l c tag h.1 k b.0 h.3.0 in
       tag_goes s (completed h.0 c (number_of (opened s l c tag).of) h.1) u (record_type c (number_of (opened s l c tag).of)) q
-      (completed_follows s h.0 c (number_of (opened s l c tag).of) h.1 f o k b.1, completed_named h.0 c (number_of (opened s l c tag).of) h.1) h.3.1.0 h.3.1.1
+      (completed_follows s h.0 c (number_of (opened s l c tag).of) h.1 f o k b.1.0 b.1.1, completed_named h.0 c (number_of (opened s l c tag).of) h.1) h.3.1.0 h.3.1.1
 
   -- the members behind others
   pub members_go : (s : State) (before : List MemberType) (ms : MemberTrees) (u : State) (now : List MemberType) → TypesMembers s before ms u now → MembersGo s before u now
-  members_go s before NoMembers u now h k e = (subst (Follows s) h.0 (same_follows s k), subst (λ ms. are_fields ms ≡ true) h.1 e)
-  members_go s before (MoreMembers m ms) u now h k e =
-      let a = member_goes s before m h.0 h.1 h.2 k e in
-      let b = members_go h.0 h.1 ms u now h.3 a.0.sound a.1 in
+  members_go s before NoMembers u now h k e z =
+      subst (λ (u : State). Follows s u × ((are_fields now ≡ true) × AreSized u.tags now)) h.0 (subst (λ ms. Follows s s × ((are_fields ms ≡ true) × AreSized s.tags ms)) h.1 (same_follows s k, (e, z)))
+  members_go s before (MoreMembers m ms) u now h k e z =
+      let a = member_goes s before m h.0 h.1 h.2 k e z in
+      let b = members_go h.0 h.1 ms u now h.3 a.0.sound a.1.0 a.1.1 in
       (then_follows s h.0 u a.0 b.0, b.1)
 
   member_goes : (s : State) (before : List MemberType) (m : MemberTree) (u : State) (now : List MemberType) → TypesMember s before m u now → MembersGo s before u now
-  member_goes s before (Members l specs fs) u now h k e =
+  member_goes s before (Members l specs fs) u now h k e z =
       let a = specifiers_go s specs h.0 h.1 h.2 k in
-      let b = fields_go h.0 before h.1.of fs u now h.3 a.0.sound e in
+      let b = fields_go h.0 before h.1.of fs u now h.3 a.0.sound e (sized_stay s.tags h.0.tags before a.0.tags z) in
       (then_follows s h.0 u a.0 b.0, b.1)
 
   fields_go : (s : State) (before : List MemberType) (base : CType) (fs : FieldTrees) (u : State) (now : List MemberType) → TypesFields s before base fs u now → MembersGo s before u now
-  fields_go s before base NoFields u now h k e = (subst (Follows s) h.0 (same_follows s k), subst (λ ms. are_fields ms ≡ true) h.1 e)
-  fields_go s before base (Fields f fs) u now h k e =
+  fields_go s before base NoFields u now h k e z =
+      subst (λ (u : State). Follows s u × ((are_fields now ≡ true) × AreSized u.tags now)) h.0 (subst (λ ms. Follows s s × ((are_fields ms ≡ true) × AreSized s.tags ms)) h.1 (same_follows s k, (e, z)))
+  fields_go s before base (Fields f fs) u now h k e z =
       let a = field_goes s before base f h.0 h.1 h.2 k in
-      let b = fields_go h.0 (before ++ h.1 ∷ []) base fs u now h.3 a.0.sound (fields_push before h.1 e a.1) in
+      let b = fields_go h.0 (before ++ h.1 ∷ []) base fs u now h.3 a.0.sound (fields_push before h.1 e a.1.0) (sized_push h.0.tags before h.1 (sized_stay s.tags h.0.tags before a.0.tags z) a.1.1) in
       (then_follows s h.0 u a.0 b.0, b.1)
 
-  field_goes : (s : State) (before : List MemberType) (base : CType) (f : FieldTree) (u : State) (m : MemberType) → TypesField s before base f u m → IsSound s → Follows s u × (is_field m.name m.of m.width ≡ true)
+  field_goes : (s : State) (before : List MemberType) (base : CType) (f : FieldTree) (u : State) (m : MemberType) → TypesField s before base f u m → IsSound s → Follows s u × ((is_field m.name m.of m.width ≡ true) × (has_size u.tags m.of ≡ true))
   field_goes s before base (Field l d width) u m h k =
       let a = shape_goes s base d h.0 h.1 h.2 k in
-      let b = maybe_goes h.0 width h.3.0 h.3.1 h.3.2 a.0.sound in (
-        subst (Follows s) h.3.3.1.0 (then_follows s h.0 h.3.0 a.0 b),
-        subst (λ (m : MemberType). is_field m.name m.of m.width ≡ true) h.3.3.1.1 (member_field h.3.0 l before h.1.name h.1.of h.3.1 h.3.3.0),
-      )
+      let b = maybe_goes h.0 width h.3.0 h.3.1 h.3.2 a.0.sound in
+      subst (λ (u : State). Follows s u × ((is_field m.name m.of m.width ≡ true) × (has_size u.tags m.of ≡ true))) h.3.3.1.0
+      (subst (λ (m : MemberType). Follows s h.3.0 × ((is_field m.name m.of m.width ≡ true) × (has_size h.3.0.tags m.of ≡ true))) h.3.3.1.1 (then_follows s h.0 h.3.0 a.0 b, (member_field h.3.0 l before h.1.name h.1.of h.3.1 h.3.3.0, member_sized h.3.0 l before h.1.name h.1.of h.3.1 h.3.3.0)))
 
   -- the value that the next enumerator has, where none is written
   enumerators_go : (s : State) (next : ℤ) (es : EnumeratorTrees) (u : State) (z : ℤ) → TypesEnumerators s next es u z → Goes s u
@@ -198,23 +200,23 @@ mutual
   pub declarator_goes : (s : State) (d : DeclaratorTree) (u : State) (p : Declared) → TypesDeclarator s d u p → Goes s u
   declarator_goes s (Declarator l pointers core suffixes) u p h = go (core_goes s core h.0 h.1 h.2) (go (suffixes_go h.0 suffixes h.3.0 h.3.1 h.3.2) (stay h.3.3.0))
 
-  core_goes : (s : State) (c : CoreTree) (u : State) (p : Declared) → TypesCore s c u p → Goes s u
+  pub core_goes : (s : State) (c : CoreTree) (u : State) (p : Declared) → TypesCore s c u p → Goes s u
   core_goes s (Named x) u p h = stay h.0
   core_goes s (Inner d) u p h = declarator_goes s d u p h
   core_goes s Omitted u p h = stay h.0
 
-  suffixes_go : (s : State) (xs : SuffixTrees) (u : State) (ps : List Step) → TypesSuffixes s xs u ps → Goes s u
+  pub suffixes_go : (s : State) (xs : SuffixTrees) (u : State) (ps : List Step) → TypesSuffixes s xs u ps → Goes s u
   suffixes_go s NoSuffixes u ps h = stay h.0
   suffixes_go s (Suffixes x xs) u ps h = go (suffix_goes s x h.0 h.1 h.2) (go (suffixes_go h.0 xs h.3.0 h.3.1 h.3.2) (stay h.3.3.0))
 
   -- a prototype's parameters have a scope of their own
-  suffix_goes : (s : State) (x : SuffixTree) (u : State) (p : Step) → TypesSuffix s x u p → Goes s u
+  pub suffix_goes : (s : State) (x : SuffixTree) (u : State) (p : Step) → TypesSuffix s x u p → Goes s u
   suffix_goes s (ArraySuffix l size) u p h = go (maybe_goes s size h.0 h.1 h.2) (stay h.3.0)
   suffix_goes s (NameList l names) u p h = stay h.0
   suffix_goes s (NoParameters l) u p h = stay h.0
   suffix_goes s (Prototype l ps more) u p h = λ k. subst (Follows s) h.3.0 (left_follows s h.0 k (parameters_go (entered s) (stands_alone ps more) 0 ps h.0 h.1 h.2 (entered_sound s k)))
 
-  parameters_go : (s : State) (alone : Bool) (index : ℕ) (ps : ParameterTrees) (u : State) (qs : List NamedParameter) → TypesParameters s alone index ps u qs → Goes s u
+  pub parameters_go : (s : State) (alone : Bool) (index : ℕ) (ps : ParameterTrees) (u : State) (qs : List NamedParameter) → TypesParameters s alone index ps u qs → Goes s u
   parameters_go s alone index NoParameter u qs h = stay h.0
   parameters_go s alone index (Parameters p ps) u qs h = go (parameter_goes s alone index p h.0 h.1 h.2) (go (parameters_go h.0 alone (index + 1) ps h.3.0 h.3.1 h.3.2) (stay h.3.3.0))
 
@@ -222,7 +224,7 @@ mutual
   parameter_goes s alone index (Parameter l specs d) u q h k =
       let a = specifiers_go s specs h.0 h.1 h.2 k in
       let b = parameter_shape_goes h.0 h.1.of d h.3.0 h.3.1 h.3.2 a.0.sound in
-      let f = parameter_follows h.3.0 l index h.1.classes h.3.1.name (adjusted h.3.1.of) b.0.sound (λ n m. adjusted_apart n h.3.1.of (b.1 n (a.1 n (unnamed_before h.0 h.3.0 b.0 n m)))) in
+      let f = parameter_follows h.3.0 l index h.1.classes h.3.1.name (adjusted h.3.1.of) b.0.sound (λ n m. adjusted_apart n h.3.1.of (b.1 n (a.1 n (unnamed_before h.0 h.3.0 b.0 n m)))) (adjusted_elements h.3.0.tags h.3.1.of) in
       subst (Follows s) h.3.3.1.0 (then_follows s h.0 (with_parameter h.3.0 l index h.1.classes h.3.1.name (adjusted h.3.1.of)) a.0 (then_follows h.0 h.3.0 (with_parameter h.3.0 l index h.1.classes h.3.1.name (adjusted h.3.1.of)) b.0 f))
 
   parameter_shape_goes : (s : State) (base : CType) (d : MaybeDeclarator) (u : State) (p : Shaped) → TypesParameterShape s base d u p → IsSound s → Follows s u × Shapes base p.of

@@ -1,0 +1,15 @@
+pub mod Ranges
+pub mod Fills
+pub mod Numbered
+pub mod Marked
+pub mod Shaped
+pub mod BodyShapes
+pub mod Staying
+pub mod Values
+pub mod Fitting
+pub mod Scopes
+pub mod Signatures
+pub mod Defining
+pub mod Functions
+pub mod Externals
+pub mod Constants

@@ -1,0 +1,5 @@
+pub mod Shapes
+pub mod OpenStmts
+pub mod Functions
+pub mod OpenUnits
+pub mod Laws
