@@ -1,0 +1,13 @@
+mod DifferentNames
+mod OwnSteps
+mod StepsStay
+mod ListedNames
+mod DefinitionFaults
+mod DefinitionWalks
+mod OldSteps
+mod OldWalks
+mod OldLists
+mod ResultWalks
+mod BodyWalks
+mod FunctionWalks
+mod ParameterTests

@@ -1,0 +1,5 @@
+pub mod Headings
+pub mod OldParameters
+pub mod OwnParameters
+pub mod FunctionsSeen
+pub mod Defined
