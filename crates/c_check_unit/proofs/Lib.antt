@@ -1,0 +1,10 @@
+mod ExternalSteps
+mod ExternalWalks
+mod LinkMarks
+mod MadeLists
+mod MainPlaces
+mod TextsNoted
+mod UnitEnds
+mod UnitTypings
+mod WholeUnits
+mod WithParts

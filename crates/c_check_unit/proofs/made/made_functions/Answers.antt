@@ -1,0 +1,38 @@
+use Rattle.std.proofs.Common.{rules, ◌≡◌, List, ◌∷◌, ◌++◌, length, map, sym, ap, ◌∙◌, subst}
+use Rattle.std.specs.Vec.Iter.{into_iter_items}
+use Rattle.c_meaning.specs.declared.core_unit.CoreFunction.{CoreFunction}
+use Rattle.c_meaning.specs.Units.{function_seen}
+use Rattle.c_standings.specs.StandingLists.{meant}
+use Rattle.c_types.specs.Table.{types}
+use Rattle.c_unit_parts.specs.PartsIn.{AreFunctionsIn, IsFunctionIn, function_in}
+use Rattle.c_units.specs.Wholes.{whole_functions}
+use Rattle.c_check_unit.proofs.MadeLists.{functions_end, functions_turn, locals_below}
+use Rattle.c_check_unit.proofs.made.made_functions.Goals as goal
+
+-- the next function, and those behind it
+taken : {n : _} {items rest : List _} {f : _} → items ≡ f ∷ rest → AreFunctionsIn n items → IsFunctionIn n f × AreFunctionsIn n rest
+taken {n = n} s h = subst (AreFunctionsIn n) s h
+
+pub whole_function-requires-clause-of : goal.whole_function-requires-clause-of
+whole_function-requires-clause-of c = (taken c.in-Some.ensures.steps.0 c.loop-f.invariant.within).0.of
+
+pub whole_function-requires-clause-locals : goal.whole_function-requires-clause-locals
+whole_function-requires-clause-locals c = locals_below _ _ (taken c.in-Some.ensures.steps.0 c.loop-f.invariant.within).0.locals
+
+pub whole_function-requires-clause-body : goal.whole_function-requires-clause-body
+whole_function-requires-clause-body c = (taken c.in-Some.ensures.steps.0 c.loop-f.invariant.within).0.body
+
+pub loop-f-preserved : goal.loop-f-preserved
+loop-f-preserved c =
+    let t = c.args.types.now in
+    let s = c.in-Some.ensures.steps.0 in
+    record {
+      is = ap (λ (l : List CoreFunction). map (function_seen (types t)) l ++ whole_functions (meant c.args.standings.now) c.args.texts.now (map (function_in t) (into_iter_items c.next.new.self))) c.in_ok-push.ensures.ok
+          ∙ functions_turn t (meant c.args.standings.now) c.args.texts.now c.loop-f.list c.in_ok-function.function c.in-Some.f (into_iter_items c.next.new.self) (into_iter_items c.loop-f.f-iterator) _ s c.in_ok-function.ensures.whole c.loop-f.invariant.is;
+      within = (taken s c.loop-f.invariant.within).1;
+    }
+
+pub returns : goal.returns
+returns c =
+    let none : length (into_iter_items c.loop-f.f-iterator) ≡ 0 = search rules in
+    functions_end c.args.types.now (meant c.args.standings.now) c.args.texts.now c.loop-f.list (into_iter_items c.loop-f.f-iterator) _ none c.loop-f.invariant.is

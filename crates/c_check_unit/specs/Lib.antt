@@ -1,0 +1,2 @@
+pub mod EndIn
+pub mod ExternalsIn
