@@ -1,6 +1,6 @@
 -- The end of a unit: what is told of it, and the unit where nothing is.
 use Rattle.std.proofs.Common.{◌≡◌, sym, ap, ◌∙◌, subst}
-use Rattle.std.specs.Prelude.{Option, Some, None, Result, Ok, Err, IfErr, IfOk, IsErrAnd}
+use Rattle.std.specs.Prelude.{Option, None, Result, Ok, Err, IfErr, IfOk, IsErrAnd}
 use Rattle.c_meaning.specs.Constraints.{Fault}
 use Rattle.c_meaning.specs.Postorder.{or_else}
 use Rattle.c_meaning.specs.State.{State}

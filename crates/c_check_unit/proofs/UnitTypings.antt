@@ -1,11 +1,10 @@
 -- A unit: its external declarations where nothing is known before them, and its end.
-use Rattle.std.proofs.Common.{◌≡◌, ℕ, List, [], length, map, refl, sym, ap, ◌∙◌, subst}
-use Rattle.std.specs.Prelude.{Result, Ok, Err, IfErr, IfOk, IsErrAnd, Some}
+use Rattle.std.proofs.Common.{◌≡◌, ℕ, List, [], map, refl, sym, ap, ◌∙◌}
+use Rattle.std.specs.Prelude.{Result, Ok, Err, IfErr, IfOk, Some}
 use Rattle.lcc_base.specs.declared.which.Which.{Which}
 use Rattle.c_ast.specs.Seen.{declarator_seen, specifiers_seen}
 use Rattle.c_ast.specs.SeenUnits.{declaration_seen}
-use Rattle.c_ast.specs.Trees.{ExternalTree}
-use Rattle.c_ast.specs.UnitViews.{external_form_of, external_of, unit_of}
+use Rattle.c_ast.specs.UnitViews.{external_form_of, unit_of}
 use Rattle.c_ast.specs.declared.unit.External.{External}
 use Rattle.c_ast.specs.declared.unit.ExternalForm.{ExternalForm}
 use Rattle.c_ast.specs.declared.unit.ExternalForm.TheVariants as form
@@ -15,7 +14,7 @@ use Rattle.c_types.specs.Table.{Table, basic_forms}
 use Rattle.c_meaning.specs.Constraints.{Breaks, Passes}
 use Rattle.c_meaning.specs.Laws.{IsTyping, fault_of}
 use Rattle.c_meaning.specs.State.{State}
-use Rattle.c_meaning.specs.Typing.{Fine, Outcome, then_do}
+use Rattle.c_meaning.specs.Typing.{Fine, then_do}
 use Rattle.c_meaning.specs.Units.{UnitTree}
 use Rattle.c_values.specs.declared.check_fault.CheckFault.{CheckFault}
 use Rattle.c_values.specs.declared.check_fault.CheckFault.TheVariants.{Constraint, Limit}

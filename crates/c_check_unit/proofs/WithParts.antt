@@ -2,7 +2,7 @@
 use Rattle.std.proofs.Common.{◌≡◌, ℕ, List, [], ◌∷◌, ◌++◌, length, map, refl, ap, ◌∙◌, arith}
 use Rattle.std.proofs.lemmas.List.{map-append}
 use Rattle.c_types.specs.Table.{Table, Extends, type_at}
-use Rattle.c_meaning.specs.Declarations.{Declares as DeclaresTrees, Defined, Linked}
+use Rattle.c_meaning.specs.Declarations.{Declares as DeclaresTrees}
 use Rattle.c_meaning.specs.StmtTrees.{stmt_of}
 use Rattle.c_values.specs.Stays.{longer}
 use Rattle.c_check_decl.specs.declared.declares.Declares.{Declares}
@@ -13,8 +13,7 @@ use Rattle.c_check_decl.specs.DeclaresStay.{declares_later, declares_stay}
 use Rattle.c_check_decl.specs.StmtsStay.{stmt_later, stmt_stays}
 use Rattle.c_check_function.specs.declared.function_definitions.Defines.{Defines}
 use Rattle.c_check_function.specs.Defined.{AreDefinedIn, defines_in}
-use Rattle.c_units.specs.Externals.{Parts, with_declared}
-use Rattle.c_units.specs.Functions.{DefinedFunction as FunctionTrees}
+use Rattle.c_units.specs.Externals.{with_declared}
 use Rattle.c_unit_parts.specs.declared.DefinedFunction.{DefinedFunction}
 use Rattle.c_unit_parts.specs.declared.UnitParts.{UnitParts}
 use Rattle.c_unit_parts.specs.PartsIn.{AreFunctionsIn, ArePartsIn, function_in, parts_in}

@@ -1,7 +1,6 @@
 -- External declarations, and what typing makes of them where scopes and a table tell what is known, as contracts of the walk speak of
 -- it: it is not unfolded there.
 use Rattle.std.specs.Prelude.{ℕ, List, [], ◌∷◌, ◌++◌}
-use Rattle.std.specs.Global.{Box}
 use Rattle.c_ast.specs.SeenUnits.{declaration_seen}
 use Rattle.c_ast.specs.Trees.{Declares, Empty, ExternalTree, Function}
 use Rattle.c_ast.specs.declared.unit.External.{External}

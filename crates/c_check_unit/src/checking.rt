@@ -3,9 +3,10 @@ ghost use Rattle.std.specs.Prelude.{◌≡◌, ℕ, Err, Some, length, map, IfEr
 ghost use Rattle.lcc_base.specs.declared.which.Which.{Which};
 ghost use Rattle.c_ast.specs.UnitViews.{unit_of};
 ghost use Rattle.c_meaning.specs.Constraints.{Breaks, Passes};
+ghost use Rattle.c_meaning.specs.Each.{EachIs};
 ghost use Rattle.c_meaning.specs.State.{State};
 ghost use Rattle.c_meaning.specs.Typing.{Fine};
-ghost use Rattle.c_meaning.specs.Units.{unit_seen};
+ghost use Rattle.c_meaning.specs.Units.{IsFunctionIn, IsObjectIn, unit_seen};
 ghost use Rattle.c_values.specs.declared.check_fault.CheckFault.TheVariants.{Constraint, Limit};
 ghost use Rattle.c_check_expr.specs.AtNode.{Tells};
 ghost use Rattle.c_check_expr.specs.Known.{AreSymbolsIn, state_of};
@@ -34,6 +35,8 @@ pub fn check_unit(alloc: Global, unit: &Unit) -> Result<WholeUnit, CheckFault>
     ensures typed { IfOk result (λ u. (s : State) × TypesUnit (unit_of unit.now) s (unit_seen (record { functions = u.functions; objects = u.objects; texts = u.texts; types = u.types; main = u.main }))) }
     ensures constraint { (number line : ℕ) → result ≡ Err (Constraint number line) → first_in (unit_nodes (unit_of unit.now)) ≡ Some (Breaks number line) }
     ensures limit { (limit : Which) → (line : ℕ) → result ≡ Err (Limit limit line) → first_in (unit_nodes (unit_of unit.now)) ≡ Some (Passes limit line) }
+    ensures functions { IfOk result (λ u. EachIs (IsFunctionIn (length u.types.forms)) u.functions) }
+    ensures objects { IfOk result (λ u. EachIs (IsObjectIn (length u.types.forms)) u.objects) }
 {
     typing_units_is_a_function();
     checked(alloc, unit)
@@ -43,6 +46,8 @@ pub fn check_unit(alloc: Global, unit: &Unit) -> Result<WholeUnit, CheckFault>
 fn checked(alloc: Global, unit: &Unit) -> Result<WholeUnit, CheckFault>
     ensures is { IfOk result (λ u. (s : State) × (unit_in (map external_seen unit.now.externals) ≡ Fine s (unit_seen (record { functions = u.functions; objects = u.objects; texts = u.texts; types = u.types; main = u.main })))) }
     ensures told { IfErr result (λ e. Tells e (unit_in (map external_seen unit.now.externals))) }
+    ensures functions { IfOk result (λ u. EachIs (IsFunctionIn (length u.types.forms)) u.functions) }
+    ensures objects { IfOk result (λ u. EachIs (IsObjectIn (length u.types.forms)) u.objects) }
 {
     let mut scopes = Scopes::new(alloc)?;
     let mut types = TypeTable::new(alloc);
@@ -61,6 +66,8 @@ fn ended(
     requires parts { ArePartsIn (length types.forms) parts }
     ensures is { IfOk result (λ u. typed_end (state_of scopes.now types) (parts_in types parts) ≡ Fine (state_of scopes.now types) (unit_seen (record { functions = u.functions; objects = u.objects; texts = u.texts; types = u.types; main = u.main }))) }
     ensures told { IfErr result (λ e. Tells e (typed_end (state_of scopes.now types) (parts_in types parts))) }
+    ensures functions { IfOk result (λ u. EachIs (IsFunctionIn (length u.types.forms)) u.functions) }
+    ensures objects { IfOk result (λ u. EachIs (IsObjectIn (length u.types.forms)) u.objects) }
 {
     let mut types = types;
     let mut parts = parts;

@@ -1,8 +1,9 @@
 //! The functions and objects of a unit, made whole (C89 3.7).
-ghost use Rattle.std.specs.Prelude.{◌≡◌, length, map, IfOk};
-ghost use Rattle.c_check_decl.specs.Declares.{defined_in};
+ghost use Rattle.std.specs.Prelude.{◌≡◌, ℕ, length, map, IfOk};
+ghost use Rattle.c_check_decl.specs.Declares.{AreObjectsIn, defined_in};
 ghost use Rattle.c_check_expr.specs.Known.{state_of};
-ghost use Rattle.c_meaning.specs.Units.{function_seen, object_seen};
+ghost use Rattle.c_meaning.specs.Each.{EachIs};
+ghost use Rattle.c_meaning.specs.Units.{IsFunctionIn, IsObjectIn, function_seen, object_seen};
 ghost use Rattle.c_standings.specs.StandingLists.{meant};
 ghost use Rattle.c_types.specs.Table.{Table, types as types_of};
 ghost use Rattle.c_unit_parts.specs.PartsIn.{AreFunctionsIn, function_in};
@@ -28,7 +29,8 @@ pub(crate) fn made_functions(
     functions: Items<DefinedFunction>,
 ) -> Result<Items<CoreFunction>, Memory>
     requires { AreFunctionsIn (length types.now.forms) functions }
-    ensures { IfOk result (λ l. map (function_seen (types_of types.now)) l ≡ whole_functions (meant standings.now) texts.now (map (function_in types.now) functions)) }
+    ensures is { IfOk result (λ l. map (function_seen (types_of types.now)) l ≡ whole_functions (meant standings.now) texts.now (map (function_in types.now) functions)) }
+    ensures within { IfOk result (λ l. EachIs (IsFunctionIn (length types.now.forms)) l) }
 {
     let mut list = Items::with_capacity(alloc, functions.len())?;
     for f in functions.into_vec() {
@@ -46,7 +48,8 @@ pub(crate) fn made_objects(
     texts: &Texts,
     objects: Items<DefinedObject>,
 ) -> Result<Items<CoreObject>, Memory>
-    ensures { IfOk result (λ l. (t : Table) → map (object_seen (types_of t)) l ≡ whole_objects (state_of scopes.now t) (meant standings.now) texts.now 0 (map (defined_in t) objects)) }
+    ensures is { IfOk result (λ l. (t : Table) → map (object_seen (types_of t)) l ≡ whole_objects (state_of scopes.now t) (meant standings.now) texts.now 0 (map (defined_in t) objects)) }
+    ensures within { IfOk result (λ l. (n : ℕ) → AreObjectsIn n objects → EachIs (IsObjectIn n) l) }
 {
     scopes.names_are_declared();
     let linked = linked_symbols(alloc, scopes.links(), scopes.count())?;

@@ -2,7 +2,8 @@
 ghost use Rattle.std.specs.Prelude.{◌≡◌, codes, length, map, IfOk};
 ghost use Rattle.std.specs.Str.{bytes_eq};
 ghost use Rattle.c_check_expr.specs.Known.{state_of};
-ghost use Rattle.c_meaning.specs.Units.{unit_seen};
+ghost use Rattle.c_meaning.specs.Each.{EachIs};
+ghost use Rattle.c_meaning.specs.Units.{IsFunctionIn, IsObjectIn, unit_seen};
 ghost use Rattle.c_types.specs.Table.{Table};
 ghost use Rattle.c_unit_ends.specs.Standing.{AreStandings};
 ghost use Rattle.c_unit_parts.specs.PartsIn.{ArePartsIn, function_in, parts_in};
@@ -42,6 +43,8 @@ pub(crate) fn whole(
     requires standings { AreStandings (state_of scopes.now types) (parts_in types parts) standings.now }
     ensures is { IfOk result (λ u. unit_seen (record { functions = u.functions; objects = u.objects; texts = u.texts; types = u.types; main = u.main }) ≡ whole_unit (state_of scopes.now types) (parts_in types parts)) }
     ensures types { IfOk result (λ u. u.types ≡ types) }
+    ensures functions { IfOk result (λ u. EachIs (IsFunctionIn (length u.types.forms)) u.functions) }
+    ensures objects { IfOk result (λ u. EachIs (IsObjectIn (length u.types.forms)) u.objects) }
 {
     let texts = noted(alloc, &parts)?;
     let main = main_place(parts.functions.as_slice())?;

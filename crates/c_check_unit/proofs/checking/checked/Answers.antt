@@ -1,9 +1,7 @@
-use Rattle.std.proofs.Common.{◌≡◌, length, map, sym, subst}
-use Rattle.c_ast.specs.declared.unit.External.{External}
+use Rattle.std.proofs.Common.{length, map, sym, subst}
 use Rattle.c_check_expr.specs.Known.{AreSymbolsIn, state_of}
 use Rattle.c_meaning.specs.Units.{unit_seen}
 use Rattle.c_unit_parts.specs.PartsIn.{parts_in}
-use Rattle.c_units.specs.Typing.{at_first}
 use Rattle.c_check_unit.specs.EndIn.{unit_in}
 use Rattle.c_check_unit.specs.ExternalsIn.{external_seen}
 use Rattle.c_check_unit.proofs.UnitEnds.{passed_told}

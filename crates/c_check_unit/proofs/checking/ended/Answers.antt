@@ -1,5 +1,4 @@
-use Rattle.std.proofs.Common.{◌≡◌, refl, sym, subst}
-use Rattle.c_values.specs.declared.check_fault.CheckFault.TheVariants.{Memory}
+use Rattle.std.proofs.Common.{refl}
 use Rattle.c_check_expr.specs.Kept.{keeps_grown}
 use Rattle.c_check_expr.specs.Known.{state_of}
 use Rattle.c_check_expr.specs.SymbolsStay.{state_stays}
