@@ -5,6 +5,7 @@ use crate::case::Question;
 use crate::checking::{tell_checked, tell_linked};
 use crate::pieces::{tell_piece, tell_printed, tell_unit};
 use crate::tokens::tell_tokens;
+use crate::units::tell_checked_unit;
 use std::alloc::{AllocError, Global};
 
 /// The longest source, in bytes.
@@ -19,6 +20,7 @@ fn answer_short(alloc: Global, question: Question, source: &[u8]) -> Result<Stri
         Question::Piece(production) => tell_piece(alloc, production, source),
         Question::Unit => tell_unit(alloc, source),
         Question::Printed => tell_printed(alloc, source),
+        Question::CheckedUnit => tell_checked_unit(alloc, source),
         Question::Checked => tell_checked(alloc, source),
         Question::Linked => tell_linked(alloc, source),
     }

@@ -18,6 +18,8 @@ pub enum Question {
     Unit,
     /// The unit that it is, printed.
     Printed,
+    /// Whether the unit that it is breaks a constraint or passes a limit.
+    CheckedUnit,
     /// What its declarations declare, and what its expressions are.
     Checked,
     /// What all declarations of the name `x` in it come to.
@@ -45,6 +47,7 @@ pub fn question_of(words: &str) -> Option<Question> {
         "statement" => Question::Piece(Production::Statement),
         "unit" => Question::Unit,
         "printed" => Question::Printed,
+        "checked unit" => Question::CheckedUnit,
         "checked" => Question::Checked,
         "linked" => Question::Linked,
         _ => return None,

@@ -13,6 +13,7 @@ mod pieces;
 mod reading;
 mod telling;
 mod tokens;
+mod units;
 
 use answers::answer;
 use case::Case;
