@@ -1,6 +1,6 @@
 -- The names of an old-style list, each declared unless it was, and their types in the order of the list.
 use Rattle.std.proofs.Common.{◌≡◌, ℕ, suc, ◌+◌, ◌<◌, ◌≤◌, List, [], ◌∷◌, ◌++◌, length, map, get_or, drop, sym, ap, ◌∙◌, append_assoc, subst}
-use Rattle.std.specs.Prelude.{Some, slice_get}
+use Rattle.std.specs.Prelude.{Some, slice_get, true, false, ◌||◌}
 use Rattle.std.proofs.lemmas.List.{append-nil, at_drop_all, at_drop_more, drop_all, drop_more, map-append}
 use Rattle.std.proofs.lemmas.Option.{get_or_from_slice_get, slice_get_within}
 use Rattle.c_symbols.specs.Scoping.{AreBelow}
@@ -9,7 +9,7 @@ use Rattle.c_types.specs.Table.{Table, type_at}
 use Rattle.c_meaning.specs.State.{State, place_here}
 use Rattle.c_check_decl.specs.Declares.{AreLocalsIn}
 use Rattle.c_check_function.proofs.DifferentNames.{one_more}
-use Rattle.c_units.specs.Functions.{listed_types, type_at as type_or_int, with_all_listed, with_listed}
+use Rattle.c_units.specs.Functions.{has_other, is_other, listed_types, type_at as type_or_int, with_all_listed, with_listed}
 
 -- ---- declared one behind the other
 
@@ -45,6 +45,21 @@ one_below n done more of e i l = rw e (by done i)
     by : (xs : List ℕ) → AreLocalsIn n xs → AreLocalsIn n (xs ++ of ∷ [])
     by [] h = (l, tt)
     by (x ∷ xs) h = (h.0, by xs h.1)
+
+-- ---- what they stand for
+
+module _ (s : State) (names : List (List ℕ)) (i : ℕ) (n : List ℕ) (l : i < length names) (is : n ≡ get_or names i n) where
+  others_next : has_other s (drop i names) ≡ (is_other s (place_here s n) || has_other s (drop (i + 1) names))
+  others_next = at_drop_more (has_other s) names i n l ∙ ap (λ x. has_other s (x ∷ drop (i + 1) names)) (sym is)
+
+  pub other_met : is_other s (place_here s n) ≡ true → has_other s (drop i names) ≡ true
+  other_met h = others_next ∙ ap (λ b. b || has_other s (drop (i + 1) names)) h
+
+  pub other_behind : is_other s (place_here s n) ≡ false → has_other s (drop i names) ≡ has_other s (drop (i + 1) names)
+  other_behind h = others_next ∙ ap (λ b. b || has_other s (drop (i + 1) names)) h
+
+pub no_other : (s : State) (names : List (List ℕ)) (i : ℕ) → length names ≤ i → has_other s (drop i names) ≡ false
+no_other s names i l = at_drop_all (has_other s) names i l
 
 -- ---- names with symbols that were declared
 

@@ -1,6 +1,6 @@
 -- Declarations of old-style parameters, and the parameters of one, each one behind the other.
 use Rattle.std.proofs.Common.{◌≡◌, ℕ, ◌+◌, ◌<◌, ◌≤◌, Bool, true, false, List, [], ◌∷◌, length, get_or, drop, map, refl, sym, ap, ◌∙◌, subst}
-use Rattle.std.specs.Prelude.{Result, Ok, Err, IsErrAnd, ◌==◌, not}
+use Rattle.std.specs.Prelude.{Option, Some, None, Result, Ok, Err, IsErrAnd, ◌==◌, not}
 use Rattle.c_ast.specs.declared.statement.Declaration.{Declaration}
 use Rattle.c_ast.specs.declared.statement.InitDeclarator.{InitDeclarator}
 use Rattle.c_ast.specs.Seen.{specifiers_seen}
@@ -9,6 +9,7 @@ use Rattle.c_ast.specs.Trees.{DeclarationTree, InitTree, SpecifiersTree}
 use Rattle.c_symbols.specs.Scoping.{Scoping}
 use Rattle.c_types.specs.CType.{CType}
 use Rattle.c_types.specs.Table.{Table}
+use Rattle.c_meaning.specs.Constraints.{broken_or}
 use Rattle.c_meaning.specs.Declaring.{declares_something}
 use Rattle.c_meaning.specs.State.{State}
 use Rattle.c_meaning.specs.TypeRows.{Specified as SpecifiedTree}
@@ -24,7 +25,7 @@ use Rattle.c_check_expr.specs.Walking.{both_go, first_stops, passed, second_stop
 use Rattle.c_check_expr.specs.WalkLists.{Going, folded, going_ends, going_on, going_starts, going_stops, then_same}
 use Rattle.c_check_expr.specs.Walks.{IsSpecifiedIn, Walks}
 use Rattle.c_check_decl.specs.DeclaredIn.{inside_in}
-use Rattle.c_units.specs.Functions.{is_some_init, old_declaration_fault, typed_old, typed_old_declaration, typed_old_declarations, typed_olds}
+use Rattle.c_units.specs.Functions.{has_other, is_some_init, old_declaration_constraint, old_declaration_fault, typed_old, typed_old_declaration, typed_old_declarations, typed_olds}
 use Rattle.c_check_function.specs.FunctionsSeen.{no_types, no_value, old_declaration_in, old_declarations_in, old_in, olds_in}
 use Rattle.c_check_function.proofs.OwnSteps.{zero_fails}
 
@@ -75,9 +76,37 @@ module _ (r : Scoping) (a : Table) (line : ℕ) (names : List (List ℕ)) (base 
 
 -- ---- a declaration
 
+-- what it breaks, where a listed name is in force as something else than a parameter or none is
+abbrev pub broken_by : Bool → DeclarationTree → Option ℕ
+broken_by other d = old_declaration_constraint (declares_something d) other (is_some_init d.declarators)
+
 some_init : (is : List InitDeclarator) (b : Bool) → b ≡ (length is == 0) → is_some_init (map init_seen is) ≡ not b
 some_init [] b h = ap not (sym h)
 some_init (i ∷ is) b h = sym (ap not (h ∙ zero_fails (length is)))
+
+module _ (d : Declaration) (other x : Bool) (is : x ≡ declares_something (declaration_seen d)) where
+  abbrev seen : DeclarationTree
+  seen = declaration_seen d
+
+  by_something : (y z : Bool) → x ≡ y → other ≡ z → broken_by other seen ≡ old_declaration_constraint y z (is_some_init seen.declarators)
+  by_something y z e h =
+      ap (λ k. old_declaration_constraint k other (is_some_init seen.declarators)) (sym is ∙ e)
+      ∙ ap (λ k. old_declaration_constraint y k (is_some_init seen.declarators)) h
+
+  by_declarators : (b : Bool) → b ≡ (length d.declarators == 0) → is_some_init seen.declarators ≡ not b
+  by_declarators b h = ap (λ (t : DeclarationTree). is_some_init t.declarators) (declaration_parts d) ∙ some_init d.declarators b h
+
+  pub nothing_declared : x ≡ false → Some 4 ≡ broken_by other seen
+  nothing_declared e = sym (by_something false other e refl)
+
+  pub other_named : x ≡ true → other ≡ true → Some 5 ≡ broken_by other seen
+  other_named e h = sym (by_something true true e h)
+
+  pub none_declared : x ≡ true → other ≡ false → true ≡ (length d.declarators == 0) → Some 19 ≡ broken_by other seen
+  none_declared e h k = sym (by_something true false e h ∙ ap (old_declaration_constraint true false) (by_declarators true k))
+
+  pub one_declared : x ≡ true → other ≡ false → false ≡ (length d.declarators == 0) → None ≡ broken_by other seen
+  one_declared e h k = sym (by_something true false e h ∙ ap (old_declaration_constraint true false) (by_declarators false k))
 
 module _ (s : Scoping) (a : Table) (names : List (List ℕ)) (d : Declaration) (list : List InitDeclarator) (listed : list ≡ d.declarators) where
   abbrev specs : SpecifiersTree
@@ -96,7 +125,7 @@ module _ (s : Scoping) (a : Table) (names : List (List ℕ)) (d : Declaration) (
   parameters m b = typed_olds m d.line names b inits
 
   abbrev node : State → SpecifiedTree → Unit {0} → Outcome (Unit {0})
-  node u b v = unless (old_declaration_fault d.line (declares_something tree) (is_some_init inits)) u tt
+  node u b v = unless (old_declaration_fault u d.line names (declares_something tree) (is_some_init inits)) u tt
 
   declaration_is : old_declaration_in s a names (declaration_seen d) ≡ then_do (inside_in s a specs inits) (λ m b. then_do (parameters m b) (λ u v. node u b v))
   unfolding old_declaration_in inside_in
@@ -110,32 +139,23 @@ module _ (s : Scoping) (a : Table) (names : List (List ℕ)) (d : Declaration) (
     unfolding olds_in
     declaration_stops_second u c e r h w = walk_as _ _ declaration_is (second_stops no_value no_types (inside_in s a specs inits) parameters node r h first w)
 
-    module _ (u : Scoping) (c : Table) (x : Bool) (second : Walks no_value no_types (olds_in m t d.line names (specified_seen t b) inits) m t u c (Ok tt)) (is : x ≡ declares_something (declaration_seen d)) where
+    module _ (u : Scoping) (c : Table) (o : Option ℕ) (second : Walks no_value no_types (olds_in m t d.line names (specified_seen t b) inits) m t u c (Ok tt))
+        (is : o ≡ broken_by (has_other (state_of u c) names) (declaration_seen d)) where
       base_stays : specified_seen c b ≡ specified_seen t b
       base_stays = ap (λ (of : CType). record { classes = b.classes; of = of }) (second.keeps.extends.types_stay b.of first.within)
-
-      same : declares_something tree ≡ x
-      same = sym (is ∙ ap declares_something tree_is)
 
       ends : (r : Result (Unit {0}) CheckFault) → Walks no_value no_types (node (state_of u c) (specified_seen c b) tt) u c u c r → Walks no_value no_types (old_declaration_in s a names (declaration_seen d)) s a u c r
       unfolding olds_in
       ends r w = walk_as _ _ declaration_is (both_go no_value no_types (inside_in s a specs inits) parameters node first second base_stays w)
 
-      pub declares_nothing : x ≡ false → Walks no_value no_types (old_declaration_in s a names (declaration_seen d)) s a u c (Err (Constraint 4 d.line))
-      declares_nothing e =
-          ends (Err (Constraint 4 d.line))
-          (record { ok = tt; err = ap (λ y. unless (old_declaration_fault d.line y (is_some_init inits)) (state_of u c) tt) (same ∙ e); within = tt; keeps = keeps_itself u c second.keeps.symbols })
+      node_is : (n : Option ℕ) → o ≡ n → node (state_of u c) (specified_seen c b) tt ≡ unless (broken_or d.line n None) (state_of u c) tt
+      node_is n e = ap (λ y. unless (broken_or d.line y None) (state_of u c) tt) (ap (broken_by (has_other (state_of u c) names)) (sym tree_is) ∙ sym is ∙ e)
 
-      node_is : (y : Bool) → x ≡ true → is_some_init inits ≡ y → node (state_of u c) (specified_seen c b) tt ≡ unless (old_declaration_fault d.line true y) (state_of u c) tt
-      node_is y e h = ap (λ z. unless (old_declaration_fault d.line z (is_some_init inits)) (state_of u c) tt) (same ∙ e) ∙ ap (λ z. unless (old_declaration_fault d.line true z) (state_of u c) tt) h
+      pub declaration_breaks : (number : ℕ) → o ≡ Some number → Walks no_value no_types (old_declaration_in s a names (declaration_seen d)) s a u c (Err (Constraint number d.line))
+      declaration_breaks number e = ends (Err (Constraint number d.line)) (record { ok = tt; err = node_is (Some number) e; within = tt; keeps = keeps_itself u c second.keeps.symbols })
 
-      pub declares_none : x ≡ true → true ≡ (length list == 0) → Walks no_value no_types (old_declaration_in s a names (declaration_seen d)) s a u c (Err (Constraint 19 d.line))
-      declares_none e h =
-          ends (Err (Constraint 19 d.line))
-          (record { ok = tt; err = node_is false e (some_init list true h); within = tt; keeps = keeps_itself u c second.keeps.symbols })
-
-      pub declaration_goes : x ≡ true → false ≡ (length list == 0) → Walks no_value no_types (old_declaration_in s a names (declaration_seen d)) s a u c (Ok tt)
-      declaration_goes e h = ends (Ok tt) (record { ok = node_is true e (some_init list false h); err = tt; within = tt; keeps = keeps_itself u c second.keeps.symbols })
+      pub declaration_goes : o ≡ None → Walks no_value no_types (old_declaration_in s a names (declaration_seen d)) s a u c (Ok tt)
+      declaration_goes e = ends (Ok tt) (record { ok = node_is None e; err = tt; within = tt; keeps = keeps_itself u c second.keeps.symbols })
 
 -- ---- declarations
 

@@ -5,6 +5,7 @@
 mod definition;
 mod function_definitions;
 mod heading;
+mod listed_names;
 mod name_lists;
 mod old_declarations;
 mod old_parameters;

@@ -1,11 +1,15 @@
 //! Declarations of old-style parameters (C89 3.7.1).
-ghost use Rattle.std.specs.Prelude.{◌<◌, length, map};
+ghost use Rattle.std.specs.Prelude.{◌≡◌, ◌<◌, length, map};
 ghost use Rattle.c_ast.specs.SeenUnits.{declaration_seen, init_seen};
-ghost use Rattle.c_check_expr.specs.Known.{AreSymbolsIn};
+ghost use Rattle.c_types.specs.Table.{Table};
+ghost use Rattle.c_meaning.specs.Declaring.{declares_something as declares_some};
+ghost use Rattle.c_check_expr.specs.Known.{AreSymbolsIn, state_of};
 ghost use Rattle.c_check_expr.specs.PartsSeen.{specified_seen};
 ghost use Rattle.c_check_expr.specs.Walks.{Walks};
+ghost use Rattle.c_units.specs.Functions.{has_other as other_in, is_some_init, old_declaration_constraint};
 ghost use Rattle.c_check_function.specs.FunctionsSeen.{no_types, no_value, old_declaration_in, old_declarations_in, olds_in};
 
+use crate::listed_names::has_other;
 use crate::old_parameters::old_parameter;
 use c_ast::{Declaration, InitDeclarator};
 use c_check_decl::pieces::{declares_something, inside};
@@ -47,14 +51,28 @@ fn old_declaration(
     let list = d.declarators.as_slice();
     let base = inside(alloc, scopes, types, &d.specifiers, list)?;
     old_parameters(alloc, scopes, types, d.line, (names, &base), list)?;
-    let line = d.line;
-    if !declares_something(d) {
-        return Err(CheckFault::Constraint { number: 4, line });
-    }
-    if list.is_empty() {
-        return Err(CheckFault::Constraint { number: 19, line });
+    if let Some(number) = broken(scopes, names, d) {
+        return Err(CheckFault::Constraint {
+            number,
+            line: d.line,
+        });
     }
     Ok(())
+}
+
+/// The first constraint that a declaration breaks whose parameters are in force.
+fn broken(scopes: &Scopes, names: &[Bytes], d: &Declaration) -> Option<u8>
+    ensures { (t : Table) → result ≡ old_declaration_constraint (declares_some (declaration_seen d.now)) (other_in (state_of scopes.now t) names.now) (is_some_init (declaration_seen d.now).declarators) }
+{
+    if !declares_something(d) {
+        Some(4)
+    } else if has_other(scopes, names) {
+        Some(5)
+    } else if d.declarators.as_slice().is_empty() {
+        Some(19)
+    } else {
+        None
+    }
 }
 
 /// The parameters of a declaration on this line, in order.

@@ -1,8 +1,10 @@
 -- Typing of functions' definitions: the declarator, the parameters, the body in their scope, and then the definition.
 -- Source: C89 3.7.1, 3.1.2.1.
-use Rattle.std.specs.Prelude.{ℕ, suc, Bool, true, false, Option, Some, None, List, [], ◌∷◌, ◌++◌, length, is_some, if◌then◌else◌}
+use Rattle.std.specs.Prelude.{ℕ, suc, Bool, true, false, not, ◌||◌, Option, Some, None, List, [], ◌∷◌, ◌++◌, length, is_some, if◌then◌else◌}
 use Rattle.std.specs.Str.{bytes_eq}
 use Rattle.c_ast.specs.Trees.{SpecifiersTree, DeclaratorTree, InitTree, DeclarationTree, BlockTree}
+use Rattle.c_symbols.specs.declared.symbol.Storage.{Storage}
+use Rattle.c_symbols.specs.declared.symbol.Storage.TheVariants as storage
 use Rattle.c_symbols.specs.Scoping.{symbol_named}
 use Rattle.c_types.specs.CType.{CType, Int, basic}
 use Rattle.c_meaning.specs.State.{State, place_here, known_at, left}
@@ -97,9 +99,27 @@ abbrev pub typed_olds : State → ℕ → List (List ℕ) → Specified → List
 typed_olds s line names b [] = Fine s tt
 typed_olds s line names b (i ∷ is) = then_do (typed_old s line names b i) (λ s u. typed_olds s line names b is)
 
--- 4: a declaration declares nothing; 19: an old-style one that declares no parameter
-abbrev pub old_declaration_fault : ℕ → Bool → Bool → Option Fault
-old_declaration_fault line something parameters = broken_or line (if something then (if parameters then None else Some 19) else Some 4) None
+abbrev pub is_object_class : Storage → Bool
+is_object_class storage.Auto = true
+is_object_class storage.Register = true
+is_object_class class = false
+
+-- a name in force that isn't a parameter's: a function's that is called, or an enumerator
+abbrev pub is_other : State → Option ℕ → Bool
+is_other s None = false
+is_other s (Some id) = not (is_object_class (known_at s id).class)
+
+-- one of the listed names is in force in their scope as something else than a parameter
+abbrev pub has_other : State → List (List ℕ) → Bool
+has_other s [] = false
+has_other s (n ∷ ns) = is_other s (place_here s n) || has_other s ns
+
+-- 4: a declaration declares nothing; 5: it gives a listed name another meaning; 19: an old-style one that declares no parameter
+abbrev pub old_declaration_constraint : Bool → Bool → Bool → Option ℕ
+old_declaration_constraint something other parameters = if something then (if other then Some 5 else (if parameters then None else Some 19)) else Some 4
+
+abbrev pub old_declaration_fault : State → ℕ → List (List ℕ) → Bool → Bool → Option Fault
+old_declaration_fault s line names something parameters = broken_or line (old_declaration_constraint something (has_other s names) parameters) None
 
 abbrev pub is_some_init : List InitTree → Bool
 is_some_init [] = false
@@ -109,7 +129,7 @@ abbrev pub typed_old_declaration : State → List (List ℕ) → DeclarationTree
 typed_old_declaration s names d =
     then_do (typed_inside s d.specifiers d.declarators) (λ s b.
     then_do (typed_olds s d.line names b d.declarators) (λ s u.
-    unless (old_declaration_fault d.line (declares_something d) (is_some_init d.declarators)) s tt))
+    unless (old_declaration_fault s d.line names (declares_something d) (is_some_init d.declarators)) s tt))
 
 abbrev pub typed_old_declarations : State → List (List ℕ) → List DeclarationTree → Outcome (Unit {0})
 typed_old_declarations s names [] = Fine s tt

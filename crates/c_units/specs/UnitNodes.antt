@@ -20,13 +20,13 @@ use Rattle.c_units.specs.Ends.{unit_fault}
 use Rattle.c_units.specs.Typing.{at_first}
 
 -- A node whose parts are typed, where it stands: in an expression or a declaration; a statement; a definition's declarator, and that
--- of an old-style parameter; a declaration of such; a definition, and whether a goto of it names no label; and the unit.
+-- of an old-style parameter; a declaration of such, for these names; a definition, and whether a goto of it names no label; and the unit.
 pub data UnitPlace : Type 0 where
   Inside : (place : AnyPlace) → UnitPlace
   Stmt : (state : State) (line : ℕ) (node : StmtNode) → UnitPlace
   Declarator : (state : State) (line : ℕ) (node : Definition) → UnitPlace
   Parameter : (state : State) (line : ℕ) (node : OldParameter) → UnitPlace
-  Parameters : (line : ℕ) (something some : Bool) → UnitPlace
+  Parameters : (state : State) (line : ℕ) (names : List (List ℕ)) (something some : Bool) → UnitPlace
   Whole : (line : ℕ) (lost : Bool) → UnitPlace
   End : (state : State) (unit : Parts) → UnitPlace
 
@@ -35,7 +35,7 @@ place_fault (Inside p) = any_fault p
 place_fault (Stmt s line n) = stmt_fault s line n
 place_fault (Declarator s line n) = definition_fault s line n
 place_fault (Parameter s line n) = parameter_fault s line n
-place_fault (Parameters line something some) = old_declaration_fault line something some
+place_fault (Parameters s line names something some) = old_declaration_fault s line names something some
 place_fault (Whole line lost) = lost_fault line lost
 place_fault (End s u) = unit_fault s u
 
@@ -119,7 +119,7 @@ abbrev pub old_declaration_nodes : State → List (List ℕ) → DeclarationTree
 old_declaration_nodes s names d =
     look (inside (inside_nodes s d.specifiers d.declarators)) (typed_inside s d.specifiers d.declarators) (λ s b.
     look (olds_nodes s d.line names b d.declarators) (typed_olds s d.line names b d.declarators) (λ s u.
-    Parameters d.line (declares_something d) (is_some_init d.declarators) ∷ []))
+    Parameters s d.line names (declares_something d) (is_some_init d.declarators) ∷ []))
 
 abbrev pub old_declarations_nodes : State → List (List ℕ) → List DeclarationTree → List UnitPlace
 old_declarations_nodes s names [] = []

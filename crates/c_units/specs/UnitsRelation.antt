@@ -49,7 +49,7 @@ abbrev pub TypesOldDeclaration : State → List (List ℕ) → DeclarationTree �
 TypesOldDeclaration s names d =
     Then (TypesInside s d.specifiers d.declarators) (λ s b.
     Then (TypesOlds s d.line names b d.declarators) (λ s u.
-    Unless (old_declaration_fault d.line (declares_something d) (is_some_init d.declarators)) s tt))
+    Unless (old_declaration_fault s d.line names (declares_something d) (is_some_init d.declarators)) s tt))
 
 abbrev pub TypesOldDeclarations : State → List (List ℕ) → List DeclarationTree → State → Unit {0} → Type 0
 TypesOldDeclarations s names [] = Is s tt

@@ -13,6 +13,8 @@ use Rattle.c_meaning.specs.Values.{CoreTree, CoreTrees}
 use Rattle.c_meaning.specs.StmtTrees.{FilledOf, StmtOf, Nothing, Expression, Initialise, Block, If, While, Do, For, Switch, Label, Goto, Break, Continue, Return, StmtsOf, NoStmt, Stmts}
 use Rattle.c_meaning.specs.Copies.{LocalAt, maybe, expressions, own_copies, copies_in, all_copies}
 use Rattle.c_meaning.specs.Declarations.{Defined, or_zero}
+use Rattle.c_meaning.specs.Each.{EachIs}
+use Rattle.c_meaning.specs.Numbers.{PlaceHasWords, StmtHasWords}
 use Rattle.c_meaning.specs.Units.{FunctionTree, ObjectTree, UnitTree, is_same_among}
 use Rattle.c_units.specs.Functions.{DefinedFunction, place_in}
 use Rattle.c_units.specs.Externals.{Parts}
@@ -251,3 +253,11 @@ whole_unit s u =
       tags = s.tags;
       main = main_from 0 u.functions;
     }
+
+-- ---- numbers of 32 bits
+
+abbrev pub FunctionHasWords : FunctionTree → Type 0
+FunctionHasWords f = StmtHasWords f.body
+
+abbrev pub ObjectHasWords : ObjectTree → Type 0
+ObjectHasWords o = EachIs PlaceHasWords o.places

@@ -1,8 +1,9 @@
 -- Examples of functions' definitions that break a constraint, each with the nearest that breaks none beside it.
 use Rattle.std.specs.Prelude.{◌≡◌, refl, ℕ, codes, true, false, Option, Some, None, List, [], ◌∷◌}
 use Rattle.c_ast.specs.declared.specifier.Storage.TheVariants as class
+use Rattle.c_ast.specs.declared.specifier.BasicType.TheVariants as word
 use Rattle.c_ast.specs.declared.specifier.RecordKind.TheVariants as record_kind
-use Rattle.c_ast.specs.Trees.{Prototype, NameList, NoParameters, Parameter, NoDeclarator, SuffixTree, RecordTag, DeclarationTree}
+use Rattle.c_ast.specs.Trees.{ExprTree, Variable, Called, NoExprs, NoExpr, AnExpr, SizedExpr, SizedType, TypeNamed, Prototype, NameList, NoParameters, Parameter, NoDeclarator, SuffixTree, Basic, RecordTag, Enumeration, Enumerator, Enumerators, NoEnumerators, Declarator, Named, ArraySuffix, NoSuffixes, Suffixes, DeclarationTree}
 use Rattle.c_meaning.specs.Constants.{fold}
 use Rattle.c_meaning.specs.Constraints.{Fault, Breaks, fault_at}
 use Rattle.c_meaning.specs.Declarations.{decl_fault}
@@ -69,6 +70,33 @@ unlisted = refl
 listed : with (NameList 1 (a ∷ [])) (of (of_int ∷ []) (name a)) ≡ None
 unfolding fold fault_at init_fault decl_fault stmt_fault definition_fault parameter_fault unit_fault
 listed = refl
+
+-- `char b[..];` with the size of this
+abbrev sized : ExprTree → List DeclarationTree
+sized e =
+    row 1 (Basic 1 word.Char ∷ [])
+    (record { line = 1; declarator = Declarator 1 [] (Named (codes "b")) (Suffixes (ArraySuffix 1 (AnExpr e)) NoSuffixes); initialiser = None } ∷ []) ∷ []
+
+abbrev sized_by_call : List ℕ → List DeclarationTree
+sized_by_call name = sized (SizedExpr 1 (Called 1 (Variable 1 name) NoExprs))
+
+-- int f(a, b) char b[sizeof a()]; {}: the call declares a function in the parameters' scope
+called_parameter : with (NameList 1 (a ∷ codes "b" ∷ [])) (sized_by_call a) ≡ Some (Breaks 5 1)
+unfolding fold fault_at init_fault decl_fault stmt_fault definition_fault parameter_fault unit_fault
+called_parameter = refl
+
+-- int f(a, b) char b[sizeof c()]; {}
+called_other : with (NameList 1 (a ∷ codes "b" ∷ [])) (sized_by_call (codes "c")) ≡ None
+unfolding fold fault_at init_fault decl_fault stmt_fault definition_fault parameter_fault unit_fault
+called_other = refl
+
+-- int f(a, b) char b[sizeof(enum { a })]; {}
+enumerated_parameter :
+    with (NameList 1 (a ∷ codes "b" ∷ []))
+    (sized (SizedType 1 (TypeNamed 1 (specifiers 1 (Enumeration 1 None (Enumerators (Enumerator 1 a NoExpr) NoEnumerators) false ∷ [])) NoDeclarator)))
+    ≡ Some (Breaks 5 1)
+unfolding fold fault_at init_fault decl_fault stmt_fault definition_fault parameter_fault unit_fault
+enumerated_parameter = refl
 
 -- int f(a) int a = 1; {}
 initialised : with (NameList 1 (a ∷ [])) (is (of_int ∷ []) (name a) (n 1)) ≡ Some (Breaks 19 1)
