@@ -1,1 +1,2 @@
 mod SoundExamples
+mod FollowingExamples

@@ -107,21 +107,39 @@ StaysKnown old new = which new.of ≡ which old.of
 abbrev pub StaysOther : Known → Known → Type 0
 StaysOther old new = is_enumerator old.class ≡ false → is_enumerator new.class ≡ false
 
--- what is known behind a part follows what was known before it, in the same scope
-pub record Follows (s u : State) : Type 0 where
+-- a local object's class, or a parameter's
+abbrev pub is_local : Storage → Bool
+is_local storage.Auto = true
+is_local storage.Register = true
+is_local class = false
+
+-- a symbol that is a local object's is what it was before: none becomes one, and none gets another type
+abbrev pub StaysLocal : Known → Known → Type 0
+StaysLocal old new = is_local new.class ≡ true → new ≡ old
+
+-- what is known behind a part extends what was known before it, where parameters may be declared in between
+pub record Extends (s u : State) : Type 0 where
   pub sound : IsSound u
   -- numbers are given on, and symbols added
   pub count : s.count ≤ u.count
   pub symbols : length s.symbols ≤ length u.symbols
-  -- names of the innermost scope keep their symbols
-  pub here : (name : List ℕ) (id : ℕ) → place_here s name ≡ Some id → place_here u name ≡ Some id
   -- symbols stay what they are
   pub known : (id : ℕ) → id < length s.symbols → StaysKnown (known_at s id) (known_at u id)
   pub classes : (id : ℕ) → id < length s.symbols → StaysOther (known_at s id) (known_at u id)
+  pub locals : (id : ℕ) → id < length s.symbols → StaysLocal (known_at s id) (known_at u id)
   -- what was defined stays so
   pub tags : Grows s.tags u.tags
   -- what no name reaches is not reached in between
   pub apart : (n : ℕ) → IsApart s u n → Unnamed u.tags u.symbols n
+
+-- what is known behind a part follows what was known before it, in the same scope
+pub record Follows (s u : State) : Type 0 where
+  pub extends : Extends s u
+  pub open extends use *
+  -- names of the innermost scope keep their symbols
+  pub here : (name : List ℕ) (id : ℕ) → place_here s name ≡ Some id → place_here u name ≡ Some id
+  -- and none comes that is a local object's
+  pub before : (name : List ℕ) (id : ℕ) → place_here u name ≡ Some id → is_local (known_at u id).class ≡ true → place_here s name ≡ Some id
 
 -- a type is no structure or union without a name
 abbrev pub IsNamed : State → CType → Type 0

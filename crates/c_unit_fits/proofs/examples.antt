@@ -1,1 +1,1 @@
-mod OldParameters
+mod ParameterExamples

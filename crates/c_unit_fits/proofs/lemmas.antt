@@ -10,6 +10,7 @@ pub mod Fitting
 pub mod Scopes
 pub mod Signatures
 pub mod Defining
+pub mod OldParameters
 pub mod Functions
 pub mod Externals
 pub mod Constants

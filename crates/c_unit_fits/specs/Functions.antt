@@ -1,7 +1,7 @@
 -- What a typed function promises while a unit is checked, where names are symbols.
 -- Source: C89 3.7.1, 3.5.4.3.
 use Rattle.std.specs.Prelude.{◌≡◌, true, List, length}
-use Rattle.c_types.specs.CType.{CType, Parameters, Open, Listed}
+use Rattle.c_types.specs.CType.{CType}
 use Rattle.c_types.specs.Layout.{Tag}
 use Rattle.c_meaning.specs.Each.{EachIs}
 use Rattle.c_meaning.specs.Fits.{is_whole}
@@ -14,11 +14,9 @@ use Rattle.c_fits.specs.OpenDeclares.{IsOpenLocal}
 use Rattle.c_unit_fits.specs.OpenStmts.{BodyFits, IsOpenStmt}
 use Rattle.c_unit_fits.specs.Shapes.{HasShape}
 
--- Parameters that are listed have sizes, and are scalars or whole structures. Those of an old-style definition may not, where a call among its declarations
--- declares one of them.
-abbrev pub AreSized : List Tag → Parameters → List CType → Type 0
-AreSized tags Open ts = Unit {0}
-AreSized tags (Listed ps more) ts = EachIs (IsOpenLocal tags) ts × EachIs (λ t. is_whole tags t ≡ true) ts
+-- parameters have sizes, and are scalars or whole structures
+abbrev pub AreSized : List Tag → List CType → Type 0
+AreSized tags ts = EachIs (IsOpenLocal tags) ts × EachIs (λ t. is_whole tags t ≡ true) ts
 
 -- It has a function's type, with a result that is void or whole. Its first locals are its parameters, which the type lists. Its labels
 -- and the locals of its blocks are as they should be, and its statements fit. The locals behind its parameters have sizes, and so have
@@ -29,7 +27,7 @@ pub record FunctionFits (tags : List Tag) (f : TypedFunction) : Type 0 where
   pub first : List CType
   pub parameters : length first ≡ f.function.function.parameters
   pub listed : AreParameters (parameters_type f.function.function.of) first
-  pub sized : AreSized tags (parameters_type f.function.function.of) first
+  pub sized : AreSized tags first
   pub has : BodyFits tags first f.body
   pub shape : HasShape f.function.function.parameters (done f.body f.function.function.body)
   pub body : IsOpenStmt tags (result_type f.function.function.of) f.function.function.body

@@ -19,13 +19,13 @@ use Rattle.c_unit_fits.specs.Functions.{AreSized}
 use Rattle.c_unit_fits.specs.OpenStmts.{IsOpenStmt}
 use Rattle.c_unit_fits.specs.Shapes.{IsShaped}
 
--- A function gives nothing, a scalar or a whole structure. The parameters that its type lists are the first of its locals, and are
--- scalars or whole structures. The locals behind its parameters have sizes; those of its blocks follow in order.
+-- A function gives nothing, a scalar or a whole structure. Its parameters, which its type may list, are the first of its locals, and
+-- are scalars or whole structures. The locals behind them have sizes, too; those of its blocks follow in order.
 pub record IsOpenFunction (tags : List Tag) (f : FunctionTree) : Type 0 where
   pub type : is_function f.of ≡ true
   pub result : is_result tags (result_type f.of) ≡ true
   pub listed : AreParameters (parameters_type f.of) (take f.parameters f.locals)
-  pub sized : AreSized tags (parameters_type f.of) (take f.parameters f.locals)
+  pub sized : AreSized tags (take f.parameters f.locals)
   pub locals : EachIs (IsOpenLocal tags) (drop f.parameters f.locals)
   pub blocks : are_next f.parameters f.body ≡ true
   pub all : declared f ≡ length f.locals

@@ -53,7 +53,7 @@ named_other (n ∷ ns) symbols name id h e = by (bytes_eq name n.0) e (named_oth
     by true e k = subst (λ i. is_enumerator (get_or symbols i nothing_known).class ≡ false) (some_id n.1 id e) h.0
     by false e k = k e
 
-sample_is_sound : IsSound sample
+pub sample_is_sound : IsSound sample
 sample_is_sound =
     record {
       fields = refl;

@@ -30,26 +30,31 @@ pub record IsOpen (s t : State) (number : ℕ) : Type 0 where
 pub completed_follows : (s t : State) (k : RecordKind) (number : ℕ) (ms : List MemberType) → Follows s t → IsOpen s t number → IsSound s → are_fields ms ≡ true → AreSized t.tags ms → Follows s (completed t k number ms)
 completed_follows s t k number ms f o h e z =
     record {
-      sound =
+      extends =
           record {
-            fields = and_true (are_fields ms) (have_fields t.tags) e f.sound.fields;
-            once = (o.undefined, f.sound.once);
-            sizes = (z, f.sound.sizes);
-            arrays = λ id. elements_stay t.tags (record { number = number; is_union = is_union k; members = ms } ∷ t.tags) (more_grows t.tags (record { number = number; is_union = is_union k; members = ms }) o.undefined) (known_at t id).of (f.sound.arrays id);
-            enumerators = f.sound.enumerators;
-            names = f.sound.names;
-            scopes = f.sound.scopes;
-            links = f.sound.links;
-            linked = f.sound.linked;
-            fresh = λ n l. defined n (f.sound.fresh n l) (later n l);
+            sound =
+                record {
+                  fields = and_true (are_fields ms) (have_fields t.tags) e f.sound.fields;
+                  once = (o.undefined, f.sound.once);
+                  sizes = (z, f.sound.sizes);
+                  arrays = λ id. elements_stay t.tags (record { number = number; is_union = is_union k; members = ms } ∷ t.tags) (more_grows t.tags (record { number = number; is_union = is_union k; members = ms }) o.undefined) (known_at t id).of (f.sound.arrays id);
+                  enumerators = f.sound.enumerators;
+                  names = f.sound.names;
+                  scopes = f.sound.scopes;
+                  links = f.sound.links;
+                  linked = f.sound.linked;
+                  fresh = λ n l. defined n (f.sound.fresh n l) (later n l);
+                };
+            count = f.count;
+            symbols = f.symbols;
+            known = f.known;
+            classes = f.classes;
+            locals = f.locals;
+            tags = then_grows s.tags t.tags (record { number = number; is_union = is_union k; members = ms } ∷ t.tags) f.tags (more_grows t.tags (record { number = number; is_union = is_union k; members = ms }) o.undefined);
+            apart = λ n a. defined n (f.apart n a) (o.other n a);
           };
-      count = f.count;
-      symbols = f.symbols;
       here = f.here;
-      known = f.known;
-      classes = f.classes;
-      tags = then_grows s.tags t.tags (record { number = number; is_union = is_union k; members = ms } ∷ t.tags) f.tags (more_grows t.tags (record { number = number; is_union = is_union k; members = ms }) o.undefined);
-      apart = λ n a. defined n (f.apart n a) (o.other n a);
+      before = f.before;
     }
   where
     later : (n : ℕ) → t.count ≤ n → (n == number) ≡ false

@@ -1,5 +1,5 @@
 -- Lists with one more element or another one in a place, and the names in a list of names with their symbols.
-use Rattle.std.proofs.Common.{◌≡◌, ℕ, zero, suc, ◌+◌, ◌<◌, ◌≤◌, Bool, true, false, List, [], ◌∷◌, ◌++◌, length, get_or, refl, subst, arith}
+use Rattle.std.proofs.Common.{◌≡◌, ◌⊎◌, ℕ, zero, suc, ◌+◌, ◌<◌, ◌≤◌, Bool, true, false, List, [], ◌∷◌, ◌++◌, length, get_or, refl, subst, inl, inr, arith}
 use Rattle.std.specs.Prelude.{Some, None, slice_set, if◌then◌else◌}
 use Rattle.std.specs.Str.{bytes_eq}
 use Rattle.std.proofs.lemmas.List.{length-append}
@@ -79,4 +79,18 @@ named_last (x ∷ xs) name id e = by (bytes_eq name x.0) e (named_last xs name i
   where
     by : (b : Bool) → (if b then Some x.1 else symbol_named xs name) ≡ None → (symbol_named xs name ≡ None → symbol_named (xs ++ (name, id) ∷ []) name ≡ Some id) → (if b then Some x.1 else symbol_named (xs ++ (name, id) ∷ []) name) ≡ Some id
     by true e k = absurd (let none : ⊥ = cc in none)
+    by false e k = k e
+
+-- a name of a list is one of it or the last
+pub named_pushed : (ns : List (List ℕ × ℕ)) (name x : List ℕ) (n id : ℕ) → symbol_named (ns ++ (name, n) ∷ []) x ≡ Some id → (symbol_named ns x ≡ Some id) ⊎ (n ≡ id)
+named_pushed [] name x n id e = by (bytes_eq x name) e
+  where
+    by : (b : Bool) → (if b then Some n else None) ≡ Some id → (None ≡ Some id) ⊎ (n ≡ id)
+    by true e = inr cc
+    by false e = inl e
+named_pushed (m ∷ ms) name x n id e = by (bytes_eq x m.0) e (named_pushed ms name x n id)
+  where
+    by : (b : Bool) → (if b then Some m.1 else symbol_named (ms ++ (name, n) ∷ []) x) ≡ Some id → (symbol_named (ms ++ (name, n) ∷ []) x ≡ Some id → (symbol_named ms x ≡ Some id) ⊎ (n ≡ id))
+        → ((if b then Some m.1 else symbol_named ms x) ≡ Some id) ⊎ (n ≡ id)
+    by true e k = inl e
     by false e k = k e

@@ -1,7 +1,6 @@
 -- Types that specifiers, declarators and members make: what has a name, and bit-fields that there may be.
 use Rattle.std.proofs.Common.{◌≡◌, ◌⊎◌, ℕ, zero, suc, Bool, true, false, ◌&&◌, List, [], ◌∷◌, ◌++◌, length, get_or, refl, sym, ap, subst, ◌∙◌, inl, inr, arith}
 use Rattle.std.specs.Prelude.{◌==◌, Option, Some, None, ℤ, pos, negsuc, if◌then◌else◌}
-use Rattle.std.specs.Str.{bytes_eq}
 use Rattle.c_ast.specs.declared.specifier.BasicType.{BasicType}
 use Rattle.c_ast.specs.declared.specifier.Storage.{Storage as StorageClass}
 use Rattle.c_symbols.specs.declared.symbol.Storage.TheVariants as storage
@@ -22,13 +21,13 @@ use Rattle.c_meaning.specs.Values.{CoreTree}
 use Rattle.c_meaning.specs.Words as words
 use Rattle.c_meaning.specs.Types.{has_size}
 use Rattle.c_fits.specs.Growing.{Grows}
-use Rattle.c_fits.specs.Sound.{AreSized, Follows, IsIntOf, IsNamed, IsNumbered, IsOld, IsSound, has_elements, is_enumerator, is_of, which}
+use Rattle.c_fits.specs.Sound.{AreSized, Extends, Follows, IsIntOf, IsNamed, IsNumbered, IsOld, IsSound, has_elements, is_enumerator, is_of, which}
 use Rattle.c_fits.proofs.lemmas.Booleans.{never, and_left, and_right, and_true, not_false, or_left}
 use Rattle.c_fits.proofs.lemmas.Constraints.{unbroken}
 use Rattle.c_fits.proofs.lemmas.Growing.{same_grows, sized_stays}
 use Rattle.c_fits.proofs.lemmas.Kinds.{enumeration_which}
-use Rattle.c_fits.proofs.lemmas.Lists.{all_append, below_push, last_below, longer, named_below, seam}
-use Rattle.c_fits.proofs.lemmas.Following.{counted_follows, declared_follows, pushed, pushed_other, replaced_follows, same_follows, tag_follows, then_follows, unnamed_append}
+use Rattle.c_fits.proofs.lemmas.Lists.{all_append, below_push, last_below, longer, named_below, named_pushed, seam}
+use Rattle.c_fits.proofs.lemmas.Following.{counted_follows, declared_extends, declared_follows, pushed, pushed_other, replaced_follows, same_follows, tag_follows, then_follows, unnamed_append}
 
 -- ---- types of specifiers
 
@@ -131,12 +130,12 @@ enumerated_follows s line (Some tag) h e = by (place_here s (tag_key tag)) (or_l
     by None g = (tag_follows s line tag (enumeration_type s.count) (Some (pos 0)) h (λ n e. refl) refl, λ n u. refl)
     by (Some id) g =
         let c = counted_follows s h in
-        (then_follows s _ _ c (replaced_follows _ id (tagged line (level_of s) (enumeration_type s.count) (Some (pos 0))) c.sound tt (λ e. refl) (sym (enumeration_which (known_at s id).of (not_false (is_enumeration (known_at s id).of) g))) refl), λ n u. refl)
+        (then_follows s _ _ c (replaced_follows _ id (tagged line (level_of s) (enumeration_type s.count) (Some (pos 0))) c.sound tt (λ e. refl) refl (sym (enumeration_which (known_at s id).of (not_false (is_enumeration (known_at s id).of) g))) refl), λ n u. refl)
 
 -- ---- enumerators, parameters and functions
 
 pub enumerator_follows : (s : State) (line : ℕ) (name : List ℕ) (z : ℤ) → IsSound s → Follows s (with_enumerator s line name z)
-enumerator_follows s line name z h = declared_follows s name _ h refl (λ n u. refl) refl
+enumerator_follows s line name z h = declared_follows s name _ h refl refl (λ n u. refl) refl
 
 pub parameter_numbered : (classes : List StorageClass) (of : CType) → IsIntOf (parameter_class classes) of
 parameter_numbered classes of = by (is_register classes)
@@ -145,9 +144,9 @@ parameter_numbered classes of = by (is_register classes)
     by true = tt
     by false = tt
 
-pub parameter_follows : (s : State) (line place : ℕ) (classes : List StorageClass) (name : Option (List ℕ)) (of : CType) → IsSound s → IsNamed s of → has_elements s.tags of ≡ true → Follows s (with_parameter s line place classes name of)
-parameter_follows s line place classes None of h e a = same_follows s h
-parameter_follows s line place classes (Some name) of h e a = declared_follows s name (parameter_known s line place classes of) h (parameter_numbered classes of) e a
+pub parameter_extends : (s : State) (line place : ℕ) (classes : List StorageClass) (name : Option (List ℕ)) (of : CType) → IsSound s → IsNamed s of → has_elements s.tags of ≡ true → Extends s (with_parameter s line place classes name of)
+parameter_extends s line place classes None of h e a = let f = same_follows s h in f.extends
+parameter_extends s line place classes (Some name) of h e a = declared_extends s name (parameter_known s line place classes of) h (parameter_numbered classes of) e a
 
 -- ---- members
 
@@ -186,20 +185,6 @@ member_sized s line before name of width e = not_false (has_size s.tags of) (unb
 
 -- ---- a call of an undeclared name
 
--- a name of a list is one of it or the last
-named_pushed : (ns : List (List ℕ × ℕ)) (name x : List ℕ) (n id : ℕ) → symbol_named (ns ++ (name, n) ∷ []) x ≡ Some id → (symbol_named ns x ≡ Some id) ⊎ (n ≡ id)
-named_pushed [] name x n id e = by (bytes_eq x name) e
-  where
-    by : (b : Bool) → (if b then Some n else None) ≡ Some id → (None ≡ Some id) ⊎ (n ≡ id)
-    by true e = inr cc
-    by false e = inl e
-named_pushed (m ∷ ms) name x n id e = by (bytes_eq x m.0) e (named_pushed ms name x n id)
-  where
-    by : (b : Bool) → (if b then Some m.1 else symbol_named (ms ++ (name, n) ∷ []) x) ≡ Some id → (symbol_named (ms ++ (name, n) ∷ []) x ≡ Some id → (symbol_named ms x ≡ Some id) ⊎ (n ≡ id))
-        → ((if b then Some m.1 else symbol_named ms x) ≡ Some id) ⊎ (n ≡ id)
-    by true e k = inl e
-    by false e k = k e
-
 other_pushed : (links : List (List ℕ × ℕ)) (symbols : List Known) (name : List ℕ) (k : Known) (x : List ℕ) (id : ℕ) → AreBelow (length symbols) links
     → ((y : List ℕ) (j : ℕ) → symbol_named links y ≡ Some j → is_enumerator (get_or symbols j nothing_known).class ≡ false) → is_enumerator k.class ≡ false
     → symbol_named (links ++ (name, length symbols) ∷ []) x ≡ Some id → is_enumerator (get_or (symbols ++ k ∷ []) id nothing_known).class ≡ false
@@ -229,18 +214,23 @@ pub linked_follows : (s : State) (name : List ℕ) (o : Option ℕ) (k : Known) 
 linked_follows s name (Some id) k h g i c e a = same_follows s h
 linked_follows s name None k h g i c e a =
     record {
-      sound = linked_sound s name None k h g i c (λ n l. e n (h.fresh n l), a);
-      count = omega arith;
-      symbols = longer s.symbols k;
+      extends =
+          record {
+            sound = linked_sound s name None k h g i c (λ n l. e n (h.fresh n l), a);
+            count = omega arith;
+            symbols = longer s.symbols k;
+            known = λ id l. ap (λ (k : Known). which k.of) (pushed s.symbols k id l);
+            classes = λ id l. pushed_other s.symbols k id l;
+            locals = λ id l q. pushed s.symbols k id l;
+            tags = same_grows s.tags;
+            apart = λ n a. unnamed_append s.tags s.symbols k n a.0 (e n a.0);
+          };
       here = λ x id g. g;
-      known = λ id l. ap (λ (k : Known). which k.of) (pushed s.symbols k id l);
-      classes = λ id l. pushed_other s.symbols k id l;
-      tags = same_grows s.tags;
-      apart = λ n a. unnamed_append s.tags s.symbols k n a.0 (e n a.0);
+      before = λ x id g q. g;
     }
 
 pub function_follows : (s : State) (line : ℕ) (name : List ℕ) → IsSound s → Follows s (with_function s line name)
 function_follows s line name h =
     let f = linked_follows s name (symbol_named s.links name) (external line 0 None) h refl tt refl (λ n u. refl) refl in
     then_follows s (with_link s name (symbol_named s.links name) (external line 0 None)) (with_function s line name) f
-    (declared_follows (with_link s name (symbol_named s.links name) (external line 0 None)) name (external line (level_of s) (Some (pos (link_or_next s name)))) f.sound tt (λ n u. refl) refl)
+    (declared_follows (with_link s name (symbol_named s.links name) (external line 0 None)) name (external line (level_of s) (Some (pos (link_or_next s name)))) f.sound tt refl (λ n u. refl) refl)

@@ -17,15 +17,19 @@ use Rattle.c_meaning.specs.TypingRelation.{IsCallee, Types, TypesAll, TypesCalle
 use Rattle.c_meaning.specs.Values.{CoreTrees}
 use Rattle.c_meaning.specs.Values as values
 use Rattle.c_meaning.specs.Types.{has_size}
-use Rattle.c_fits.specs.Sound.{AreSized, Follows, IsNamed, IsSound, Unnamed, is_of}
+use Rattle.c_fits.specs.Sound.{AreSized, Extends, Follows, IsNamed, IsSound, Unnamed, is_of}
 use Rattle.c_fits.proofs.lemmas.Completing.{completed_follows, completed_named, open_is, opened_follows}
 use Rattle.c_fits.proofs.lemmas.Kinds.{elements_of_record, is_of_record}
-use Rattle.c_fits.proofs.lemmas.Following.{entered_sound, left_follows, same_follows, then_follows, unnamed_before}
-use Rattle.c_fits.proofs.lemmas.Types.{NoneOf, adjusted_apart, adjusted_elements, awaited_follows, enumerated_follows, enumerator_follows, fields_push, formed_apart, function_follows, known_named, member_field, member_sized, named_follows, parameter_follows, sized_push, sized_stay, specified_apart}
+use Rattle.c_fits.proofs.lemmas.Following.{entered_sound, left_follows, same_follows, then_extends, then_follows, unnamed_before}
+use Rattle.c_fits.proofs.lemmas.Types.{NoneOf, adjusted_apart, adjusted_elements, awaited_follows, enumerated_follows, enumerator_follows, fields_push, formed_apart, function_follows, known_named, member_field, member_sized, named_follows, parameter_extends, sized_push, sized_stay, specified_apart}
 
 -- a sound state is followed
 abbrev pub Goes : State → State → Type 0
 Goes s u = IsSound s → Follows s u
+
+-- or extended, where parameters may be declared
+abbrev pub GoesOn : State → State → Type 0
+GoesOn s u = IsSound s → Extends s u
 
 pub stay : {s u : State} → s ≡ u → Goes s u
 stay {s} {u} e h = subst (Follows s) e (same_follows s h)
@@ -216,16 +220,19 @@ mutual
   suffix_goes s (NoParameters l) u p h = stay h.0
   suffix_goes s (Prototype l ps more) u p h = λ k. subst (Follows s) h.3.0 (left_follows s h.0 k (parameters_go (entered s) (stands_alone ps more) 0 ps h.0 h.1 h.2 (entered_sound s k)))
 
-  pub parameters_go : (s : State) (alone : Bool) (index : ℕ) (ps : ParameterTrees) (u : State) (qs : List NamedParameter) → TypesParameters s alone index ps u qs → Goes s u
-  parameters_go s alone index NoParameter u qs h = stay h.0
-  parameters_go s alone index (Parameters p ps) u qs h = go (parameter_goes s alone index p h.0 h.1 h.2) (go (parameters_go h.0 alone (index + 1) ps h.3.0 h.3.1 h.3.2) (stay h.3.3.0))
+  pub parameters_go : (s : State) (alone : Bool) (index : ℕ) (ps : ParameterTrees) (u : State) (qs : List NamedParameter) → TypesParameters s alone index ps u qs → GoesOn s u
+  parameters_go s alone index NoParameter u qs h k = let f = stay h.0 k in f.extends
+  parameters_go s alone index (Parameters p ps) u qs h k =
+      let a = parameter_goes s alone index p h.0 h.1 h.2 k in
+      let b = parameters_go h.0 alone (index + 1) ps h.3.0 h.3.1 h.3.2 a.sound in
+      subst (Extends s) h.3.3.0 (then_extends s h.0 h.3.0 a b)
 
-  parameter_goes : (s : State) (alone : Bool) (index : ℕ) (p : ParameterTree) (u : State) (q : NamedParameter) → TypesParameter s alone index p u q → Goes s u
+  parameter_goes : (s : State) (alone : Bool) (index : ℕ) (p : ParameterTree) (u : State) (q : NamedParameter) → TypesParameter s alone index p u q → GoesOn s u
   parameter_goes s alone index (Parameter l specs d) u q h k =
       let a = specifiers_go s specs h.0 h.1 h.2 k in
       let b = parameter_shape_goes h.0 h.1.of d h.3.0 h.3.1 h.3.2 a.0.sound in
-      let f = parameter_follows h.3.0 l index h.1.classes h.3.1.name (adjusted h.3.1.of) b.0.sound (λ n m. adjusted_apart n h.3.1.of (b.1 n (a.1 n (unnamed_before h.0 h.3.0 b.0 n m)))) (adjusted_elements h.3.0.tags h.3.1.of) in
-      subst (Follows s) h.3.3.1.0 (then_follows s h.0 (with_parameter h.3.0 l index h.1.classes h.3.1.name (adjusted h.3.1.of)) a.0 (then_follows h.0 h.3.0 (with_parameter h.3.0 l index h.1.classes h.3.1.name (adjusted h.3.1.of)) b.0 f))
+      let f = parameter_extends h.3.0 l index h.1.classes h.3.1.name (adjusted h.3.1.of) b.0.sound (λ n m. adjusted_apart n h.3.1.of (b.1 n (a.1 n (unnamed_before h.0 h.3.0 b.0 n m)))) (adjusted_elements h.3.0.tags h.3.1.of) in
+      subst (Extends s) h.3.3.1.0 (then_extends s h.3.0 (with_parameter h.3.0 l index h.1.classes h.3.1.name (adjusted h.3.1.of)) (let g = then_follows s h.0 h.3.0 a.0 b.0 in g.extends) f)
 
   parameter_shape_goes : (s : State) (base : CType) (d : MaybeDeclarator) (u : State) (p : Shaped) → TypesParameterShape s base d u p → IsSound s → Follows s u × Shapes base p.of
   parameter_shape_goes s base NoDeclarator u p h k = (subst (Follows s) h.0 (same_follows s k), subst (λ (p : Shaped). Shapes base p.of) h.1 (λ n e. e))

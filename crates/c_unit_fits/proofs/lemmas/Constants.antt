@@ -16,11 +16,11 @@ use Rattle.c_units.specs.Externals.{Parts}
 use Rattle.c_fits.proofs.lemmas.Booleans.{and_beside, negated, not_false}
 use Rattle.c_unit_fits.specs.OpenUnits.{IsStaticObject, IsStaticPlace}
 
-first_none : (x y : Option Fault) → or_else x y ≡ None → x ≡ None
+pub first_none : (x y : Option Fault) → or_else x y ≡ None → x ≡ None
 first_none (Some f) y h = h
 first_none None y h = refl
 
-second_none : (x y : Option Fault) → or_else x y ≡ None → y ≡ None
+pub second_none : (x y : Option Fault) → or_else x y ≡ None → y ≡ None
 second_none (Some f) y h = absurd (let never : ⊥ = cc in never)
 second_none None y h = h
 

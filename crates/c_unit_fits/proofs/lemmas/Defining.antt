@@ -73,7 +73,7 @@ definition_leads s line b d u n h k o =
 
 -- ---- old-style parameters
 
-old_leads : (s : State) (line : ℕ) (names : List (List ℕ)) (b : Specified) (i : InitTree) (u : State) (x : Unit {0}) → TypesOld s line names b i u x → IsSound s → IsOld s b.of → Leads s u
+pub old_leads : (s : State) (line : ℕ) (names : List (List ℕ)) (b : Specified) (i : InitTree) (u : State) (x : Unit {0}) → TypesOld s line names b i u x → IsSound s → IsOld s b.of → Leads s u
 old_leads s line names b i u x h k o =
     let f = declarator_goes s i.declarator h.0 h.1 h.2 k in
     let base = old_stays s h.0 b.of f.count f.tags o in
@@ -83,13 +83,13 @@ old_leads s line names b i u x h k o =
     (λ m l. adjusted_apart m (formed b.of h.1.steps) (formed_apart m h.1.steps b.of (base.0 m l)), adjusted_elements h.0.tags (formed b.of h.1.steps)) in
     subst (Leads s) h.3.1.0 (then_leads s h.0 (with_old h.0 line n) (follows_leads s h.0 f) d)
 
-olds_lead : (s : State) (line : ℕ) (names : List (List ℕ)) (b : Specified) (is : List InitTree) (u : State) (x : Unit {0}) → TypesOlds s line names b is u x → IsSound s → IsOld s b.of → Leads s u
+pub olds_lead : (s : State) (line : ℕ) (names : List (List ℕ)) (b : Specified) (is : List InitTree) (u : State) (x : Unit {0}) → TypesOlds s line names b is u x → IsSound s → IsOld s b.of → Leads s u
 olds_lead s line names b [] u x h k o = subst (Leads s) h.0 (same_leads s k)
 olds_lead s line names b (i ∷ is) u x h k o =
     let f = old_leads s line names b i h.0 h.1 h.2 k o in
     then_leads s h.0 u f (olds_lead h.0 line names b is u x h.3 f.sound (old_stays s h.0 b.of f.count f.tags o))
 
-old_declaration_leads : (s : State) (names : List (List ℕ)) (d : DeclarationTree) (u : State) (x : Unit {0}) → TypesOldDeclaration s names d u x → IsSound s → Leads s u
+pub old_declaration_leads : (s : State) (names : List (List ℕ)) (d : DeclarationTree) (u : State) (x : Unit {0}) → TypesOldDeclaration s names d u x → IsSound s → Leads s u
 old_declaration_leads s names d u x h k =
     let f = inside_specifies s d.specifiers d.declarators h.0 h.1 h.2 k in
     let g = olds_lead h.0 d.line names h.1 d.declarators h.3.0 h.3.1 h.3.2 f.0.sound (λ n l. let u = f.0.sound.fresh n l in f.1.0 n u, f.1.1) in
@@ -101,7 +101,7 @@ old_declarations_lead s names (d ∷ ds) u x h k =
     let f = old_declaration_leads s names d h.0 h.1 h.2 k in
     then_leads s h.0 u f (old_declarations_lead h.0 names ds u x h.3 f.sound)
 
-listed_leads : (s : State) (line place : ℕ) (name : List ℕ) (o : Option ℕ) → IsSound s → Leads s (with_listed s line place name o)
+pub listed_leads : (s : State) (line place : ℕ) (name : List ℕ) (o : Option ℕ) → IsSound s → Leads s (with_listed s line place name o)
 listed_leads s line place name (Some id) k = same_leads s k
 listed_leads s line place name None k = declared_leads s name (parameter_known s line place [] (basic Int)) k (parameter_numbered [] (basic Int)) (int_old s)
 

@@ -57,7 +57,7 @@ pointers_scoped : (n : ℕ) (qs : List (List Qualifier)) → AreScoped n (pointe
 pointers_scoped n [] = tt
 pointers_scoped n (q ∷ qs) = (tt, pointers_scoped n qs)
 
-adjusted_object : (t : CType) → (is_function (adjusted t) || is_array (adjusted t)) ≡ false
+pub adjusted_object : (t : CType) → (is_function (adjusted t) || is_array (adjusted t)) ≡ false
 adjusted_object (Array of n) = refl
 adjusted_object (Plain q (Function r ps)) = refl
 adjusted_object (Plain q (Simple b)) = refl

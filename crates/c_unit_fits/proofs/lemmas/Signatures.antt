@@ -13,8 +13,8 @@ use Rattle.c_meaning.specs.TypeRows.{formed, formed_by}
 use Rattle.c_meaning.specs.TypeRows as rows
 use Rattle.c_meaning.specs.Types.{has_size, is_array, is_function, is_void}
 use Rattle.c_meaning.specs.Units.{AreParameters, is_result, types_listed}
-use Rattle.c_units.specs.Definitions.{Definition, definition_constraints, definition_fault, has_more, definition_limit, has_open_parameter, is_definition_step, is_open_result, own_step, takes_open}
-use Rattle.c_units.specs.Functions.{parameter_types, types_of}
+use Rattle.c_units.specs.Definitions.{Definition, definition_constraints, definition_fault, has_more, definition_limit, has_open_parameter, is_definition_step, is_open_result, names_of, own_step, takes_open}
+use Rattle.c_units.specs.Functions.{listed_types, parameter_types, types_of}
 use Rattle.c_fits.specs.Growing.{Grows}
 use Rattle.c_fits.specs.OpenDeclares.{IsOpenLocal}
 use Rattle.c_unit_fits.specs.Functions.{AreSized}
@@ -62,7 +62,7 @@ own_parameters (p ∷ q ∷ ps) t h = own_parameters (q ∷ ps) (formed_by p t) 
 
 -- ---- results
 
-whole_object : (tags : List Tag) (t : CType) → has_size tags t ≡ true → (is_function t || is_array t) ≡ false → is_whole tags t ≡ true
+pub whole_object : (tags : List Tag) (t : CType) → has_size tags t ≡ true → (is_function t || is_array t) ≡ false → is_whole tags t ≡ true
 whole_object tags (Plain q (Simple Void)) h e = never (sym h)
 whole_object tags (Plain q (Simple b)) h e = refl
 whole_object tags (Plain q (Pointer to)) h e = refl
@@ -96,28 +96,48 @@ all_sized : (tags : List Tag) (ps : List NamedParameter) → has_open_parameter 
 all_sized tags [] h = tt
 all_sized tags (p ∷ ps) h = (not_false (has_size tags p.of) (or_left (not (has_size tags p.of)) (has_open_parameter tags ps) h), all_sized tags ps (or_right (not (has_size tags p.of)) (has_open_parameter tags ps) h))
 
-abbrev pub HasParameters : List Tag → CType → List CType → Type 0
-HasParameters tags of ts = AreParameters (parameters_type of) ts × AreSized tags (parameters_type of) ts
-
 all_whole : (tags : List Tag) (ps : List NamedParameter) → has_open_parameter tags ps ≡ false → AreAdjusted ps → EachIs (λ t. is_whole tags t ≡ true) (types_of ps)
 all_whole tags [] h a = tt
 all_whole tags (p ∷ ps) h a =
     (whole_object tags p.of (not_false (has_size tags p.of) (or_left (not (has_size tags p.of)) (has_open_parameter tags ps) h)) a.0, all_whole tags ps (or_right (not (has_size tags p.of)) (has_open_parameter tags ps) h) a.1)
 
-step_has : (tags : List Tag) (s : State) (o : Option Step) → takes_open tags o ≡ false → has_more o ≡ false → StepAdjusted o → AreParameters (step_parameters o) (parameter_types s o) × AreSized tags (step_parameters o) (parameter_types s o)
-step_has tags s (Some (ToFunction ps more scope)) h e a = ((e, types_same ps), (all_sized tags ps h, all_whole tags ps h a))
-step_has tags s (Some (ToPointer q)) h e a = (tt, tt)
-step_has tags s (Some (ToArray size)) h e a = (tt, tt)
-step_has tags s (Some (ToNamed names)) h e a = (tt, tt)
-step_has tags s (Some ToOpen) h e a = (tt, tt)
-step_has tags s None h e a = (tt, tt)
+step_listed : (s : State) (o : Option Step) → has_more o ≡ false → AreParameters (step_parameters o) (parameter_types s o)
+step_listed s (Some (ToFunction ps more scope)) e = (e, types_same ps)
+step_listed s (Some (ToPointer q)) e = tt
+step_listed s (Some (ToArray size)) e = tt
+step_listed s (Some (ToNamed names)) e = tt
+step_listed s (Some ToOpen) e = tt
+step_listed s None e = tt
+
+-- the parameters of a prototype
+abbrev pub StepSized : List Tag → Option Step → Type 0
+StepSized tags (Some (ToFunction ps more scope)) = AreSized tags (types_of ps)
+StepSized tags step = Unit {0}
+
+step_sized : (tags : List Tag) (o : Option Step) → takes_open tags o ≡ false → StepAdjusted o → StepSized tags o
+step_sized tags (Some (ToFunction ps more scope)) h a = (all_sized tags ps h, all_whole tags ps h a)
+step_sized tags (Some (ToPointer q)) h a = tt
+step_sized tags (Some (ToArray size)) h a = tt
+step_sized tags (Some (ToNamed names)) h a = tt
+step_sized tags (Some ToOpen) h a = tt
+step_sized tags None h a = tt
+
+-- and those of an old-style definition
+pub parameters_sized : (tags : List Tag) (s : State) (o : Option Step) → StepSized tags o → AreSized tags (listed_types s (names_of o)) → AreSized tags (parameter_types s o)
+parameters_sized tags s (Some (ToFunction ps more scope)) h k = h
+parameters_sized tags s (Some (ToPointer q)) h k = k
+parameters_sized tags s (Some (ToArray size)) h k = k
+parameters_sized tags s (Some (ToNamed names)) h k = k
+parameters_sized tags s (Some ToOpen) h k = k
+parameters_sized tags s None h k = k
 
 -- ---- a definition
 
 pub record IsSignature (tags : List Tag) (n : Definition) : Type 0 where
   pub type : is_function n.naming.of ≡ true
   pub result : is_result tags (result_type n.naming.of) ≡ true
-  pub parameters : (s : State) → HasParameters tags n.naming.of (parameter_types s (own_step n.steps))
+  pub listed : (s : State) → AreParameters (parameters_type n.naming.of) (parameter_types s (own_step n.steps))
+  pub sized : StepSized tags (own_step n.steps)
 
 pub definition_unbroken : (s : State) (line : ℕ) (n : Definition) → definition_fault s line n ≡ None → (number : ℕ) → test_in definition_constraints number s n ≡ false
 unfolding definition_fault
@@ -133,10 +153,10 @@ signature s line n e h a =
       result =
           result_is s.tags (result_type n.naming.of) (or_right (takes_open s.tags (own_step n.steps)) (is_open_result s.tags (result_type n.naming.of)) whole)
           (subst (λ t. (is_function (result_type t) || is_array (result_type t)) ≡ false) (sym e) (own_result n.steps n.base own (definition_unbroken s line n h 15)));
-      parameters = λ t.
-          subst (λ of. HasParameters s.tags of (parameter_types t (own_step n.steps))) (sym e)
-          (subst (λ ps. AreParameters ps (parameter_types t (own_step n.steps)) × AreSized s.tags ps (parameter_types t (own_step n.steps))) (sym p)
-          (step_has s.tags t (own_step n.steps) (or_left (takes_open s.tags (own_step n.steps)) (is_open_result s.tags (result_type n.naming.of)) whole) (definition_unbroken s line n h 21) a));
+      listed = λ t.
+          subst (λ of. AreParameters (parameters_type of) (parameter_types t (own_step n.steps))) (sym e)
+          (subst (λ ps. AreParameters ps (parameter_types t (own_step n.steps))) (sym p) (step_listed t (own_step n.steps) (definition_unbroken s line n h 21)));
+      sized = step_sized s.tags (own_step n.steps) (or_left (takes_open s.tags (own_step n.steps)) (is_open_result s.tags (result_type n.naming.of)) whole) a;
     }
 
 -- ---- more definitions
@@ -145,14 +165,22 @@ wholes_stay : (old new : List Tag) (ts : List CType) → Grows old new → EachI
 wholes_stay old new [] g h = tt
 wholes_stay old new (t ∷ ts) g h = (whole_stays old new g t h.0, wholes_stay old new ts g h.1)
 
-pub sized_stay : (old new : List Tag) (ps : Parameters) (ts : List CType) → Grows old new → AreSized old ps ts → AreSized new ps ts
-sized_stay old new Open ts g h = tt
-sized_stay old new (Listed ps more) ts g h = (locals_stay old new ts g h.0, wholes_stay old new ts g h.1)
+pub sized_stay : (old new : List Tag) (ts : List CType) → Grows old new → AreSized old ts → AreSized new ts
+sized_stay old new ts g h = (locals_stay old new ts g h.0, wholes_stay old new ts g h.1)
+
+step_stays : (old new : List Tag) (o : Option Step) → Grows old new → StepSized old o → StepSized new o
+step_stays old new (Some (ToFunction ps more scope)) g h = sized_stay old new (types_of ps) g h
+step_stays old new (Some (ToPointer q)) g h = tt
+step_stays old new (Some (ToArray size)) g h = tt
+step_stays old new (Some (ToNamed names)) g h = tt
+step_stays old new (Some ToOpen) g h = tt
+step_stays old new None g h = tt
 
 pub signature_stays : (old new : List Tag) (n : Definition) → Grows old new → IsSignature old n → IsSignature new n
 signature_stays old new n g h =
     record {
       type = h.type;
       result = result_stays old new (result_type n.naming.of) g h.result;
-      parameters = λ s. let p = h.parameters s in (p.0, sized_stay old new (parameters_type n.naming.of) (parameter_types s (own_step n.steps)) g p.1);
+      listed = h.listed;
+      sized = step_stays old new (own_step n.steps) g h.sized;
     }

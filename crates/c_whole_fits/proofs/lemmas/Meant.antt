@@ -18,7 +18,7 @@ use Rattle.c_fits.proofs.lemmas.Booleans.{and_right, never}
 use Rattle.c_whole_fits.specs.There.{IsMeant, IsOfFunction, is_meaning}
 
 -- what is compatible with a function's type is one
-function_beside : (t s : CType) → is_function s ≡ true → compatible t s ≡ true → is_function t ≡ true
+pub function_beside : (t s : CType) → is_function s ≡ true → compatible t s ≡ true → is_function t ≡ true
 function_beside (Plain p (Function o qs)) s h e = refl
 function_beside (Plain p (Simple b)) (Plain q (Function r ps)) h e = never (sym (and_right (nat_eq p q) (kinds_compatible (Simple b) (Function r ps)) e))
 function_beside (Plain p (Pointer b)) (Plain q (Function r ps)) h e = never (sym (and_right (nat_eq p q) (kinds_compatible (Pointer b) (Function r ps)) e))
