@@ -1,0 +1,4 @@
+pub mod Named
+pub mod ExprsNamed
+pub mod UnitsNamed
+pub mod Lexed
