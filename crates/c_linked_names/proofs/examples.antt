@@ -1,0 +1,2 @@
+mod SymbolExamples
+mod KeptExamples

@@ -1,0 +1,13 @@
+pub mod Absorbing
+pub mod Lists
+pub mod Keeping
+pub mod Stepping
+pub mod Going
+pub mod Naming
+pub mod Standing
+pub mod Wholes
+pub mod Declaring
+pub mod Statements
+pub mod Defining
+pub mod Externals
+pub mod Different

@@ -1,0 +1,2 @@
+pub mod LinkedNames
+pub mod Laws
