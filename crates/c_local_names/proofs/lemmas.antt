@@ -1,0 +1,15 @@
+pub mod Itself
+pub mod Scopes
+pub mod Keeping
+pub mod Stepping
+pub mod Knowing
+pub mod Names
+pub mod Naming
+pub mod Declaring
+pub mod Statements
+pub mod Parameters
+pub mod OldStyle
+pub mod Starting
+pub mod Functions
+pub mod Objects
+pub mod Units
