@@ -1,0 +1,14 @@
+pub mod Lists
+pub mod Copies
+pub mod Shapes
+pub mod Sizes
+pub mod Texts
+pub mod Found
+pub mod There
+pub mod Statics
+pub mod Again
+pub mod Mains
+pub mod Labels
+pub mod Functions
+pub mod Objects
+pub mod Units
