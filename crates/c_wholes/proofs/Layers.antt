@@ -6,10 +6,13 @@ use Rattle.c_meaning.specs.declared.filled_place.FilledPlace.{FilledPlace}
 use Rattle.c_meaning.specs.declared.core_stmt.CoreCase.{CoreCase}
 use Rattle.c_meaning.specs.declared.core_stmt.CoreStmt.{CoreStmt, CoreStmt-F, fold-roll-CoreStmt}
 use Rattle.c_meaning.specs.declared.core_stmt.CoreStmt.TheVariants as stmt
-use Rattle.c_meaning.specs.StmtTrees.{StmtOf, Initialise, If, While, Do, For, Switch, Label, filled_of, stmt_layer, stmt_of}
+use Rattle.c_meaning.specs.StmtTrees.{StmtOf, Initialise, Block, If, While, Do, For, Switch, Label, filled_of, stmt_layer, stmt_of, stmts_of}
 
 pub is_initialise : (local : ℕ) (zero : Bool) (ps : List FilledPlace) → stmt_of (stmt.Initialise local zero ps) ≡ Initialise local zero (map filled_of ps)
 is_initialise local zero ps = ap stmt_of (sym (stmt.rolls-Initialise local zero ps)) ∙ fold-roll-CoreStmt (StmtOf ℕ) stmt_layer (CoreStmt-F.Initialise local zero ps)
+
+pub is_block : (first locals : ℕ) (ss : List CoreStmt) → stmt_of (stmt.Block first locals ss) ≡ Block first locals (stmts_of (map stmt_of ss))
+is_block first locals ss = ap stmt_of (sym (stmt.rolls-Block first locals ss)) ∙ fold-roll-CoreStmt (StmtOf ℕ) stmt_layer (CoreStmt-F.Block first locals ss)
 
 pub is_if : (e : CoreOf ℕ) (s u : Box CoreStmt) → stmt_of (stmt.If e s u) ≡ If e (stmt_of s.value) (stmt_of u.value)
 is_if e s u = ap stmt_of (sym (stmt.rolls-If e s u)) ∙ fold-roll-CoreStmt (StmtOf ℕ) stmt_layer (CoreStmt-F.If e s u)

@@ -1,4 +1,5 @@
 mod Layers
+mod NumberTrees
 mod OnceLists
 mod LiteralTrees
 mod KindTrees

@@ -6,11 +6,13 @@ mod copies;
 mod functions;
 mod literals;
 mod names;
+mod numbers;
 mod statements;
 mod static_objects;
 mod texts;
 
 pub use functions::whole_function;
 pub use literals::{note_function, note_object};
+pub use numbers::is_numbered;
 pub use static_objects::whole_object;
 pub use texts::Texts;
