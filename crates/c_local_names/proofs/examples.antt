@@ -1,1 +1,2 @@
 mod LocalExamples
+mod KnownExamples

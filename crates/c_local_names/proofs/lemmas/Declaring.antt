@@ -291,7 +291,7 @@ then_in c locals s t u x f d =
       objects = d.objects;
     }
 
-nothing_other : (o : Option ℕ) (s : State) → Counted o s → DeclaresOther o s s nothing
+pub nothing_other : (o : Option ℕ) (s : State) → Counted o s → DeclaresOther o s s nothing
 nothing_other o s c = record { adds = same_adds o s c; locals = refl; fills = refl; objects = tt }
 
 pub together_other : (o : Option ℕ) (s t u : State) (a b : Declares) → DeclaresOther o s t a → DeclaresOther o t u b → DeclaresOther o s u (together a b)

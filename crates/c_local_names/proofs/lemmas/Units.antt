@@ -83,7 +83,7 @@ module _ (laws : StepLaws) where
   externals_own s p (x ∷ xs) u q h g n k = externals_own h.0 h.1 xs u q h.3 g.1 n.1 (external_owns s p x h.0 h.1 h.2 g.0 n.0 k)
 
 -- before a unit
-nothing_owns : UnitOwns at_first no_parts
+pub nothing_owns : UnitOwns at_first no_parts
 nothing_owns =
     record {
       sound = nothing_sound;
