@@ -1,2 +1,3 @@
 pub mod EndIn
 pub mod ExternalsIn
+pub mod WholeSeen

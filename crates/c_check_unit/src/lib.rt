@@ -9,4 +9,3 @@ mod texts;
 mod whole;
 
 pub use checking::check_unit;
-pub use whole::WholeUnit;

@@ -3,11 +3,12 @@ ghost use Rattle.std.specs.Prelude.{◌≡◌, codes, length, map, IfOk};
 ghost use Rattle.std.specs.Str.{bytes_eq};
 ghost use Rattle.c_check_expr.specs.Known.{state_of};
 ghost use Rattle.c_meaning.specs.Each.{EachIs};
-ghost use Rattle.c_meaning.specs.Units.{IsFunctionIn, IsObjectIn, unit_seen};
+ghost use Rattle.c_meaning.specs.Units.{IsFunctionIn, IsObjectIn};
 ghost use Rattle.c_types.specs.Table.{Table};
 ghost use Rattle.c_unit_ends.specs.Standing.{AreStandings};
 ghost use Rattle.c_unit_parts.specs.PartsIn.{ArePartsIn, function_in, parts_in};
 ghost use Rattle.c_units.specs.Wholes.{main_from, whole_unit};
+ghost use Rattle.c_check_unit.specs.WholeSeen.{whole_seen};
 
 use crate::made::{made_functions, made_objects};
 use crate::texts::noted;
@@ -22,13 +23,13 @@ use std::alloc::Global;
 /// A unit in which symbols are functions, objects and built-in functions by their places, equal string literals
 /// one text, and each call has places for the structures that it passes and gives.
 #[derive(Drop)]
-pub struct WholeUnit {
-    pub functions: Items<CoreFunction>,
-    pub objects: Items<CoreObject>,
-    pub texts: Items<Bytes>,
-    pub types: TypeTable,
+pub(crate) struct WholeUnit {
+    pub(crate) functions: Items<CoreFunction>,
+    pub(crate) objects: Items<CoreObject>,
+    pub(crate) texts: Items<Bytes>,
+    pub(crate) types: TypeTable,
     /// The place of `main` among the functions.
-    pub main: u32,
+    pub(crate) main: u32,
 }
 
 /// The unit that has these parts, made whole.
@@ -41,7 +42,7 @@ pub(crate) fn whole(
 ) -> Result<WholeUnit, Memory>
     requires parts { ArePartsIn (length types.forms) parts }
     requires standings { AreStandings (state_of scopes.now types) (parts_in types parts) standings.now }
-    ensures is { IfOk result (λ u. unit_seen (record { functions = u.functions; objects = u.objects; texts = u.texts; types = u.types; main = u.main }) ≡ whole_unit (state_of scopes.now types) (parts_in types parts)) }
+    ensures is { IfOk result (λ u. whole_seen u ≡ whole_unit (state_of scopes.now types) (parts_in types parts)) }
     ensures types { IfOk result (λ u. u.types ≡ types) }
     ensures functions { IfOk result (λ u. EachIs (IsFunctionIn (length u.types.forms)) u.functions) }
     ensures objects { IfOk result (λ u. EachIs (IsObjectIn (length u.types.forms)) u.objects) }

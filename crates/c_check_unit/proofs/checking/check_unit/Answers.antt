@@ -1,14 +1,15 @@
+use Rattle.std.proofs.Common.{subst, sym}
 use Rattle.c_ast.specs.UnitViews.{unit_of}
-use Rattle.c_meaning.specs.Units.{unit_seen}
-use Rattle.c_check_unit.proofs.UnitTypings.{constraint_told, limit_told, unit_typed}
+use Rattle.c_units.specs.UnitsRelation.{TypesUnit}
+use Rattle.c_check_unit.specs.WholeSeen.{whole_seen}
 use Rattle.c_check_unit.proofs.checking.check_unit.Goals as goal
+
+pub core-requires-clause-unit : goal.core-requires-clause-unit
+core-requires-clause-unit c =
+    let k = c.in_ok-whole.ensures.typed in
+    λ n. c.typed_units_are_units.ensures (unit_of c.args.unit.now) k.0 (whole_seen c.in_ok-whole.whole) c.requires.levels.1 c.requires.names k.1 n
 
 pub returns-clause-typed : goal.returns-clause-typed
 returns-clause-typed c =
-    unit_typed c.args.unit.now (λ u. unit_seen (record { functions = u.functions; objects = u.objects; texts = u.texts; types = u.types; main = u.main })) c.checked.result (c.typing_units_is_a_function.ensures.units (unit_of c.args.unit.now)) c.checked.ensures.is
-
-pub returns-clause-constraint : goal.returns-clause-constraint
-returns-clause-constraint c = λ number line. constraint_told c.args.unit.now c.checked.result number line (c.typing_units_is_a_function.ensures.unit_faults (unit_of c.args.unit.now)) c.checked.ensures.told
-
-pub returns-clause-limit : goal.returns-clause-limit
-returns-clause-limit c = λ limit line. limit_told c.args.unit.now c.checked.result limit line (c.typing_units_is_a_function.ensures.unit_faults (unit_of c.args.unit.now)) c.checked.ensures.told
+    let k = c.in_ok-whole.ensures.typed in
+    (k.0, subst (TypesUnit (unit_of c.args.unit.now) k.0) (sym c.in_ok-core.ensures) k.1)

@@ -1,6 +1,6 @@
 use Rattle.std.proofs.Common.{length, map, sym, subst}
 use Rattle.c_check_expr.specs.Known.{AreSymbolsIn, state_of}
-use Rattle.c_meaning.specs.Units.{unit_seen}
+use Rattle.c_check_unit.specs.WholeSeen.{whole_seen}
 use Rattle.c_unit_parts.specs.PartsIn.{parts_in}
 use Rattle.c_check_unit.specs.EndIn.{unit_in}
 use Rattle.c_check_unit.specs.ExternalsIn.{external_seen}
@@ -27,7 +27,7 @@ returns-clause-is c =
     let n = c.in_ok-scopes.ensures in
     let first = first_state s a n.outer n.inner n.links n.symbols c.new-types.ensures.forms c.new-types.ensures.completed in
     end_fine s a c.as_slice.result.now c.args.unit.now.externals first c.as_slice.ensures (state_of c.externals.new.scopes c.externals.new.types) (parts_in c.externals.new.types c.in_ok-parts.parts) c.in_ok-parts.ensures.ok
-    (λ u. unit_seen (record { functions = u.functions; objects = u.objects; texts = u.texts; types = u.types; main = u.main })) c.ended.result c.ended.ensures.is
+    whole_seen c.ended.result c.ended.ensures.is
 
 pub returns-clause-told : goal.returns-clause-told
 returns-clause-told c =

@@ -2,7 +2,7 @@ use Rattle.std.proofs.Common.{refl}
 use Rattle.c_check_expr.specs.Kept.{keeps_grown}
 use Rattle.c_check_expr.specs.Known.{state_of}
 use Rattle.c_check_expr.specs.SymbolsStay.{state_stays}
-use Rattle.c_meaning.specs.Units.{unit_seen}
+use Rattle.c_check_unit.specs.WholeSeen.{whole_seen}
 use Rattle.c_unit_parts.specs.PartsIn.{parts_in}
 use Rattle.c_check_unit.specs.EndIn.{typed_end}
 use Rattle.c_check_unit.proofs.UnitEnds.{constants_told, end_fine, names_told, open_told, passed_told}
@@ -46,4 +46,4 @@ returns-clause-is c =
     let v = parts_in b c.define_tentative.new.parts in
     let w = c.in_ok-whole.field-0 in
     end_fine s z u v (state_stays c.args.scopes.now c.args.types b c.define_tentative.ensures.grows c.requires.symbols) c.in_ok-define_tentative.ensures.is c.in_ok-define_tentative.ensures.sound (c.in_ok-constants.ensures.sound z refl) c.in_ok-names.ensures.sound
-    (unit_seen (record { functions = w.functions; objects = w.objects; texts = w.texts; types = w.types; main = w.main })) c.in_ok-whole.ensures.is
+    (whole_seen w) c.in_ok-whole.ensures.is
