@@ -1,0 +1,61 @@
+-- Words that ask for a run, in any order and with `=`, and words that ask for none.
+use Rattle.std.proofs.Common.{◌≡◌, ℕ, List, [], ◌∷◌, refl, sym, ◌∙◌, ap, inl, inr, arith, true, false}
+use Rattle.std.specs.Prelude.{codes, Option, Some, None}
+use Rattle.clap.proofs.OnLiterals.{clap_on_literals}
+use Rattle.clap.specs.Words.{fault_of}
+use Rattle.clap.specs.declared.error.kind.ErrorKind.TheVariants as kind
+use Rattle.lcc_base.specs.declared.order.Order.TheVariants.{Big}
+use Rattle.command_words.specs.declared.run_options.RunOptions.{RunOptions}
+use Rattle.command_words.specs.declared.words.Command.TheVariants.{Simrun}
+use Rattle.command_words.specs.OptionWords.{Options, app_for, value_of}
+use Rattle.command_words.specs.RunWords.{GivesNumber}
+use Rattle.command_words.specs.Commands.{AreWordsOf, words_of}
+
+abbrev options : Options
+options = (codes "target", true) ∷ (codes "steps", false) ∷ (codes "stack", false) ∷ []
+
+-- the options in another order, one with `=`
+abbrev turned : List (List ℕ)
+turned = codes "--steps=10" ∷ codes "--target" ∷ codes "mipseb" ∷ []
+
+fine : fault_of (app_for options) turned ≡ []
+unfolding clap_on_literals
+fine = refl
+
+target_is : value_of options turned (codes "target") ≡ Some (codes "mipseb")
+unfolding clap_on_literals
+target_is = refl
+
+steps_are : value_of options turned (codes "steps") ≡ Some (codes "10")
+unfolding clap_on_literals
+steps_are = refl
+
+no_stack : value_of options turned (codes "stack") ≡ None
+unfolding clap_on_literals
+no_stack = refl
+
+-- an option that stands twice, one that is missing, and help
+abbrev twice : List (List ℕ)
+twice = codes "--target" ∷ codes "mipseb" ∷ codes "--target" ∷ codes "mipseb" ∷ []
+
+no_second : fault_of (app_for options) twice ≡ kind.ArgumentConflict ∷ []
+unfolding clap_on_literals
+no_second = refl
+
+no_target : fault_of (app_for options) (codes "--steps" ∷ codes "3" ∷ []) ≡ kind.MissingRequiredArgument ∷ []
+unfolding clap_on_literals
+no_target = refl
+
+no_help : fault_of (app_for options) (codes "--help" ∷ []) ≡ kind.UnknownArgument ∷ []
+unfolding clap_on_literals
+no_help = refl
+
+-- a number of eleven digits is none, and a number below the range
+eleven : GivesNumber 1 4294967295 10000000 (Some (codes "00000000003")) 3 → ⊥
+eleven is = let few = is.few in omega arith
+
+none : GivesNumber 1 4294967295 10000000 (Some (codes "0")) 0 → ⊥
+none is = let low = is.low in omega arith
+
+ten : GivesNumber 1 4294967295 10000000 (Some (codes "10")) 10
+ten = record { digits = (refl, (refl, tt)); some = omega arith; few = omega arith; value = refl; low = omega arith; high = omega arith }

@@ -1,0 +1,4 @@
+pub mod Found
+pub mod OptionWords
+pub mod RunWords
+pub mod Commands

@@ -1,0 +1,10 @@
+//! Which command the words behind the program's name ask for, with its options.
+#![tactic(auto)]
+
+mod option_words;
+mod run_options;
+mod run_words;
+mod words;
+
+pub use run_options::RunOptions;
+pub use words::{Command, command_of};
