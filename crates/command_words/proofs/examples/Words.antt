@@ -34,6 +34,32 @@ no_stack : value_of options turned (codes "stack") ≡ None
 unfolding clap_on_literals
 no_stack = refl
 
+-- `--` ends the options, and no word may stand behind it
+ended : fault_of (app_for options) (codes "--target" ∷ codes "mipseb" ∷ codes "--" ∷ []) ≡ []
+unfolding clap_on_literals
+ended = refl
+
+no_word : fault_of (app_for options) (codes "--target" ∷ codes "mipseb" ∷ codes "--" ∷ codes "x" ∷ []) ≡ kind.UnknownArgument ∷ []
+unfolding clap_on_literals
+no_word = refl
+
+no_options : fault_of (app_for []) (codes "--" ∷ []) ≡ []
+unfolding clap_on_literals
+no_options = refl
+
+-- a name that is cut short, one hyphen, and two equals signs, of which the second is the value's
+no_step : fault_of (app_for options) (codes "--target" ∷ codes "mipseb" ∷ codes "--step" ∷ codes "3" ∷ []) ≡ kind.UnknownArgument ∷ []
+unfolding clap_on_literals
+no_step = refl
+
+no_letter : fault_of (app_for options) (codes "--target" ∷ codes "mipseb" ∷ codes "-h" ∷ []) ≡ kind.UnknownArgument ∷ []
+unfolding clap_on_literals
+no_letter = refl
+
+equals : value_of options (codes "--steps==3" ∷ []) (codes "steps") ≡ Some (codes "=3")
+unfolding clap_on_literals
+equals = refl
+
 -- an option that stands twice, one that is missing, and help
 abbrev twice : List (List ℕ)
 twice = codes "--target" ∷ codes "mipseb" ∷ codes "--target" ∷ codes "mipseb" ∷ []

@@ -1,0 +1,4 @@
+pub mod lemmas
+pub mod Ongoing
+pub mod Gathering
+mod examples

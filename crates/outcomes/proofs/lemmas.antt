@@ -1,0 +1,3 @@
+pub mod Works
+pub mod Causes
+pub mod Told

@@ -1,0 +1,66 @@
+ghost use Rattle.std.specs.Prelude.{◌≡◌};
+
+/// A fault of a description, of its tail or of assembly, by the name that the report tells.
+#[derive(Clone, Copy, Debug, PartialEq, Eq)]
+pub enum FaultName {
+    /// The bytes form no token.
+    BadToken,
+    /// The tokens don't follow the grammar.
+    BadRule,
+    /// A name with operands isn't a terminal.
+    UnknownTerminal,
+    /// A terminal's name or number is declared again.
+    DoubleTerminal,
+    /// A terminal is used with another number of operands than at its first use.
+    ArityDiffers,
+    /// A nonterminal has no rule.
+    UnknownNonterminal,
+    /// The rest of a rule's line isn't a cost.
+    CostForm,
+    /// A decimal cost is above 32,766.
+    CostTooLarge,
+    /// A line of the tail is no tree.
+    BadTree,
+    /// A name in the tail isn't a terminal's.
+    UnknownOp,
+    /// An operator in the tail has another number of operands than the rules use it with.
+    WrongArity,
+    /// A line of assembly has no such form.
+    BadLine,
+    /// A word of assembly is neither an instruction's nor a directive's.
+    UnknownInstruction,
+    /// Operands of assembly have another form.
+    BadOperand,
+    /// A label of assembly stands twice.
+    DoubleLabel,
+    /// A name of assembly is neither a label nor a built-in function.
+    UnknownLabel,
+}
+
+impl FaultName {
+    ghost use Rattle.outcomes.specs.FaultName.{fault_name};
+
+    /// Its text in a report.
+    pub fn text(self) -> &'static str
+        ensures { result.now ≡ fault_name self }
+    {
+        match self {
+            FaultName::BadToken => "BadToken",
+            FaultName::BadRule => "BadRule",
+            FaultName::UnknownTerminal => "UnknownTerminal",
+            FaultName::DoubleTerminal => "DoubleTerminal",
+            FaultName::ArityDiffers => "ArityDiffers",
+            FaultName::UnknownNonterminal => "UnknownNonterminal",
+            FaultName::CostForm => "CostForm",
+            FaultName::CostTooLarge => "CostTooLarge",
+            FaultName::BadTree => "BadTree",
+            FaultName::UnknownOp => "UnknownOp",
+            FaultName::WrongArity => "WrongArity",
+            FaultName::BadLine => "BadLine",
+            FaultName::UnknownInstruction => "UnknownInstruction",
+            FaultName::BadOperand => "BadOperand",
+            FaultName::DoubleLabel => "DoubleLabel",
+            FaultName::UnknownLabel => "UnknownLabel",
+        }
+    }
+}
