@@ -2,17 +2,18 @@
 use Rattle.std.proofs.Common.{◌≡◌, ℕ, ◌⊎◌, inl, inr, List, sym, subst}
 use Rattle.std.specs.declared.option.Option.{Option}
 use Rattle.std.specs.Io.KnownBytes.{Appends}
-use Rattle.lcc_top.specs.declared.words.Command.TheVariants.{Cover, Simrun, Rcc}
-use Rattle.lcc_top.specs.declared.run_options.RunOptions.{RunOptions}
-use Rattle.lcc_top.specs.declared.outcome.End.{End}
-use Rattle.lcc_top.specs.declared.outcome.End.TheVariants as ends
-use Rattle.lcc_top.specs.declared.status.Status.{Status}
-use Rattle.lcc_top.specs.declared.status.Status.TheVariants as status
-use Rattle.lcc_top.specs.Outcome.{end_status, end_line}
-use Rattle.lcc_top.specs.Cover.{CoverEnds}
-use Rattle.lcc_top.specs.Compilation.{IsCompilation, WritesRcc}
-use Rattle.lcc_top.specs.Answers.{IsEndStatus, HasDone}
-use Rattle.lcc_top.specs.Headline.{IsAnswer, CoverHeadline, IsRunStatus, RunHeadline, CompilerHeadline}
+use Rattle.command_words.specs.declared.run_options.RunOptions.{RunOptions}
+use Rattle.outcomes.specs.declared.outcome.End.{End}
+use Rattle.outcomes.specs.declared.outcome.End.TheVariants as ends
+use Rattle.outcomes.specs.declared.status.Status.{Status}
+use Rattle.outcomes.specs.declared.status.Status.TheVariants as status
+use Rattle.outcomes.specs.Status.{IsEndKind, IsEndStatus, IsRunStatus}
+use Rattle.outcomes.specs.Outcome.{end_status, end_line}
+use Rattle.outcomes.specs.Answers.{HasDone}
+use Rattle.lburg_tool.specs.Cover.{CoverEnds, cover_behaviour}
+use Rattle.simrun_tool.specs.Simulation.{simrun_behaviour}
+use Rattle.rcc_tool.specs.Compilation.{IsCompilation, WritesRcc, rcc_behaviour}
+use Rattle.lcc_top.specs.Headline.{IsAnswer, CoverHeadline, RunHeadline, CompilerHeadline}
 
 -- ---- lburg cover
 
@@ -26,7 +27,7 @@ cover_answer uncovered (ends.NoCover n) answer report report_after (same, some) 
     subst (λ k. IsAnswer k answer report report_after) (sym same) (inr (some, is, told))
 cover_answer uncovered end answer report report_after none is told = absurd none
 
-pub cover_headline : (bytes : List ℕ) (taken taken_after report report_after : Option (List ℕ)) (answer : Status) → (IsEndStatus answer → HasDone Cover bytes taken taken_after report report_after answer) → (answer ≡ status.Ok) ⊎ (answer ≡ status.NoCover) → CoverHeadline bytes taken taken_after report report_after answer
+pub cover_headline : (bytes : List ℕ) (taken taken_after report report_after : Option (List ℕ)) (answer : Status) → (IsEndStatus answer → HasDone cover_behaviour bytes taken taken_after report report_after answer) → (answer ≡ status.Ok) ⊎ (answer ≡ status.NoCover) → CoverHeadline bytes taken taken_after report report_after answer
 cover_headline bytes taken taken_after report report_after answer done good =
     let h = done (cover_end answer good) in
     let (uncovered, cover, ends) = h.writes in
@@ -35,13 +36,10 @@ cover_headline bytes taken taken_after report report_after answer done good =
 -- ---- simrun
 
 run_end : (s : Status) → IsRunStatus s → IsEndStatus s
-run_end status.Ok good = tt
-run_end status.Stuck good = tt
-run_end status.StackOut good = tt
-run_end status.OutOfSteps good = tt
-run_end s none = absurd none
+run_end s (inl is) = subst IsEndStatus (sym is) tt
+run_end s (inr is) = subst IsEndKind (sym is) tt
 
-pub run_headline : (o : RunOptions) (bytes : List ℕ) (taken taken_after report report_after : Option (List ℕ)) (answer : Status) → (IsEndStatus answer → HasDone (Simrun o) bytes taken taken_after report report_after answer) → IsRunStatus answer → RunHeadline o bytes taken taken_after report report_after answer
+pub run_headline : (o : RunOptions) (bytes : List ℕ) (taken taken_after report report_after : Option (List ℕ)) (answer : Status) → (IsEndStatus answer → HasDone (simrun_behaviour o) bytes taken taken_after report report_after answer) → IsRunStatus answer → RunHeadline o bytes taken taken_after report report_after answer
 run_headline o bytes taken taken_after report report_after answer done good =
     let h = done (run_end answer good) in
     record { end = h.end; text = h.text; simulation = h.writes; written = h.written; answered = h.answered; reported = h.reported }
@@ -52,7 +50,7 @@ compiled : (input text : List ℕ) (end : End) → WritesRcc input end text → 
 compiled input text ends.Finished made = made
 compiled input text end none = absurd none
 
-pub compiler_headline : (bytes : List ℕ) (taken taken_after report report_after : Option (List ℕ)) (answer : Status) → (IsEndStatus answer → HasDone Rcc bytes taken taken_after report report_after answer) → answer ≡ status.Ok → CompilerHeadline bytes taken taken_after
+pub compiler_headline : (bytes : List ℕ) (taken taken_after report report_after : Option (List ℕ)) (answer : Status) → (IsEndStatus answer → HasDone rcc_behaviour bytes taken taken_after report report_after answer) → answer ≡ status.Ok → CompilerHeadline bytes taken taken_after
 compiler_headline bytes taken taken_after report report_after answer done good =
     let h = done (subst IsEndStatus (sym good) tt) in
     record { text = h.text; compilation = compiled bytes h.text h.end h.writes; written = h.written }

@@ -5,7 +5,7 @@ use Rattle.std.specs.Prelude.{codes, decimal, Result, Ok, Err, OnOk, OnErr}
 use Rattle.std.specs.Io.KnownBytes.{Appends}
 use Rattle.std.proofs.KnownBytes.{Appends-trans}
 use Rattle.lcc_base.specs.Taken.{TookPrefix}
-use Rattle.lcc_top.specs.Outcome.{hex_word, place_line}
+use Rattle.outcomes.specs.Outcome.{hex_word, place_line}
 
 -- of the first piece
 pub first_of : (old new : Option (List ℕ)) (a b : List ℕ) → TookPrefix old new a → TookPrefix old new (a ++ b)

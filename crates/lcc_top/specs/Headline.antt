@@ -5,14 +5,14 @@
 use Rattle.std.specs.Prelude.{ℕ, ◌≡◌, ◌<◌, ◌⊎◌, ◌++◌, List, [], codes, decimal}
 use Rattle.std.specs.declared.option.Option.{Option}
 use Rattle.std.specs.Io.KnownBytes.{Appends}
-use Rattle.lcc_top.specs.declared.status.Status.{Status}
-use Rattle.lcc_top.specs.declared.status.Status.TheVariants as status
-use Rattle.lcc_top.specs.declared.outcome.End.{End}
-use Rattle.lcc_top.specs.declared.run_options.RunOptions.{RunOptions}
-use Rattle.lcc_top.specs.Outcome.{end_status, end_line}
-use Rattle.lcc_top.specs.Cover.{IsCover}
-use Rattle.lcc_top.specs.Simulation.{IsSimulation}
-use Rattle.lcc_top.specs.Compilation.{IsCompilation}
+use Rattle.outcomes.specs.declared.status.Status.{Status}
+use Rattle.outcomes.specs.declared.status.Status.TheVariants as status
+use Rattle.outcomes.specs.declared.outcome.End.{End}
+use Rattle.command_words.specs.declared.run_options.RunOptions.{RunOptions}
+use Rattle.outcomes.specs.Outcome.{end_status, end_line}
+use Rattle.lburg_tool.specs.Cover.{IsCover}
+use Rattle.simrun_tool.specs.Simulation.{IsSimulation}
+use Rattle.rcc_tool.specs.Compilation.{IsCompilation}
 
 -- the status and the report where so many trees have no derivation
 abbrev pub IsAnswer : ℕ → Status → Option (List ℕ) → Option (List ℕ) → Type 0
@@ -26,14 +26,6 @@ pub record CoverHeadline (input : List ℕ) (taken taken_after report report_aft
   pub cover : IsCover input text uncovered
   pub written : Appends taken taken_after text
   pub answered : IsAnswer uncovered answer report report_after
-
--- the statuses that tell how a run was when its steps were done
-abbrev pub IsRunStatus : Status → Type 0
-IsRunStatus status.Ok = Unit {0}
-IsRunStatus status.Stuck = Unit {0}
-IsRunStatus status.StackOut = Unit {0}
-IsRunStatus status.OutOfSteps = Unit {0}
-IsRunStatus s = ⊥
 
 -- The headline of `simrun`: the input is a program's text, with what the program reads behind a line `%%`, and output,
 -- status and report are those of its run, of so many steps, in this order of bytes and with this stack.

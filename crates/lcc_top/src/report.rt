@@ -4,12 +4,12 @@ ghost use Rattle.std.specs.Io.KnownBytes.{Appends};
 ghost use Rattle.lcc_base.specs.Faults.{HasCause};
 ghost use Rattle.lcc_base.specs.Taken.{TookPrefix};
 ghost use Rattle.asm_text.specs.StuckCause.{cause_name};
-ghost use Rattle.lcc_top.specs.Outcome.{hex_digit, hex_word, at_line, end_line, refusal_line, line_of, place_line};
+ghost use Rattle.outcomes.specs.Outcome.{hex_digit, hex_word, at_line, end_line, refusal_line, line_of, place_line};
 
-use crate::outcome::{End, Outcome, Refusal};
 use asm_text::StuckCause;
 use itoa::Buffer;
 use lcc_base::{Failed, Sink, write_all};
+use outcomes::{End, Outcome, Refusal};
 
 /// Writes three pieces, one behind another.
 #[tactic(auto, using(crate::proofs::Pieces::first_of, crate::proofs::Pieces::next_of))]
@@ -128,27 +128,27 @@ fn write_at_line<E: Sink>(report: &mut E, line: u32, kind: &[u8], name: &str) ->
 }
 
 /// Writes the line of a refusal.
-fn write_refusal<E: Sink>(report: &mut E, refusal: Refusal) -> Result<(), Failed>
-    ensures all { OnOk result (Appends (E.taken report.old) (E.taken report.new) (refusal_line refusal)) }
-    ensures prefix { OnErr result (TookPrefix (E.taken report.old) (E.taken report.new) (refusal_line refusal)) }
+fn write_refusal<E: Sink>(report: &mut E, refusal: &Refusal) -> Result<(), Failed>
+    ensures all { OnOk result (Appends (E.taken report.old) (E.taken report.new) (refusal_line refusal.now)) }
+    ensures prefix { OnErr result (TookPrefix (E.taken report.old) (E.taken report.new) (refusal_line refusal.now)) }
     ensures cause { HasCause (E.faults report.old) (E.faults report.new) result }
 {
     match refusal {
         Refusal::BadText => write_all(report, b"bad text\n"),
         Refusal::NoMain => write_all(report, b"no main\n"),
-        Refusal::Fault { line, name } => write_at_line(report, line, b"", name.text()),
-        Refusal::Limit { line, which } => write_at_line(report, line, b"limit ", which.name()),
+        Refusal::Fault { line, name } => write_at_line(report, *line, b"", name.text()),
+        Refusal::Limit { line, which } => write_at_line(report, *line, b"limit ", which.name()),
     }
 }
 
 /// Writes the line of an outcome, or nothing where it has none.
-pub(crate) fn write_line<E: Sink>(report: &mut E, outcome: Outcome) -> Result<(), Failed>
-    ensures all { OnOk result (Appends (E.taken report.old) (E.taken report.new) (line_of outcome)) }
-    ensures prefix { OnErr result (TookPrefix (E.taken report.old) (E.taken report.new) (line_of outcome)) }
+pub(crate) fn write_line<E: Sink>(report: &mut E, outcome: &Outcome) -> Result<(), Failed>
+    ensures all { OnOk result (Appends (E.taken report.old) (E.taken report.new) (line_of outcome.now)) }
+    ensures prefix { OnErr result (TookPrefix (E.taken report.old) (E.taken report.new) (line_of outcome.now)) }
     ensures cause { HasCause (E.faults report.old) (E.faults report.new) result }
 {
     match outcome {
-        Outcome::Done(end) => write_end(report, end),
+        Outcome::Done(end) => write_end(report, *end),
         Outcome::Refused(refusal) => write_refusal(report, refusal),
         Outcome::Usage => write_all(report, b"lcc: wrong words\n"),
         Outcome::InputTooLong => write_all(report, b"input too long\n"),

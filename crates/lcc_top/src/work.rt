@@ -1,15 +1,16 @@
 ghost use Rattle.std.specs.Prelude.{◌≤◌, length, map, string_bytes};
-ghost use Rattle.lcc_top.specs.Call.{Call, IsCaused};
-ghost use Rattle.lcc_top.specs.Commands.{IsSized};
-ghost use Rattle.lcc_top.specs.Work.{IsWorked};
+ghost use Rattle.command_words.specs.Commands.{reads};
+ghost use Rattle.outcomes.specs.Call.{Call, IsCausedBy};
+ghost use Rattle.outcomes.specs.Work.{IsWorked};
+ghost use Rattle.lcc_top.specs.Commands.{behaviour_of};
+ghost use Rattle.lcc_top.specs.Causes.{IsCaused};
 
-use crate::cover::cover_input;
-use crate::outcome::Outcome;
-use crate::rcc::compile_input;
-use crate::simulate::run_input;
-use crate::tables::tables_input;
-use crate::words::{Command, command_of};
-use lcc_base::{ReadEnd, Sink, Source, read_all};
+use command_words::{Command, command_of};
+use lburg_tool::{cover_input, tables_input};
+use lcc_base::{Memory, ReadEnd, Sink, Source, read_all};
+use outcomes::Outcome;
+use rcc_tool::compile_input;
+use simrun_tool::run_input;
 use std::alloc::Global;
 
 /// The most bytes that an input has.
@@ -18,8 +19,7 @@ const INPUT_LIMIT: usize = 16_777_216;
 /// Does a command's work on the input.
 fn work<K: Sink>(alloc: Global, command: Command, input: &[u8], output: &mut K) -> Outcome
     requires within { length input.now ≤ 16777216 }
-    requires sized { IsSized command }
-    ensures worked { IsWorked command input.now (K.taken output.old) (K.taken output.new) (K.faults output.old) (K.faults output.new) result }
+    ensures worked { IsWorked (behaviour_of command) input.now (K.taken output.old) (K.taken output.new) (K.faults output.old) (K.faults output.new) result }
     ensures later { K.faults output.old ≤ K.faults output.new }
 {
     match command {
@@ -30,15 +30,14 @@ fn work<K: Sink>(alloc: Global, command: Command, input: &[u8], output: &mut K) 
     }
 }
 
-/// Reads, works and writes, without the report.
-pub(crate) fn run<S: Source, K: Sink>(
+/// Reads what the command works on, if it reads, and does its work.
+fn perform<S: Source, K: Sink>(
     alloc: Global,
-    words: &[String],
+    command: Command,
     input: &mut S,
     output: &mut K,
 ) -> Outcome
     ensures caused { let call : Call = record {
-      words = map string_bytes words.now;
       left = S.left input.old;
       left_after = S.left input.new;
       read_faults = S.faults input.old;
@@ -47,16 +46,42 @@ pub(crate) fn run<S: Source, K: Sink>(
       taken_after = K.taken output.new;
       write_faults = K.faults output.old;
       write_faults_after = K.faults output.new;
-    } in IsCaused call result }
+    } in IsCausedBy (reads command) (behaviour_of command) call result }
     ensures later { K.faults output.old ≤ K.faults output.new }
 {
-    let Some(asked) = command_of(words) else {
-        return Outcome::Usage;
-    };
+    if !command.reads() {
+        return work(alloc, command, &[], output);
+    }
     match read_all(alloc, input, INPUT_LIMIT) {
-        Ok(bytes) => work(alloc, asked, bytes.as_slice(), output),
+        Ok(bytes) => work(alloc, command, bytes.as_slice(), output),
         Err(ReadEnd::Failed) => Outcome::ReadFault,
         Err(ReadEnd::TooLong) => Outcome::InputTooLong,
         Err(ReadEnd::Memory) => Outcome::Memory,
+    }
+}
+
+/// Does what the words ask, without the report.
+pub(crate) fn run<S: Source, K: Sink>(
+    alloc: Global,
+    words: &[String],
+    input: &mut S,
+    output: &mut K,
+) -> Outcome
+    ensures caused { let call : Call = record {
+      left = S.left input.old;
+      left_after = S.left input.new;
+      read_faults = S.faults input.old;
+      read_faults_after = S.faults input.new;
+      taken = K.taken output.old;
+      taken_after = K.taken output.new;
+      write_faults = K.faults output.old;
+      write_faults_after = K.faults output.new;
+    } in IsCaused (map string_bytes words.now) call result }
+    ensures later { K.faults output.old ≤ K.faults output.new }
+{
+    match command_of(alloc, words) {
+        Ok(Some(command)) => perform(alloc, command, input, output),
+        Ok(None) => Outcome::Usage,
+        Err(Memory) => Outcome::Memory,
     }
 }

@@ -2,8 +2,8 @@ use Rattle.std.proofs.Common.{sym, subst}
 use Rattle.std.specs.Prelude.{OnOk, OnErr}
 use Rattle.std.specs.Io.KnownBytes.{Appends}
 use Rattle.lcc_base.specs.Taken.{TookPrefix}
-use Rattle.lcc_top.specs.declared.outcome.End.{End}
-use Rattle.lcc_top.specs.Outcome.{end_line}
+use Rattle.outcomes.specs.declared.outcome.End.{End}
+use Rattle.outcomes.specs.Outcome.{end_line}
 use Rattle.lcc_top.proofs.report.write_end.Goals as goal
 
 pub returns-in-Stuck-clause-prefix : goal.returns-in-Stuck-clause-prefix

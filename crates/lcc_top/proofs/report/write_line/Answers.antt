@@ -1,8 +1,8 @@
 use Rattle.std.proofs.Common.{sym, subst}
 use Rattle.std.specs.Prelude.{OnOk}
 use Rattle.std.specs.Io.KnownBytes.{Appends}
-use Rattle.lcc_top.specs.declared.outcome.Outcome.{Outcome}
-use Rattle.lcc_top.specs.Outcome.{line_of}
+use Rattle.outcomes.specs.declared.outcome.Outcome.{Outcome}
+use Rattle.outcomes.specs.Outcome.{line_of}
 use Rattle.lcc_top.proofs.report.write_line.Goals as goal
 
 pub returns-in-InputTooLong-clause-all : goal.returns-in-InputTooLong-clause-all

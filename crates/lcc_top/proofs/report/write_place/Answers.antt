@@ -2,7 +2,7 @@ use Rattle.std.proofs.Common.{ℕ, List, ◌++◌, subst}
 use Rattle.std.specs.Prelude.{codes, decimal}
 use Rattle.std.specs.Io.KnownBytes.{Appends}
 use Rattle.lcc_base.specs.Taken.{TookPrefix}
-use Rattle.lcc_top.specs.Outcome.{hex_word}
+use Rattle.outcomes.specs.Outcome.{hex_word}
 use Rattle.lcc_top.proofs.Pieces.{first_of, last_of, both_of}
 use Rattle.lcc_top.proofs.report.write_place.Goals as goal
 

@@ -3,7 +3,7 @@ use Rattle.std.specs.Prelude.{OnOk, OnErr, codes}
 use Rattle.std.specs.Io.KnownBytes.{Appends}
 use Rattle.lcc_base.specs.Taken.{TookPrefix}
 use Rattle.asm_text.specs.StuckCause.{cause_name}
-use Rattle.lcc_top.specs.Outcome.{place_line}
+use Rattle.outcomes.specs.Outcome.{place_line}
 use Rattle.lcc_top.proofs.Pieces.{first_of, last_of, both_of, place_behind}
 use Rattle.lcc_top.proofs.report.write_stuck.Goals as goal
 

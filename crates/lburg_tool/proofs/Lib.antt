@@ -1,0 +1,4 @@
+pub mod Refused
+pub mod Printed
+pub mod CoverLines
+pub mod Apart

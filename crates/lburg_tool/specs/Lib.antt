@@ -1,0 +1,4 @@
+pub mod TextFaults
+pub mod Cover
+pub mod Tables
+pub mod Printing

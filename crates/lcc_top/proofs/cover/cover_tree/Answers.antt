@@ -1,5 +1,0 @@
-use Rattle.lcc_top.proofs.cover.cover_tree.Goals as goal
-
-pub print_covered-requires-clause-best : goal.print_covered-requires-clause-best
-print_covered-requires-clause-best g c =
-    let (x, best, sum, count) = c.in-Some.ensures.some _ c.label.ensures.labelled in (x, best, sum)

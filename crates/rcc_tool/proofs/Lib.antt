@@ -1,0 +1,3 @@
+pub mod FirstRuns
+pub mod Assembled
+pub mod Apart

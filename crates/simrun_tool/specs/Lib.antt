@@ -1,0 +1,5 @@
+pub mod InputMark
+pub mod AssemblyFaults
+pub mod Simulation
+pub mod Runnable
+pub mod ProgramRan
