@@ -10,7 +10,7 @@ use Rattle.objects.specs.declared.value.Value.{Value}
 use Rattle.objects.specs.declared.value.Value.TheVariants.{Number, Pointer, Function}
 use Rattle.objects.specs.Bytes.{unknown_byte}
 use Rattle.objects.specs.Conversions.{converted}
-use Rattle.objects.specs.Objects.{Object}
+use Rattle.objects.specs.Objects.{Object, flagged, flagged_through}
 use Rattle.objects.specs.Scalars.{scalar_bytes}
 use Rattle.c_types.specs.CType.{CType}
 use Rattle.c_types.specs.Constness.{is_const}
@@ -19,7 +19,7 @@ use Rattle.c_meaning.specs.Scalars.{scalar_of}
 use Rattle.c_meaning.specs.Types.{is_record}
 use Rattle.c_meaning.specs.Each.{EachIs}
 use Rattle.c_meaning.specs.Units.{FunctionTree, UnitTree}
-use Rattle.c_runs.specs.Worlds.{World, objects, with_objects, with_local, with_passed, flagged, flagged_through, entered, left_behind, next_place}
+use Rattle.c_runs.specs.Worlds.{World, objects, with_objects, with_local, with_passed, entered, left_behind, next_place}
 use Rattle.c_runs.specs.Outcomes.{Result, Out, Next, Break, Continue, Return, Goto, Over, either, if_done}
 use Rattle.c_runs.specs.Below.{below}
 use Rattle.c_runs.specs.Places.{size_of, assigned}

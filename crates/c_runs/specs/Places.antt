@@ -9,9 +9,7 @@ use Rattle.objects.specs.declared.purpose.Purpose.TheVariants.{Initialisation}
 use Rattle.objects.specs.declared.value.Value.{Value}
 use Rattle.objects.specs.declared.value.Value.TheVariants.{Number, Pointer}
 use Rattle.objects.specs.Objects.{Object}
-use Rattle.objects.specs.Bytes.{known_bytes}
-use Rattle.objects.specs.Causes.{unless}
-use Rattle.objects.specs.Accesses.{read, written, field_read, field_written, read_cause, write_cause, stored_through, number_or_zero, if_none}
+use Rattle.objects.specs.Accesses.{read, written, field_read, field_written, bytes_written, read_cause, number_or_zero, if_none}
 use Rattle.objects.specs.Conversions.{extended}
 use Rattle.objects.specs.Copies.{copied}
 use Rattle.c_types.specs.CType.{CType}
@@ -94,4 +92,4 @@ assigned purpose tags of objects from to = copied purpose objects from to (size_
 
 -- an array of characters gets these bytes, all known
 abbrev pub spelled : List Object → Value → List ℕ → Result (List Object) Cause
-spelled objects to bytes = unless (write_cause Initialisation objects to (length bytes) 1) (stored_through objects to (known_bytes bytes))
+spelled objects to bytes = bytes_written Initialisation bytes objects to

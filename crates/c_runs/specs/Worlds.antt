@@ -1,9 +1,9 @@
 -- What a run acts on: the objects that live, where those of the running call are, the input that is left, and the trace.
-use Rattle.std.specs.Prelude.{ℕ, zero, suc, Bool, List, [], ◌∷◌, ◌++◌, length}
+use Rattle.std.specs.Prelude.{ℕ, Bool, List, [], ◌∷◌, ◌++◌, length}
 use Rattle.objects.specs.declared.byte.Byte.{Byte}
 use Rattle.objects.specs.declared.value.Value.{Value}
-use Rattle.objects.specs.declared.value.Value.TheVariants.{Number, Pointer, Function}
-use Rattle.objects.specs.Objects.{Object, Storage, next_name, with_object, ended}
+use Rattle.objects.specs.declared.value.Value.TheVariants.{Pointer}
+use Rattle.objects.specs.Objects.{Object, Storage, next_name, with_object, ended, flagged_through}
 use Rattle.lcc_base.specs.Traces.{Event}
 
 -- The storage; pointers to the objects of the running call: its parameters, its other locals, and the copies of structures
@@ -40,17 +40,6 @@ made constant bytes w = record { storage = with_object w.storage constant bytes;
 -- a further object of the running call
 abbrev pub with_local : Bool → List (Byte Value) → World → World
 with_local constant bytes w = record { storage = with_object w.storage constant bytes; locals = w.locals ++ next_place w (length bytes) ∷ []; input = w.input; trace = w.trace }
-
--- the flag of the object at a place set
-abbrev pub flagged : List Object → ℕ → Bool → List Object
-flagged [] place constant = []
-flagged (x ∷ xs) zero constant = record { made = x.made; constant = constant; bytes = x.bytes } ∷ xs
-flagged (x ∷ xs) (suc n) constant = x ∷ flagged xs n constant
-
-abbrev pub flagged_through : List Object → Value → Bool → List Object
-flagged_through os (Pointer object offset) constant = flagged os object.place constant
-flagged_through os (Number n) constant = os
-flagged_through os (Function f) constant = os
 
 -- a further local object, which is the copy that was passed: the parameter's type says whether it may be written
 abbrev pub with_passed : Bool → Value → World → World

@@ -180,6 +180,9 @@ unknowns p i (suc n) h = ap (λ b. shown b 0 0 ∷ held p (suc i) (replicate n 0
 pub zeroed_view : (m : ℕ) (k : Bool) (p : ℕ → Option (Byte Value)) (vs ks : List ℕ) (n : ℕ) → vs ≡ replicate n 0 → ks ≡ [] → seen m k p vs ks ≡ seen_as m k (replicate n (Bits 255 0))
 zeroed_view m k p vs ks n e f = ap (λ xs. seen m k p xs ks) e ∙ ap (λ xs. seen m k p (replicate n 0) xs) f ∙ ap (λ bs. seen_as m k bs) (zeros p 0 n)
 
+pub known_view : (m : ℕ) (k : Bool) (p : ℕ → Option (Byte Value)) (vs ks bytes : List ℕ) → vs ≡ bytes → ks ≡ [] → seen m k p vs ks ≡ seen_as m k (known_bytes bytes)
+known_view m k p vs ks bytes e f = ap (λ xs. seen m k p xs ks) e ∙ ap (λ xs. seen m k p bytes xs) f ∙ ap (λ bs. seen_as m k bs) (held_known p 0 bytes)
+
 pub unknown_view : (m : ℕ) (k : Bool) (p : ℕ → Option (Byte Value)) (vs ks : List ℕ) (n : ℕ) → vs ≡ replicate n 0 → ks ≡ replicate n 0 → ((j : ℕ) → p j ≡ None) → seen m k p vs ks ≡ seen_as m k (replicate n (Bits 0 0))
 unknown_view m k p vs ks n e f h = ap (λ xs. seen m k p xs ks) e ∙ ap (λ xs. seen m k p (replicate n 0) xs) f ∙ ap (λ bs. seen_as m k bs) (unknowns p 0 n h)
 

@@ -1,12 +1,12 @@
 -- Bytes stored one by one, and objects changed in their list.
-use Rattle.std.proofs.Common.{◌≡◌, ◌≤◌, ◌<◌, ◌⊎◌, inl, inr, ℕ, zero, suc, ◌+◌, List, [], ◌∷◌, ◌++◌, length, take, drop, get_or, set, slice_get, Some, refl, sym, ap, ◌∙◌, arith}
+use Rattle.std.proofs.Common.{◌≡◌, ◌≤◌, ◌<◌, ◌⊎◌, inl, inr, ℕ, zero, suc, ◌+◌, Bool, List, [], ◌∷◌, ◌++◌, length, take, drop, get_or, set, slice_get, Some, refl, sym, ap, ◌∙◌, arith}
 use Rattle.std.proofs.lemmas.List.{length-take-le, length-drop, take_all}
 use Rattle.std.proofs.lemmas.Option.{slice_get-get_or, get_or_from_slice_get}
 use Rattle.std.proofs.Math.Seq.{take-suc}
 use Rattle.objects.specs.declared.byte.Byte.{Byte}
 use Rattle.objects.specs.declared.value.Value.{Value}
 use Rattle.objects.specs.ByteLaws.{written_twice, others_stay, length-overwritten}
-use Rattle.objects.specs.Objects.{Object, contents, overwritten, with_bytes, stored}
+use Rattle.objects.specs.Objects.{Object, contents, overwritten, with_bytes, stored, flagged}
 use Rattle.objects.proofs.Holding.{seen_as}
 
 -- nothing written is no change
@@ -59,6 +59,20 @@ set_is (y ∷ ys) (suc at) place new x e = ap (λ zs. y ∷ zs) (set_is ys at pl
 
 pub object_stored : (objects : List Object) (at place : ℕ) (new : List (Byte Value)) (x z : Object) → at < length objects → x ≡ get_or objects at x → z ≡ with_bytes x place new → set objects at z ≡ stored objects at place new
 object_stored objects at place new x z h e f = ap (λ y. set objects at y) f ∙ set_is objects at place new x (there objects at x h e)
+
+-- its flag set
+flag_set : (objects : List Object) (at : ℕ) (constant : Bool) (x : Object) → slice_get objects at ≡ Some x → set objects at (seen_as x.made constant x.bytes) ≡ flagged objects at constant
+flag_set [] at constant x e = absurd (let never : ⊥ = cc in never)
+flag_set (y ∷ ys) zero constant x e = let same : x ≡ y = cc in ap (λ (z : Object). seen_as z.made constant z.bytes ∷ ys) same
+flag_set (y ∷ ys) (suc at) constant x e = ap (λ zs. y ∷ zs) (flag_set ys at constant x e)
+
+pub object_flagged : (objects : List Object) (at : ℕ) (constant : Bool) (x z : Object) → at < length objects → x ≡ get_or objects at x → z ≡ seen_as x.made constant x.bytes → set objects at z ≡ flagged objects at constant
+object_flagged objects at constant x z h e f = ap (λ y. set objects at y) f ∙ flag_set objects at constant x (there objects at x h e)
+
+pub none_flagged : (objects : List Object) (at : ℕ) (constant : Bool) → length objects ≤ at → objects ≡ flagged objects at constant
+none_flagged [] at constant h = refl
+none_flagged (x ∷ xs) zero constant h = absurd (let never : ⊥ = omega arith in never)
+none_flagged (x ∷ xs) (suc at) constant h = ap (λ zs. x ∷ zs) (none_flagged xs at constant (omega arith))
 
 pub length-stored : (objects : List Object) (at place : ℕ) (new : List (Byte Value)) → length (stored objects at place new) ≡ length objects
 length-stored [] at place new = refl

@@ -1,7 +1,7 @@
 -- Scalars and bit-fields read and written through pointers. Where several causes stand together, the first in this order is
 -- told: Outside, Misaligned, Dead, ReadOnly, and then of what is read Unknown and PointerBytes.
 -- Source: ISO/IEC 9899:1990, 6.3, 6.3.3.2, 6.3.16, in the profile of this compiler.
-use Rattle.std.specs.Prelude.{ℕ, List, [], ◌∷◌, replicate, Option, Some, None, is_none, Result, Err}
+use Rattle.std.specs.Prelude.{ℕ, List, [], ◌∷◌, length, replicate, Option, Some, None, is_none, Result, Err}
 use Rattle.lcc_base.specs.declared.order.Order.{Order}
 use Rattle.lcc_base.specs.declared.cause.Cause.{Cause}
 use Rattle.lcc_base.specs.declared.cause.Cause.TheVariants.{Outside, Misaligned, Dead, ReadOnly, PointerNumber}
@@ -15,6 +15,7 @@ use Rattle.objects.specs.declared.value.Value.TheVariants.{Number, Pointer, Func
 use Rattle.objects.specs.declared.width.Width.{Width}
 use Rattle.objects.specs.declared.width.Scalar.{Scalar}
 use Rattle.objects.specs.Values.{bytes_in}
+use Rattle.objects.specs.Bytes.{known_bytes}
 use Rattle.objects.specs.Objects.{Object, object_of, bytes_at, stored}
 use Rattle.objects.specs.Causes.{first_cause, unless, is_outside, is_misaligned, is_dead, is_refused, is_narrowed, is_no_number}
 use Rattle.objects.specs.Scalars.{scalar_bytes, scalar_of}
@@ -53,6 +54,10 @@ abbrev pub written : Purpose → Order → Width → Value → List Object → V
 written purpose order width v objects p =
     if_none (first_cause ((is_narrowed width v, PointerNumber) ∷ []))
     (unless (write_cause purpose objects p (bytes_in width) (bytes_in width)) (stored_through objects p (scalar_bytes order width v)))
+
+-- the objects once known bytes are written one behind the other
+abbrev pub bytes_written : Purpose → List ℕ → List Object → Value → Result (List Object) Cause
+bytes_written purpose bytes objects p = unless (write_cause purpose objects p (length bytes) 1) (stored_through objects p (known_bytes bytes))
 
 -- the number of a bit-field whose unit is at a place
 abbrev pub field_read : Order → Field → List Object → Value → Result Value Cause

@@ -4,6 +4,7 @@ use Rattle.std.specs.Prelude.{ℕ, zero, suc, ◌+◌, ◌==◌, ◌&&◌, Bool,
 use Rattle.objects.specs.declared.byte.Byte.{Byte}
 use Rattle.objects.specs.declared.value.ObjectName.{ObjectName}
 use Rattle.objects.specs.declared.value.Value.{Value}
+use Rattle.objects.specs.declared.value.Value.TheVariants.{Number, Pointer, Function}
 
 -- how many were made before it, whether nothing but its initialiser may write it, and its bytes, whose number is its size
 pub record Object : Type 0 where
@@ -68,3 +69,14 @@ abbrev pub stored : List Object → ℕ → ℕ → List (Byte Value) → List O
 stored [] o place new = []
 stored (x ∷ xs) zero place new = with_bytes x place new ∷ xs
 stored (x ∷ xs) (suc o) place new = x ∷ stored xs o place new
+
+-- the flag of the object at a place set
+abbrev pub flagged : List Object → ℕ → Bool → List Object
+flagged [] place constant = []
+flagged (x ∷ xs) zero constant = record { made = x.made; constant = constant; bytes = x.bytes } ∷ xs
+flagged (x ∷ xs) (suc n) constant = x ∷ flagged xs n constant
+
+abbrev pub flagged_through : List Object → Value → Bool → List Object
+flagged_through os (Pointer object offset) constant = flagged os object.place constant
+flagged_through os (Number n) constant = os
+flagged_through os (Function f) constant = os

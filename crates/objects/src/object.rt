@@ -12,7 +12,7 @@ ghost use Rattle.objects.specs.declared.byte.Byte.TheVariants.{Bits};
 use crate::conversions::to_scalar;
 use crate::fields::write_field;
 use crate::scalars::{half_bytes, parts, scalar as scalar_in, word_bytes};
-use crate::slices::{complete, number_at, paste, shown};
+use crate::slices::{complete, fill_up, number_at, paste, shown};
 use crate::{Byte, Field, Scalar, Value, Width};
 use lcc_base::{Cause, Memory, Order};
 use std::alloc::Global;
@@ -73,6 +73,38 @@ impl Object {
         })
     }
 
+    /// An object of these bytes, all of whose bits are known.
+    pub fn known(alloc: Global, made: u64, constant: bool, bytes: &[u8]) -> Result<Self, Memory>
+        requires { length bytes.now < 2 ^ 32 }
+        ensures { IfOk result (λ o. o ≡ record { made = made; constant = constant; bytes = known_bytes bytes.now }) }
+    {
+        let values = bytes.to_vec(alloc)?;
+        Ok(Object {
+            made,
+            constant,
+            values,
+            masks: Vec::new(alloc),
+            parts: BTreeMap::new(alloc),
+        })
+    }
+
+    /// An object that holds a value as a scalar of so many bytes. Condition: a pointer or function has four.
+    pub fn of_scalar(
+        alloc: Global,
+        made: u64,
+        constant: bool,
+        order: Order,
+        width: Width,
+        value: Value,
+    ) -> Result<Self, Memory>
+        requires { is_narrowed width value ≡ false }
+        ensures { IfOk result (λ o. o ≡ record { made = made; constant = constant; bytes = scalar_bytes order width value }) }
+    {
+        let mut object = Object::zeroed(alloc, made, constant, width.bytes())?;
+        object.store(order, width, 0, value)?;
+        Ok(object)
+    }
+
     /// How many objects were made before it.
     pub fn made(&self) -> u64
         ensures { result ≡ self.now.made }
@@ -85,6 +117,13 @@ impl Object {
         ensures { result ≡ self.now.constant }
     {
         self.constant
+    }
+
+    /// Says whether nothing but its initialiser may write it.
+    pub fn set_constant(&mut self, constant: bool)
+        ensures { self.new ≡ record { made = self.old.made; constant = constant; bytes = self.old.bytes } }
+    {
+        self.constant = constant;
     }
 
     /// How many bytes it has.
@@ -200,15 +239,14 @@ impl Object {
     }
 
     /// Sets the bytes from a place on, all of whose bits are known.
-    fn set_all_known(&mut self, place: u32, bytes: &[u8], full: &[u8])
-        requires inside { place + length bytes.now ≤ length self.old.bytes }
-        requires full { full.now ≡ replicate (length bytes.now) 255 }
+    pub fn put_known(&mut self, place: u32, bytes: &[u8])
+        requires { place + length bytes.now ≤ length self.old.bytes }
         ensures { self.new ≡ with_bytes self.old place (known_bytes bytes.now) }
     {
         let at = place as usize;
         paste(&mut self.values, at, bytes);
         if !self.masks.is_empty() {
-            paste(&mut self.masks, at, full);
+            fill_up(&mut self.masks, at, bytes.len());
         }
     }
 
@@ -218,11 +256,9 @@ impl Object {
         ensures { self.new ≡ with_bytes self.old place (known_bytes (number_bytes order (bytes_in width) n)) }
     {
         match width {
-            Width::One => self.set_all_known(place, &[(n & 0xff) as u8], &[255]),
-            Width::Two => self.set_all_known(place, &half_bytes(order, n), &[255, 255]),
-            Width::Four => {
-                self.set_all_known(place, &word_bytes(order, n), &[255, 255, 255, 255])
-            }
+            Width::One => self.put_known(place, &[(n & 0xff) as u8]),
+            Width::Two => self.put_known(place, &half_bytes(order, n)),
+            Width::Four => self.put_known(place, &word_bytes(order, n)),
         }
     }
 

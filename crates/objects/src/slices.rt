@@ -27,6 +27,22 @@ fn paste_slice(bytes: &mut [u8], at: usize, new: &[u8])
     bytes[at..at + new.len()].copy_from_slice(new);
 }
 
+/// Makes so many masks full, from a place on.
+pub fn fill_up(masks: &mut Vec<u8>, at: usize, count: usize)
+    requires { at + count ≤ length masks.old.items }
+    ensures { masks.new.items ≡ overwritten at (replicate count 255) masks.old.items }
+{
+    fill_slice(masks, at, count);
+}
+
+/// Makes so many of these masks full, from a place on.
+fn fill_slice(masks: &mut [u8], at: usize, count: usize)
+    requires { at + count ≤ length masks.old }
+    ensures { masks.new ≡ overwritten at (replicate count 255) masks.old }
+{
+    masks[at..at + count].fill(255);
+}
+
 /// Makes so many masks, full, if there are none. After `Memory` they are as before.
 pub fn complete(masks: &mut Vec<u8>, count: usize) -> Result<(), Memory>
     ensures ok { OnOk result (masks.new.items ≡ (if length masks.old.items == 0 then replicate count 255 else masks.old.items)) }

@@ -1,11 +1,13 @@
 //! The objects that live, and what is read through pointers to them.
 //! Source: C89, 3.1.2.4, 3.3 to 3.3.9, in the profile of this compiler.
-ghost use Rattle.std.specs.Prelude.{◌≡◌, ◌<◌, ◌≤◌, ◌+◌, ◌^◌, [], Some, None, length, not, is_none, replicate, take, IfOk, IfErr, OnOk, OnErr};
+ghost use Rattle.std.specs.Prelude.{◌≡◌, ◌<◌, ◌≤◌, ◌+◌, ◌^◌, [], Some, None, false, length, not, is_none, replicate, take, IfOk, IfErr, OnOk, OnErr};
 ghost use Rattle.objects.specs.Accesses.{read_cause, write_cause, read as read_through, field_read};
+ghost use Rattle.objects.specs.Bytes.{known_bytes};
 ghost use Rattle.objects.specs.Causes as causes;
 ghost use Rattle.objects.specs.Objects.{object_of, is_constant, next_name, with_object, ended};
 ghost use Rattle.objects.specs.Places.{GoesTo};
 ghost use Rattle.objects.specs.Pointers.{moved, ordered, subtracted, compared, tested};
+ghost use Rattle.objects.specs.Scalars.{scalar_bytes};
 ghost use Rattle.objects.specs.Values.{bytes_in};
 ghost use Rattle.objects.specs.declared.byte.Byte.TheVariants.{Bits};
 ghost use Rattle.objects.specs.declared.value.Value.TheVariants.{Pointer};
@@ -15,7 +17,7 @@ use crate::place::Place;
 use crate::pointers::{
     compare_pointers, move_pointer, order_pointers, subtract_pointers, test_pointer,
 };
-use crate::{Field, Object, ObjectName, Purpose, Scalar, Value};
+use crate::{Field, Object, ObjectName, Purpose, Scalar, Value, Width};
 use lcc_base::{Cause, Memory, Order};
 use std::alloc::Global;
 use std::cmp::Ordering;
@@ -77,6 +79,37 @@ impl Storage {
     {
         let object = Object::unknown(self.alloc, self.made, constant, size)?;
         self.add(object, size)
+    }
+
+    /// Makes an object of these bytes, as `make_zeroed`. `Memory` comes too where they are 2^32 or more.
+    pub fn make_known(&mut self, constant: bool, bytes: &[u8]) -> Result<ObjectName, Memory>
+        ensures name { IfOk result (λ name. name ≡ next_name self.old (length bytes.now)) }
+        ensures ok { OnOk result (self.new ≡ with_object self.old constant (known_bytes bytes.now)) }
+        ensures err { OnErr result (self.new ≡ self.old) }
+    {
+        if bytes.len() > u32::MAX as usize {
+            return Err(Memory);
+        }
+        let object = Object::known(self.alloc, self.made, constant, bytes)?;
+        self.add(object, bytes.len() as u32)
+    }
+
+    /// Makes an object that holds a value as a scalar of so many bytes, as `make_zeroed`. Condition: a
+    /// pointer or function has four.
+    pub fn make_scalar(
+        &mut self,
+        constant: bool,
+        order: Order,
+        width: Width,
+        value: Value,
+    ) -> Result<ObjectName, Memory>
+        requires whole { causes.is_narrowed width value ≡ false }
+        ensures name { IfOk result (λ name. name ≡ next_name self.old (bytes_in width)) }
+        ensures ok { OnOk result (self.new ≡ with_object self.old constant (scalar_bytes order width value)) }
+        ensures err { OnErr result (self.new ≡ self.old) }
+    {
+        let object = Object::of_scalar(self.alloc, self.made, constant, order, width, value)?;
+        self.add(object, width.bytes())
     }
 
     /// Takes an object of so many bytes, the next that is made.

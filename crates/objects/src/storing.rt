@@ -1,11 +1,12 @@
 //! What is written through pointers: scalars, bit-fields and structures, and objects made zero.
 //! Source: C89, 3.3.16 and 3.5.7, in the profile of this compiler.
 ghost use Rattle.std.specs.Prelude.{◌≡◌, ◌<◌, ◌≤◌, ◌⊎◌, ◌+◌, ◌^◌, ℕ, false, length, take, drop, replicate, slice_get, Ok, Err, OnOk, OnErr, IfErr};
-ghost use Rattle.objects.specs.Accesses.{bytes_through, written, field_written, number_or_zero, zeroed};
+ghost use Rattle.objects.specs.Accesses.{bytes_through, written, bytes_written, field_written, number_or_zero, zeroed};
+ghost use Rattle.objects.specs.Bytes.{known_bytes};
 ghost use Rattle.objects.specs.Causes as causes;
 ghost use Rattle.objects.specs.Copies.{copied};
 ghost use Rattle.objects.specs.Fields.{with_field};
-ghost use Rattle.objects.specs.Objects.{contents, stored};
+ghost use Rattle.objects.specs.Objects.{contents, stored, flagged, flagged_through};
 ghost use Rattle.objects.specs.Places.{IsLeft};
 ghost use Rattle.objects.specs.Scalars.{scalar_bytes};
 ghost use Rattle.objects.specs.Values.{bytes_in};
@@ -92,6 +93,35 @@ impl Storage {
         }
         copy_bytes(&mut self.objects, source, target, size)?;
         Ok(())
+    }
+
+    /// Writes known bytes one behind the other, with the same faults as of `write`. Condition: there are
+    /// fewer than 2^32.
+    pub fn write_bytes(
+        &mut self,
+        purpose: Purpose,
+        bytes: &[u8],
+        p: Value,
+    ) -> Result<(), StoreFault>
+        requires few { length bytes.now < 2 ^ 32 }
+        ensures ok { OnOk result (bytes_written purpose bytes.now self.old.objects p ≡ Ok self.new.objects) }
+        ensures err { IfErr result (IsLeft self.old.objects p (known_bytes bytes.now) (bytes_written purpose bytes.now self.old.objects p) self.new.objects) }
+        ensures made { self.new.made ≡ self.old.made }
+    {
+        let place = self.target(purpose, p, bytes.len() as u32, 1)?;
+        store_bytes(&mut self.objects, place, bytes);
+        Ok(())
+    }
+
+    /// Says whether nothing but an initialiser may write the object that a pointer points into. Nothing
+    /// changes where it is no pointer or no object stands there.
+    pub fn flag(&mut self, p: Value, constant: bool)
+        ensures objects { self.new.objects ≡ flagged_through self.old.objects p constant }
+        ensures made { self.new.made ≡ self.old.made }
+    {
+        if let Value::Pointer { object, .. } = p {
+            flag_object(&mut self.objects, object.place as usize, constant);
+        }
     }
 
     /// Makes each byte of an object zero, whatever it was made for, as an initialiser's list does first; or
@@ -187,6 +217,24 @@ fn copy_bytes(objects: &mut Vec<Object>, from: Place, to: Place, size: u32) -> R
         objects[to.object].set(to.offset + k, byte)?;
     }
     Ok(())
+}
+
+/// Stores known bytes in an object.
+fn store_bytes(objects: &mut Vec<Object>, place: Place, bytes: &[u8])
+    requires there { place.object < length objects.old.items }
+    requires inside { place.offset + length bytes.now ≤ length (contents (slice_get objects.old.items place.object)) }
+    ensures { objects.new.items ≡ stored objects.old.items place.object place.offset (known_bytes bytes.now) }
+{
+    objects[place.object].put_known(place.offset, bytes);
+}
+
+/// Says whether nothing but an initialiser may write the object at a place, if one stands there.
+fn flag_object(objects: &mut Vec<Object>, place: usize, constant: bool)
+    ensures { objects.new.items ≡ flagged objects.old.items place constant }
+{
+    if place < objects.len() {
+        objects[place].set_constant(constant);
+    }
 }
 
 /// Makes each byte of an object zero.
