@@ -1,7 +1,7 @@
 -- What an object keeps for its bytes: what is at a place, and what a change there changes.
 use Rattle.std.proofs.Common.{◌≡◌, ◌≢◌, ◌≤◌, ◌<◌, ◌⊎◌, inl, inr, ℕ, zero, suc, ◌+◌, ◌==◌, Bool, true, false, List, [], ◌∷◌, ◌++◌, length, take, drop, map, replicate, get_or, set, slice_get, Option, Some, None, Result, Ok, Err, OnErr, refl, sym, ap, ◌∙◌, arith, add-zero, if◌then◌else◌}
 use Rattle.std.proofs.lemmas.Bool.{eqb-true, eqb-false}
-use Rattle.std.proofs.lemmas.List.{get_or_read, length-replicate}
+use Rattle.std.proofs.lemmas.List.{get_or_read, length-replicate, length-map}
 use Rattle.std.proofs.lemmas.Map.Lookups.{exact_unsigned}
 use Rattle.std.specs.Ordering.{nat_cmp, is_eq}
 use Rattle.std.specs.declared.cmp.Ordering.{Ordering}
@@ -216,6 +216,43 @@ pub all_masked_changed : (m : ℕ) (k : Bool) (p : ℕ → Option (Byte Value)) 
 all_masked_changed m k p vs ks more full_ones others now n new e l f o g =
     ap (λ xs. seen m k p xs full_ones) f ∙ ap (λ xs. seen m k p (overwritten n new vs) xs) (g ∙ ap (λ zs. overwritten n zs ks) o)
     ∙ ap (λ bs. seen_as m k bs) (held_overwritten p 0 n new vs ks l) ∙ ap (λ (x : Object). with_bytes x n (known_bytes new)) e
+
+over_whole : {A : Type 0} → (new old : List A) → length new ≡ length old → overwritten zero new old ≡ new
+over_whole [] [] e = refl
+over_whole [] (y ∷ ys) e = absurd (let never : ⊥ = omega arith in never)
+over_whole (x ∷ xs) [] e = absurd (let never : ⊥ = omega arith in never)
+over_whole (x ∷ xs) (y ∷ ys) e = ap (λ zs. x ∷ zs) (over_whole xs ys (omega arith))
+
+-- all of its bytes written, whose bits are known
+pub whole_changed : (m : ℕ) (k : Bool) (p q : ℕ → Option (Byte Value)) (vs ks more none : List ℕ) (now : Object) (n : ℕ) (new : List ℕ) → seen m k p vs ks ≡ now → n + length new ≤ length now.bytes → length new ≡ length vs → more ≡ overwritten n new vs → none ≡ [] → seen m k q more none ≡ with_bytes now n (known_bytes new)
+whole_changed m k p q vs ks more none now n new e inside l f g =
+    let many = bytes_length m k p vs ks now e in
+    let start : n ≡ 0 = omega (arith, inside, l, many) in
+    let bytes = known_bytes {V = Value} new in
+    known_view m k q more none new (f ∙ ap (λ (j : ℕ). overwritten j new vs) start ∙ over_whole new vs l) g
+    ∙ ap (λ bs. seen_as m k bs) (sym (over_whole bytes now.bytes (length-map new (λ x. Bits 255 x) ∙ l ∙ sym many)))
+    ∙ ap (λ (j : ℕ). seen_as m k (overwritten j bytes now.bytes)) (sym start)
+    ∙ ap (λ (o : Object). seen_as o.made o.constant (overwritten n bytes now.bytes)) e
+
+-- so many bytes from a place on, where their masks are full
+full_in_front : (p : ℕ → Option (Byte Value)) (i w : ℕ) (vs ks : List ℕ) → length ks ≡ length vs → take w ks ≡ replicate w 255 → take w (held p i vs ks) ≡ known_bytes (take w vs)
+full_in_front p i zero vs ks e h = refl
+full_in_front p i (suc w) [] ks e h = refl
+full_in_front p i (suc w) (v ∷ vs) [] e h = absurd (let never : ⊥ = omega arith in never)
+full_in_front p i (suc w) (v ∷ vs) (k ∷ ks) e h =
+    let full : k ≡ 255 = cc in
+    let rest : take w ks ≡ replicate w 255 = cc in
+    ap (λ (x : ℕ). shown (p i) x v ∷ take w (held p (suc i) vs ks)) full ∙ ap (λ bs. Bits 255 v ∷ bs) (full_in_front p (suc i) w vs ks (omega arith) rest)
+
+none_taken : (w : ℕ) → take {A = Byte Value} w [] ≡ known_bytes (take w [])
+none_taken zero = refl
+none_taken (suc w) = refl
+
+pub full_at : (p : ℕ → Option (Byte Value)) (i n w : ℕ) (vs ks : List ℕ) → length ks ≡ length vs → take w (drop n ks) ≡ replicate w 255 → take w (drop n (held p i vs ks)) ≡ known_bytes (take w (drop n vs))
+full_at p i zero w vs ks e h = full_in_front p i w vs ks e h
+full_at p i (suc n) w [] ks e h = none_taken w
+full_at p i (suc n) w (v ∷ vs) [] e h = absurd (let never : ⊥ = omega arith in never)
+full_at p i (suc n) w (v ∷ vs) (k ∷ ks) e h = full_at p (suc i) n w vs ks (omega arith) h
 
 -- on an error alone
 pub on_err : {T E : Type 0} → (r : Result T E) (P : Type 0) → P → OnErr r P

@@ -1,5 +1,5 @@
 -- The scalar of bytes all of whose bits are known is their number.
-use Rattle.std.proofs.Common.{◌≡◌, ℕ, Bool, false, List, [], ◌∷◌, ◌++◌, length, take, drop, map, reverse, Option, None, is_none, Ok, refl, sym, ap, ◌∙◌, arith, ◌&&◌}
+use Rattle.std.proofs.Common.{◌≡◌, ℕ, Bool, false, List, [], ◌∷◌, ◌++◌, length, take, drop, map, replicate, reverse, Option, None, is_none, Ok, refl, sym, ap, ◌∙◌, arith, ◌&&◌}
 use Rattle.std.proofs.lemmas.List.{take-map, drop-map, map-append, reverse-append}
 use Rattle.lcc_base.specs.declared.order.Order.{Order}
 use Rattle.lcc_base.specs.declared.order.Order.TheVariants.{Big, Little}
@@ -16,7 +16,7 @@ use Rattle.objects.specs.Causes.{first_cause, unless}
 use Rattle.objects.specs.Conversions.{as_scalar, as_type}
 use Rattle.objects.specs.Objects.{Object}
 use Rattle.objects.specs.Scalars.{whole_or, scalar_cause, scalar_value, scalar_of}
-use Rattle.objects.proofs.Holding.{seen, held_known}
+use Rattle.objects.proofs.Holding.{seen, held_known, full_at}
 
 abbrev bytes : List ℕ → List (Byte Value)
 bytes ns = known_bytes ns
@@ -71,3 +71,11 @@ known_load order s m k p vs [] part now n w e z f =
     ∙ ap (λ bs. scalar_of order s (take w (drop n bs))) (sym (held_known p 0 vs))
     ∙ ap (λ (o : Object). scalar_of order s (take w (drop n o.bytes))) e
 known_load order s m k p vs (x ∷ xs) part now n w e z f = absurd (let never : ⊥ = omega arith in never)
+
+-- the same where there are masks, and these are full
+pub full_load : (order : Order) (s : Scalar) (m : ℕ) (k : Bool) (p : ℕ → Option (Byte Value)) (vs ks part : List ℕ) (now : Object) (n w : ℕ) → seen m k p vs ks ≡ now → length ks ≡ length vs → take w (drop n ks) ≡ replicate w 255 → part ≡ take w (drop n vs) → Ok (Number (as_scalar s (number_in order part))) ≡ scalar_of order s (take w (drop n now.bytes))
+full_load order s m k p vs ks part now n w e l full f =
+    ap (λ xs. Ok (Number (as_scalar s (number_in order xs)))) f
+    ∙ sym (known_scalar order s (take w (drop n vs)))
+    ∙ ap (λ bs. scalar_of order s bs) (sym (full_at p 0 n w vs ks l full))
+    ∙ ap (λ (o : Object). scalar_of order s (take w (drop n o.bytes))) e

@@ -12,7 +12,7 @@ ghost use Rattle.objects.specs.declared.byte.Byte.TheVariants.{Bits};
 use crate::conversions::to_scalar;
 use crate::fields::write_field;
 use crate::scalars::{half_bytes, parts, scalar as scalar_in, word_bytes};
-use crate::slices::{complete, fill_up, number_at, paste, shown};
+use crate::slices::{are_full, complete, fill_up, number_at, paste, shown};
 use crate::{Byte, Field, Scalar, Value, Width};
 use lcc_base::{Cause, Memory, Order};
 use std::alloc::Global;
@@ -245,7 +245,13 @@ impl Object {
     {
         let at = place as usize;
         paste(&mut self.values, at, bytes);
-        if !self.masks.is_empty() {
+        if self.masks.is_empty() {
+            return;
+        }
+        if bytes.len() == self.values.len() {
+            self.masks.clear();
+            self.parts.clear();
+        } else {
             fill_up(&mut self.masks, at, bytes.len());
         }
     }
@@ -309,8 +315,9 @@ impl Object {
         requires { place + bytes_in scalar.width ≤ length self.now.bytes }
         ensures { result ≡ scalar_of order scalar (take (bytes_in scalar.width) (drop place self.now.bytes)) }
     {
-        if self.masks.is_empty() {
-            let n = number_at(&self.values, order, scalar.width, place as usize);
+        let at = place as usize;
+        if self.masks.is_empty() || are_full(&self.masks, scalar.width, at) {
+            let n = number_at(&self.values, order, scalar.width, at);
             return Ok(Value::Number(to_scalar(scalar, n)));
         }
         match scalar.width {

@@ -1,5 +1,5 @@
 //! Bytes written over others, and masks.
-ghost use Rattle.std.specs.Prelude.{◌≡◌, ◌≤◌, ◌+◌, ◌==◌, length, take, drop, replicate, OnOk, OnErr, if◌then◌else◌};
+ghost use Rattle.std.specs.Prelude.{◌≡◌, ◌≤◌, ◌+◌, ◌==◌, true, length, take, drop, replicate, OnOk, OnErr, if◌then◌else◌};
 ghost use Rattle.std.specs.BTreeMap.{get};
 ghost use Rattle.std.specs.Ordering.{nat_cmp};
 ghost use Rattle.objects.specs.Held.{shown as shown_byte};
@@ -77,5 +77,19 @@ pub fn number_at(bytes: &[u8], order: Order, width: Width, at: usize) -> u32
         Width::One => join(order, &bytes[at..at + 1]),
         Width::Two => join(order, &bytes[at..at + 2]),
         Width::Four => join(order, &bytes[at..at + 4]),
+    }
+}
+
+/// Whether all bits of so many bytes from a place on are known, by their masks.
+pub fn are_full(masks: &[u8], width: Width, at: usize) -> bool
+    requires { at + bytes_in width ≤ length masks.now }
+    ensures { result ≡ true → take (bytes_in width) (drop at masks.now) ≡ replicate (bytes_in width) 255 }
+{
+    match width {
+        Width::One => masks[at] == 255,
+        Width::Two => masks[at] == 255 && masks[at + 1] == 255,
+        Width::Four => {
+            masks[at] == 255 && masks[at + 1] == 255 && masks[at + 2] == 255 && masks[at + 3] == 255
+        }
     }
 }
