@@ -1,4 +1,5 @@
 mod Examples
+pub mod Halves
 pub mod Holding
 pub mod KnownLoads
 pub mod Puts

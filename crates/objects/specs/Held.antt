@@ -1,6 +1,6 @@
--- The bytes of an object as it keeps them: the values of all bytes; the masks of their known bits, none where all are known;
--- and, for some places whose mask is 0, a byte of a pointer or function.
-use Rattle.std.specs.Prelude.{◌≡◌, ◌⊎◌, ◌<◌, ℕ, suc, ◌^◌, ◌==◌, List, [], ◌∷◌, length, Option, unwrap_or, if◌then◌else◌}
+-- The bytes of an object as it keeps them: the values of all bytes; behind them the masks of their known bits, none where all
+-- are known; and, for some places whose mask is 0, a byte of a pointer or function.
+use Rattle.std.specs.Prelude.{◌≡◌, ◌⊎◌, ◌<◌, ℕ, suc, ◌+◌, ◌^◌, ◌==◌, List, [], ◌∷◌, length, Option, unwrap_or, if◌then◌else◌}
 use Rattle.objects.specs.declared.byte.Byte.{Byte}
 use Rattle.objects.specs.declared.byte.Byte.TheVariants.{Bits}
 use Rattle.objects.specs.declared.value.Value.{Value}
@@ -14,7 +14,7 @@ held parts i [] masks = []
 held parts i (v ∷ vs) [] = Bits 255 v ∷ held parts (suc i) vs []
 held parts i (v ∷ vs) (k ∷ ks) = shown (parts i) k v ∷ held parts (suc i) vs ks
 
--- a mask for each byte, or none; and places are counted by words
-pub record IsHeld (values masks : List ℕ) : Type 0 where
-  pub complete : (length masks ≡ 0) ⊎ (length masks ≡ length values)
-  pub small : length values < 2 ^ 32
+-- so many values, and behind them a mask for each or none; and places are counted by words
+pub record IsHeld (size : ℕ) (bytes : List ℕ) : Type 0 where
+  pub complete : (length bytes ≡ size) ⊎ (length bytes ≡ size + size)
+  pub small : size < 2 ^ 32

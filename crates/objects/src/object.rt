@@ -1,5 +1,5 @@
-//! An object: its bytes as values, with masks of known bits only where a bit is unknown, and bytes of
-//! pointers and functions only where there are any.
+//! An object: its bytes as values, with masks of known bits behind them only where a bit is unknown, and
+//! bytes of pointers and functions only where there are any.
 ghost use Rattle.std.specs.Prelude.{◌≡◌, ◌<◌, ◌≤◌, ◌+◌, ◌^◌, ℕ, false, [], ◌∷◌, Some, length, take, drop, map, replicate, slice_get, IfOk, OnOk, OnErr};
 ghost use Rattle.objects.specs.Bytes.{known_bytes, number_bytes};
 ghost use Rattle.objects.specs.Causes.{is_narrowed};
@@ -12,7 +12,7 @@ ghost use Rattle.objects.specs.declared.byte.Byte.TheVariants.{Bits};
 use crate::conversions::to_scalar;
 use crate::fields::write_field;
 use crate::scalars::{half_bytes, parts, scalar as scalar_in, word_bytes};
-use crate::slices::{are_full, complete, fill_up, number_at, paste, shown};
+use crate::slices::{are_full, complete, number_at, paste, paste_masked, set_masked, shown};
 use crate::{Byte, Field, Scalar, Value, Width};
 use lcc_base::{Cause, Memory, Order};
 use std::alloc::Global;
@@ -24,23 +24,24 @@ use std::marker::Model;
 #[derive(Drop)]
 pub struct Object {
     made: u64,
+    size: u32,
     constant: bool,
-    values: Vec<u8>,
-    masks: Vec<u8>,
+    bytes: Vec<u8>,
     parts: BTreeMap<u32, Byte<Value>>,
 }
 
 impl Model for Object {
     ghost use Rattle.std.specs.BTreeMap.{get};
+    ghost use Rattle.std.specs.Prelude.{take, drop};
     ghost use Rattle.std.specs.Ordering.{nat_cmp};
     ghost use Rattle.objects.specs.Held.{held, IsHeld};
     ghost use Rattle.objects.specs.Objects as spec;
 
     ghost Value = { spec.Object };
 
-    ghost view = { λ o. record { made = o.made; constant = o.constant; bytes = held (get nat_cmp o.parts) 0 o.values.items o.masks.items } };
+    ghost view = { λ o. record { made = o.made; constant = o.constant; bytes = held (get nat_cmp o.parts) 0 (take o.size o.bytes.items) (drop o.size o.bytes.items) } };
 
-    ghost invariant = { λ o. IsHeld o.values.items o.masks.items };
+    ghost invariant = { λ o. IsHeld o.size o.bytes.items };
 }
 
 impl Object {
@@ -48,12 +49,12 @@ impl Object {
     pub fn zeroed(alloc: Global, made: u64, constant: bool, size: u32) -> Result<Self, Memory>
         ensures { IfOk result (λ o. o ≡ record { made = made; constant = constant; bytes = replicate size (Bits 255 0) }) }
     {
-        let values = vec![in alloc; 0u8; size as usize]?;
+        let bytes = vec![in alloc; 0u8; size as usize]?;
         Ok(Object {
             made,
+            size,
             constant,
-            values,
-            masks: Vec::new(alloc),
+            bytes,
             parts: BTreeMap::new(alloc),
         })
     }
@@ -62,13 +63,12 @@ impl Object {
     pub fn unknown(alloc: Global, made: u64, constant: bool, size: u32) -> Result<Self, Memory>
         ensures { IfOk result (λ o. o ≡ record { made = made; constant = constant; bytes = replicate size (Bits 0 0) }) }
     {
-        let values = vec![in alloc; 0u8; size as usize]?;
-        let masks = vec![in alloc; 0u8; size as usize]?;
+        let bytes = vec![in alloc; 0u8; 2 * size as usize]?;
         Ok(Object {
             made,
+            size,
             constant,
-            values,
-            masks,
+            bytes,
             parts: BTreeMap::new(alloc),
         })
     }
@@ -78,12 +78,13 @@ impl Object {
         requires { length bytes.now < 2 ^ 32 }
         ensures { IfOk result (λ o. o ≡ record { made = made; constant = constant; bytes = known_bytes bytes.now }) }
     {
-        let values = bytes.to_vec(alloc)?;
+        let size = bytes.len() as u32;
+        let bytes = bytes.to_vec(alloc)?;
         Ok(Object {
             made,
+            size,
             constant,
-            values,
-            masks: Vec::new(alloc),
+            bytes,
             parts: BTreeMap::new(alloc),
         })
     }
@@ -130,7 +131,7 @@ impl Object {
     pub fn size(&self) -> u32
         ensures { result ≡ length self.now.bytes }
     {
-        self.values.len() as u32
+        self.size
     }
 
     /// The byte at a place.
@@ -146,11 +147,12 @@ impl Object {
         requires { at < length self.now.bytes }
         ensures { slice_get self.now.bytes at ≡ Some result }
     {
-        let value = self.values[at];
-        if self.masks.is_empty() {
+        let size = self.size as usize;
+        let value = self.bytes[at];
+        if self.bytes.len() == size {
             Byte::Bits { known: 255, value }
         } else {
-            shown(&self.parts, at as u32, self.masks[at], value)
+            shown(&self.parts, at as u32, self.bytes[size + at], value)
         }
     }
 
@@ -184,9 +186,11 @@ impl Object {
         requires { at < length self.old.bytes }
         ensures { self.new ≡ with_bytes self.old at (Bits 255 value ∷ []) }
     {
-        self.values[at] = value;
-        if !self.masks.is_empty() {
-            self.masks[at] = 255;
+        let size = self.size as usize;
+        if self.bytes.len() == size {
+            self.bytes[at] = value;
+        } else {
+            set_masked(&mut self.bytes, size, at, 255, value);
         }
     }
 
@@ -196,10 +200,10 @@ impl Object {
         ensures ok { OnOk result (self.new ≡ with_bytes self.old at (Bits known value ∷ [])) }
         ensures err { OnErr result (self.new ≡ self.old) }
     {
-        complete(&mut self.masks, self.values.len())?;
+        let size = self.size as usize;
+        complete(&mut self.bytes, size)?;
         self.parts.remove(&(at as u32));
-        self.values[at] = value;
-        self.masks[at] = known;
+        set_masked(&mut self.bytes, size, at, known, value);
         Ok(())
     }
 
@@ -209,10 +213,10 @@ impl Object {
         ensures ok { OnOk result (self.new ≡ with_bytes self.old at (part ∷ [])) }
         ensures err { OnErr result (self.new ≡ self.old) }
     {
-        complete(&mut self.masks, self.values.len())?;
+        let size = self.size as usize;
+        complete(&mut self.bytes, size)?;
         self.parts.insert(at as u32, part)?;
-        self.values[at] = 0;
-        self.masks[at] = 0;
+        set_masked(&mut self.bytes, size, at, 0, 0);
         Ok(())
     }
 
@@ -233,8 +237,8 @@ impl Object {
     pub fn clear(&mut self)
         ensures { self.new ≡ with_bytes self.old 0 (replicate (length self.old.bytes) (Bits 255 0)) }
     {
-        self.values.fill(0);
-        self.masks.clear();
+        self.bytes.truncate(self.size as usize);
+        self.bytes.fill(0);
         self.parts.clear();
     }
 
@@ -244,15 +248,15 @@ impl Object {
         ensures { self.new ≡ with_bytes self.old place (known_bytes bytes.now) }
     {
         let at = place as usize;
-        paste(&mut self.values, at, bytes);
-        if self.masks.is_empty() {
-            return;
-        }
-        if bytes.len() == self.values.len() {
-            self.masks.clear();
+        let size = self.size as usize;
+        if self.bytes.len() == size {
+            paste(&mut self.bytes, at, bytes);
+        } else if bytes.len() == size {
+            self.bytes.truncate(size);
             self.parts.clear();
+            paste(&mut self.bytes, at, bytes);
         } else {
-            fill_up(&mut self.masks, at, bytes.len());
+            paste_masked(&mut self.bytes, size, at, bytes);
         }
     }
 
@@ -316,8 +320,9 @@ impl Object {
         ensures { result ≡ scalar_of order scalar (take (bytes_in scalar.width) (drop place self.now.bytes)) }
     {
         let at = place as usize;
-        if self.masks.is_empty() || are_full(&self.masks, scalar.width, at) {
-            let n = number_at(&self.values, order, scalar.width, at);
+        let size = self.size as usize;
+        if self.bytes.len() == size || are_full(&self.bytes, scalar.width, size + at) {
+            let n = number_at(&self.bytes, order, scalar.width, at);
             return Ok(Value::Number(to_scalar(scalar, n)));
         }
         match scalar.width {

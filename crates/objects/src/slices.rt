@@ -1,5 +1,5 @@
 //! Bytes written over others, and masks.
-ghost use Rattle.std.specs.Prelude.{◌≡◌, ◌≤◌, ◌+◌, ◌==◌, true, length, take, drop, replicate, OnOk, OnErr, if◌then◌else◌};
+ghost use Rattle.std.specs.Prelude.{◌≡◌, ◌≤◌, ◌<◌, ◌+◌, ◌^◌, ◌++◌, ◌==◌, true, set, length, take, drop, replicate, OnOk, OnErr, if◌then◌else◌};
 ghost use Rattle.std.specs.BTreeMap.{get};
 ghost use Rattle.std.specs.Ordering.{nat_cmp};
 ghost use Rattle.objects.specs.Held.{shown as shown_byte};
@@ -28,7 +28,7 @@ fn paste_slice(bytes: &mut [u8], at: usize, new: &[u8])
 }
 
 /// Makes so many masks full, from a place on.
-pub fn fill_up(masks: &mut Vec<u8>, at: usize, count: usize)
+fn fill_up(masks: &mut Vec<u8>, at: usize, count: usize)
     requires { at + count ≤ length masks.old.items }
     ensures { masks.new.items ≡ overwritten at (replicate count 255) masks.old.items }
 {
@@ -43,16 +43,43 @@ fn fill_slice(masks: &mut [u8], at: usize, count: usize)
     masks[at..at + count].fill(255);
 }
 
-/// Makes so many masks, full, if there are none. After `Memory` they are as before.
-pub fn complete(masks: &mut Vec<u8>, count: usize) -> Result<(), Memory>
-    ensures ok { OnOk result (masks.new.items ≡ (if length masks.old.items == 0 then replicate count 255 else masks.old.items)) }
-    ensures err { OnErr result (masks.new.items ≡ masks.old.items) }
+/// Puts full masks behind so many values, if there are none. After `Memory` they are as before.
+pub fn complete(bytes: &mut Vec<u8>, size: usize) -> Result<(), Memory>
+    requires small { size < 2 ^ 32 }
+    ensures ok { OnOk result (bytes.new.items ≡ (if length bytes.old.items == size then bytes.old.items ++ replicate size 255 else bytes.old.items)) }
+    ensures err { OnErr result (bytes.new.items ≡ bytes.old.items) }
 {
-    if masks.is_empty() {
-        let alloc = *masks.allocator();
-        *masks = vec![in alloc; 255u8; count]?;
+    if bytes.len() == size {
+        let alloc = *bytes.allocator();
+        let mut more = vec![in alloc; 255u8; 2 * size]?;
+        paste(&mut more, 0, bytes);
+        *bytes = more;
     }
     Ok(())
+}
+
+/// Sets a byte of so many values, with its mask behind them.
+pub fn set_masked(bytes: &mut Vec<u8>, size: usize, at: usize, known: u8, value: u8)
+    requires there { at < size }
+    requires masked { length bytes.old.items ≡ size + size }
+    ensures values { take size bytes.new.items ≡ set (take size bytes.old.items) at value }
+    ensures masks { drop size bytes.new.items ≡ set (drop size bytes.old.items) at known }
+    ensures as_many { length bytes.new.items ≡ length bytes.old.items }
+{
+    bytes[at] = value;
+    bytes[size + at] = known;
+}
+
+/// Writes bytes over those of so many values from a place on, and makes their masks behind them full.
+pub fn paste_masked(bytes: &mut Vec<u8>, size: usize, at: usize, new: &[u8])
+    requires inside { at + length new.now ≤ size }
+    requires masked { length bytes.old.items ≡ size + size }
+    ensures values { take size bytes.new.items ≡ overwritten at new.now (take size bytes.old.items) }
+    ensures masks { drop size bytes.new.items ≡ overwritten at (replicate (length new.now) 255) (drop size bytes.old.items) }
+    ensures as_many { length bytes.new.items ≡ length bytes.old.items }
+{
+    paste(bytes, at, new);
+    fill_up(bytes, size + at, new.len());
 }
 
 /// The byte at a place, given its mask and its value.
