@@ -1,7 +1,7 @@
 -- What an object keeps for its bytes: what is at a place, and what a change there changes.
-use Rattle.std.proofs.Common.{◌≡◌, ◌≢◌, ◌≤◌, ◌<◌, ◌⊎◌, inl, inr, ℕ, zero, suc, ◌+◌, ◌==◌, Bool, true, false, List, [], ◌∷◌, ◌++◌, length, take, drop, map, replicate, get_or, set, slice_get, Option, Some, None, Result, Ok, Err, OnErr, refl, sym, ap, ◌∙◌, arith, add-zero, if◌then◌else◌}
-use Rattle.std.proofs.lemmas.Bool.{eqb-true, eqb-false}
-use Rattle.std.proofs.lemmas.List.{get_or_read, length-replicate, length-map}
+use Rattle.std.proofs.Common.{◌≡◌, ◌≢◌, ◌≤◌, ◌<◌, ℕ, zero, suc, ◌+◌, ◌==◌, Bool, true, false, List, [], ◌∷◌, ◌++◌, length, take, drop, map, replicate, get_or, set, slice_get, Option, Some, None, Result, Ok, Err, OnErr, refl, sym, ap, ◌∙◌, arith, add-zero, if◌then◌else◌}
+use Rattle.std.proofs.lemmas.Bool.{eqb-true}
+use Rattle.std.proofs.lemmas.List.{get_or_read, length-map}
 use Rattle.std.proofs.lemmas.Map.Lookups.{exact_unsigned}
 use Rattle.std.specs.Ordering.{nat_cmp, is_eq}
 use Rattle.std.specs.declared.cmp.Ordering.{Ordering}
@@ -108,14 +108,6 @@ seen m k p vs ks = record { made = m; constant = k; bytes = held p 0 vs ks }
 pub bytes_length : (m : ℕ) (k : Bool) (p : ℕ → Option (Byte Value)) (vs ks : List ℕ) (now : Object) → seen m k p vs ks ≡ now → length now.bytes ≡ length vs
 bytes_length m k p vs ks now e = ap (λ (o : Object). length o.bytes) (sym e) ∙ length-held p 0 vs ks
 
--- there are masks for all bytes, where there are any
-pub all_masked : (n : ℕ) (ks vs : List ℕ) (b : Bool) → b ≡ (n == 0) → b ≡ false → n ≡ length ks → (length ks ≡ 0) ⊎ (length ks ≡ length vs) → length ks ≡ length vs
-all_masked n ks vs b e f g (inl z) = absurd (eqb-false n 0 (sym e ∙ f) (g ∙ z))
-all_masked n ks vs b e f g (inr h) = h
-
-pub none_masked : (n : ℕ) (ks : List ℕ) (b : Bool) → b ≡ (n == 0) → b ≡ true → n ≡ length ks → length ks ≡ 0
-none_masked n ks b e f g = sym g ∙ eqb-true n 0 (sym e ∙ f)
-
 pub known_byte : (m : ℕ) (k : Bool) (p : ℕ → Option (Byte Value)) (vs ks : List ℕ) (now : Object) (n v : ℕ) → seen m k p vs ks ≡ now → length ks ≡ 0 → n < length vs → v ≡ get_or vs n v → slice_get now.bytes n ≡ Some (Bits 255 v)
 known_byte m k p vs [] now n v e z h r = ap (λ (o : Object). slice_get o.bytes n) (sym e) ∙ known_at p 0 n vs h ∙ ap (λ x. Some (Bits 255 x)) (sym (get_or_read vs n v h r 0))
 known_byte m k p vs (x ∷ xs) now n v e z h r = absurd (let never : ⊥ = omega arith in never)
@@ -150,11 +142,6 @@ not_zero : (n : ℕ) → (suc n == 0) ≡ false
 not_zero n = not_so (suc n == 0) (λ t. let e = eqb-true (suc n) 0 t in let never : ⊥ = omega arith in never)
 
 -- masks that were made where there were none
-pub completed_length : (ks more vs : List ℕ) (count : ℕ) → count ≡ length vs → more ≡ (if length ks == 0 then replicate count 255 else ks) → (length ks ≡ 0) ⊎ (length ks ≡ length vs) → length more ≡ length vs
-completed_length [] more vs count c e h = ap length e ∙ length-replicate count 255 ∙ c
-completed_length (x ∷ ks) more vs count c e (inl z) = absurd (let never : ⊥ = omega arith in never)
-completed_length (x ∷ ks) more vs count c e (inr l) = ap length (e ∙ ap (λ (b : Bool). if b then replicate count 255 else x ∷ ks) (not_zero (length ks))) ∙ l
-
 pub completed_view : (m : ℕ) (k : Bool) (p : ℕ → Option (Byte Value)) (ks more vs : List ℕ) (count : ℕ) (now : Object) → seen m k p vs ks ≡ now → count ≡ length vs → more ≡ (if length ks == 0 then replicate count 255 else ks) → seen m k p vs more ≡ now
 completed_view m k p [] more vs count now s c e = ap (λ ms. seen m k p vs ms) (e ∙ ap (λ n. replicate n 255) c) ∙ ap (λ bs. seen_as m k bs) (completed p 0 vs) ∙ s
 completed_view m k p (x ∷ ks) more vs count now s c e = ap (λ ms. seen m k p vs ms) (e ∙ ap (λ (b : Bool). if b then replicate count 255 else x ∷ ks) (not_zero (length ks))) ∙ s
