@@ -1,0 +1,4 @@
+pub mod Given
+pub mod Storages
+pub mod Structures
+pub mod lemmas

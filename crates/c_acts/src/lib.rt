@@ -1,0 +1,23 @@
+//! What each kind of checked expression does when the values of its parts are there.
+#![tactic(auto)]
+
+mod asking;
+mod assigning;
+mod binary_acts;
+mod changing;
+mod comparing;
+mod leaves;
+mod moving;
+mod reading;
+mod shape;
+mod spot;
+mod storing;
+mod unary_acts;
+
+pub use asking::asked;
+pub use binary_acts::{Parts, binary_act};
+pub use leaves::leaf;
+pub use shape::Shape;
+pub use spot::Spot;
+pub use storing::{Writing, store};
+pub use unary_acts::unary_act;

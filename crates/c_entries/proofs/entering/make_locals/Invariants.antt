@@ -1,0 +1,10 @@
+use Rattle.std.proofs.Common.{◌≡◌}
+use Rattle.c_entries.proofs.Made.{AreThere}
+use Rattle.c_entries.proofs.entering.make_locals.Given as goal
+
+abbrev pub invariant-loop-place : goal.invariant-loop-place
+invariant-loop-place l = record {
+  there : AreThere l.program l.locals l.place l.fn.world l.world;
+  output : l.world.output ≡ l.fn.world.output;
+  below : l.world.locals.below ≡ l.fn.world.locals.below;
+}

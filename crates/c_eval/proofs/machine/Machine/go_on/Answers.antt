@@ -1,0 +1,25 @@
+use Rattle.std.proofs.Common.{refl, sym, ap}
+use Rattle.c_meaning.specs.CoreTrees.{line_of}
+use Rattle.c_runs.specs.Outcomes.{Continue}
+use Rattle.c_eval.specs.declared.focus.Focus.TheVariants as at
+use Rattle.c_eval.specs.Ends.{OfStatement}
+use Rattle.c_eval.proofs.Acts.{popped, with_stack}
+use Rattle.c_eval.proofs.Behind.{continue_passes, continue_strays, passes_continue, strays}
+use Rattle.c_eval.proofs.machine.Machine.go_on.Goals as goal
+
+pub returns-in-Activation-clause-same : goal.returns-in-Activation-clause-same
+returns-in-Activation-clause-same c =
+    let a = c.args in
+    let p = a.program.now in
+    let x = c.in-Activation in
+    strays p a.self.now (with_stack a.self.now c.pop.new.self) (λ k w. OfStatement (Continue k w)) x.call x.field-1 x.field-2 x.field-3 c.call.inside.line c.stray-in-Activation.result (rw x.is at c.in-Some.ensures.some) refl refl
+    c.stray-in-Activation.ensures (ap line_of c.call.view_is) (λ below fs k w. continue_strays p below fs x.call x.field-1 x.field-2 x.field-3 k w)
+
+pub returns-in_default-frame-clause-same : goal.returns-in_default-frame-clause-same
+returns-in_default-frame-clause-same c =
+    let a = c.args in
+    let p = a.program.now in
+    let x = c.in_default-frame in
+    let f = c.in-Some.frame in
+    popped p a.self.now (with_stack a.self.now c.pop.new.self) (λ k w. OfStatement (Continue k w)) at.Continue f c.in-Some.ensures.some refl refl
+    (λ below fs k w. sym (continue_passes p below fs f k w (passes_continue f x.not-Body x.not-Activation)))

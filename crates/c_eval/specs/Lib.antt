@@ -1,0 +1,13 @@
+pub mod Begins
+pub mod Came
+pub mod Ends
+pub mod Forms
+pub mod Frames
+pub mod LoopParts
+pub mod Loops
+pub mod Stacks
+pub mod States
+pub mod Steps
+pub mod Waits
+pub mod Weights
+pub mod Outcomes

@@ -1,0 +1,12 @@
+use lcc_base::Cause;
+
+/// How a run ends.
+#[derive(Clone, Copy, Debug, PartialEq, Eq)]
+pub enum How {
+    /// Its behaviour is undefined, for a cause at a line.
+    Undefined(Cause, u32),
+    /// Its turns are spent.
+    OutOfTurns,
+    /// It exits with a status, a word.
+    Exit(u32),
+}

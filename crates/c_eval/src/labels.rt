@@ -1,0 +1,41 @@
+//! Labels that stand in statements.
+ghost use Rattle.std.specs.Prelude.{◌≡◌};
+ghost use Rattle.c_runs.specs.Statements.{any_has, has};
+ghost use Rattle.c_worlds.specs.declared.program.Program.{Program};
+ghost use Rattle.c_eval.specs.Stacks.{statement, statements as trees_of};
+
+use c_meaning::CoreStmt;
+
+/// Whether a label stands in a statement.
+#[cycle(labels)]
+pub fn has_label(s: &CoreStmt, label: u32) -> bool
+    ensures { (p : Program) → result ≡ has (statement p s.now) label }
+{
+    match s {
+        CoreStmt::Block { statements, .. } => any_has_label(statements.as_slice(), label),
+        CoreStmt::If {
+            then,
+            otherwise,
+            ..
+        } => has_label(then, label) || has_label(otherwise, label),
+        CoreStmt::While { body, .. }
+        | CoreStmt::Do { body, .. }
+        | CoreStmt::For { body, .. }
+        | CoreStmt::Switch { body, .. } => has_label(body, label),
+        CoreStmt::Label(own, labelled) => label == *own || has_label(labelled, label),
+        _ => false,
+    }
+}
+
+/// Whether it stands in one of these.
+#[cycle(labels)]
+pub fn any_has_label(statements: &[CoreStmt], label: u32) -> bool
+    ensures { (p : Program) → result ≡ any_has (trees_of p statements.now) label }
+{
+    for s in statements {
+        if has_label(s, label) {
+            return true;
+        }
+    }
+    false
+}

@@ -1,0 +1,3 @@
+mod Counted
+mod Steps
+mod Choices

@@ -1,0 +1,4 @@
+pub mod OpenLocals
+pub mod Programs
+pub mod Shown
+pub mod Stops
