@@ -1,9 +1,10 @@
 -- The words of each command.
 use Rattle.std.specs.Prelude.{◌≡◌, ℕ, List, [], ◌∷◌, ◌++◌, codes, Bool, true, false, Option, Some}
 use Rattle.command_words.specs.declared.words.Command.{Command}
-use Rattle.command_words.specs.declared.words.Command.TheVariants.{Cover, Tables, Simrun, Rcc}
+use Rattle.command_words.specs.declared.words.Command.TheVariants.{Cover, Tables, Simrun, Rcc, Ceval}
 use Rattle.command_words.specs.OptionWords.{Options, AreOptions, value_of}
 use Rattle.command_words.specs.RunWords.{GivesRun}
+use Rattle.command_words.specs.CevalWords.{GivesCeval}
 
 -- a command by its first words, its options, what their texts have to be, and whether it reads the input
 pub record Words : Type 1 where
@@ -24,6 +25,7 @@ words_of Cover = record { first = codes "lburg" ∷ codes "cover" ∷ []; option
 words_of Tables = record { first = codes "lburg" ∷ codes "tables" ∷ []; options = []; Gives = λ text. Unit {0}; reads = true }
 words_of (Simrun o) = record { first = codes "simrun" ∷ []; options = (codes "target", true) ∷ (codes "steps", false) ∷ (codes "stack", false) ∷ []; Gives = GivesRun o; reads = true }
 words_of Rcc = record { first = codes "rcc" ∷ []; options = (codes "target", true) ∷ []; Gives = λ text. text (codes "target") ≡ Some (codes "mipseb"); reads = true }
+words_of (Ceval o) = record { first = codes "ceval" ∷ []; options = (codes "order", true) ∷ (codes "turns", false) ∷ []; Gives = GivesCeval o; reads = true }
 
 -- the words ask for this command
 abbrev pub AreWordsOf : Command → List (List ℕ) → Type 0

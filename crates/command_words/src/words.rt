@@ -3,6 +3,8 @@ ghost use Rattle.command_words.specs.declared.words.Command.{Command as Commands
 ghost use Rattle.command_words.specs.Found.{IsFound};
 ghost use Rattle.command_words.specs.Commands.{AreWordsOf};
 
+use crate::ceval_options::CevalOptions;
+use crate::ceval_words::ceval_options;
 use crate::option_words::{OptionRow, options_in};
 use crate::run_options::RunOptions;
 use crate::run_words::run_options;
@@ -20,6 +22,8 @@ pub enum Command {
     Simrun(RunOptions),
     /// `rcc` with its target, `mipseb`
     Rcc,
+    /// `ceval` with its options
+    Ceval(CevalOptions),
 }
 
 impl Command {
@@ -34,6 +38,7 @@ impl Command {
             Command::Tables => true,
             Command::Simrun(_) => true,
             Command::Rcc => true,
+            Command::Ceval(_) => true,
         }
     }
 }
@@ -53,6 +58,18 @@ const STEPS: OptionRow = OptionRow {
 /// How many bytes the stack has.
 const STACK: OptionRow = OptionRow {
     name: "stack",
+    is_required: false,
+};
+
+/// The order of bytes in memory.
+const ORDER: OptionRow = OptionRow {
+    name: "order",
+    is_required: true,
+};
+
+/// How many turns a run has at most.
+const TURNS: OptionRow = OptionRow {
+    name: "turns",
     is_required: false,
 };
 
@@ -117,6 +134,21 @@ fn are_rcc(alloc: Global, words: &[String]) -> Result<bool, Memory>
     }
 }
 
+/// How the words ask `ceval` for a run, if they do.
+fn ceval_asked(alloc: Global, words: &[String]) -> Result<Option<CevalOptions>, Memory>
+    ensures { IfOk result (IsFound (λ o. AreWordsOf (Commands.Ceval o) (map string_bytes words.now))) }
+{
+    match words {
+        [tool, rest @ ..] if is(tool, "ceval") => {
+            match options_in(alloc, &[ORDER, TURNS], rest)? {
+                Some(options) => Ok(ceval_options(&options)),
+                None => Ok(None),
+            }
+        }
+        _ => Ok(None),
+    }
+}
+
 /// The command that the words behind the program's name ask for, if they ask for one.
 pub fn command_of(alloc: Global, words: &[String]) -> Result<Option<Command>, Memory>
     ensures { IfOk result (IsFound (λ c. AreWordsOf c (map string_bytes words.now))) }
@@ -132,6 +164,9 @@ pub fn command_of(alloc: Global, words: &[String]) -> Result<Option<Command>, Me
     }
     if are_rcc(alloc, words)? {
         return Ok(Some(Command::Rcc));
+    }
+    if let Some(options) = ceval_asked(alloc, words)? {
+        return Ok(Some(Command::Ceval(options)));
     }
     Ok(None)
 }

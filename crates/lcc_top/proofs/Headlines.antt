@@ -2,6 +2,7 @@
 use Rattle.std.proofs.Common.{◌≡◌, ℕ, ◌⊎◌, inl, inr, List, sym, subst}
 use Rattle.std.specs.declared.option.Option.{Option}
 use Rattle.std.specs.Io.KnownBytes.{Appends}
+use Rattle.command_words.specs.declared.ceval_options.CevalOptions.{CevalOptions}
 use Rattle.command_words.specs.declared.run_options.RunOptions.{RunOptions}
 use Rattle.outcomes.specs.declared.outcome.End.{End}
 use Rattle.outcomes.specs.declared.outcome.End.TheVariants as ends
@@ -13,7 +14,8 @@ use Rattle.outcomes.specs.Answers.{HasDone}
 use Rattle.lburg_tool.specs.Cover.{CoverEnds, cover_behaviour}
 use Rattle.simrun_tool.specs.Simulation.{simrun_behaviour}
 use Rattle.rcc_tool.specs.Compilation.{IsCompilation, WritesRcc, rcc_behaviour}
-use Rattle.lcc_top.specs.Headline.{IsAnswer, CoverHeadline, RunHeadline, CompilerHeadline}
+use Rattle.ceval_tool.specs.Evaluation.{ceval_behaviour}
+use Rattle.lcc_top.specs.Headline.{IsAnswer, CoverHeadline, RunHeadline, CompilerHeadline, EvaluationHeadline}
 
 -- ---- lburg cover
 
@@ -54,3 +56,15 @@ pub compiler_headline : (bytes : List ℕ) (taken taken_after report report_afte
 compiler_headline bytes taken taken_after report report_after answer done good =
     let h = done (subst IsEndStatus (sym good) tt) in
     record { text = h.text; compilation = compiled bytes h.text h.end h.writes; written = h.written }
+
+-- ---- ceval
+
+evaluation_end : (s : Status) → (s ≡ status.Ok) ⊎ (s ≡ status.Undefined) ⊎ (s ≡ status.OutOfTurns) → IsEndStatus s
+evaluation_end s (inl is) = subst IsEndStatus (sym is) tt
+evaluation_end s (inr (inl is)) = subst IsEndStatus (sym is) tt
+evaluation_end s (inr (inr is)) = subst IsEndStatus (sym is) tt
+
+pub evaluation_headline : (o : CevalOptions) (bytes : List ℕ) (taken taken_after report report_after : Option (List ℕ)) (answer : Status) → (IsEndStatus answer → HasDone (ceval_behaviour o) bytes taken taken_after report report_after answer) → (answer ≡ status.Ok) ⊎ (answer ≡ status.Undefined) ⊎ (answer ≡ status.OutOfTurns) → EvaluationHeadline o bytes taken taken_after report report_after answer
+evaluation_headline o bytes taken taken_after report report_after answer done good =
+    let h = done (evaluation_end answer good) in
+    record { end = h.end; text = h.text; evaluation = h.writes; written = h.written; answered = h.answered; reported = h.reported }

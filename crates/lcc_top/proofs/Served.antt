@@ -5,7 +5,6 @@ use Rattle.command_words.specs.declared.words.Command.{Command}
 use Rattle.command_words.specs.Commands.{AreWordsOf, AreAccepted, reads}
 use Rattle.command_words.proofs.lemmas.OneCommand.{one_command}
 use Rattle.outcomes.specs.declared.outcome.Outcome.{Outcome}
-use Rattle.outcomes.specs.declared.outcome.Outcome.TheVariants as outcome
 use Rattle.outcomes.specs.declared.status.Status.TheVariants as status
 use Rattle.outcomes.specs.Outcome.{status_of}
 use Rattle.outcomes.specs.Status.{IsFree}

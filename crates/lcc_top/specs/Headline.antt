@@ -8,11 +8,13 @@ use Rattle.std.specs.Io.KnownBytes.{Appends}
 use Rattle.outcomes.specs.declared.status.Status.{Status}
 use Rattle.outcomes.specs.declared.status.Status.TheVariants as status
 use Rattle.outcomes.specs.declared.outcome.End.{End}
+use Rattle.command_words.specs.declared.ceval_options.CevalOptions.{CevalOptions}
 use Rattle.command_words.specs.declared.run_options.RunOptions.{RunOptions}
 use Rattle.outcomes.specs.Outcome.{end_status, end_line}
 use Rattle.lburg_tool.specs.Cover.{IsCover}
 use Rattle.simrun_tool.specs.Simulation.{IsSimulation}
 use Rattle.rcc_tool.specs.Compilation.{IsCompilation}
+use Rattle.ceval_tool.specs.Evaluation.{IsEvaluation}
 
 -- the status and the report where so many trees have no derivation
 abbrev pub IsAnswer : ℕ → Status → Option (List ℕ) → Option (List ℕ) → Type 0
@@ -43,3 +45,13 @@ pub record CompilerHeadline (input : List ℕ) (taken taken_after : Option (List
   pub text : List ℕ
   pub compilation : IsCompilation input text
   pub written : Appends taken taken_after text
+
+-- The headline of `ceval`: the input is the source of a program, with what the program reads behind a line `%%`, and output,
+-- status and report are those of its run by the meaning of C, with so many turns and in this order of bytes.
+pub record EvaluationHeadline (o : CevalOptions) (input : List ℕ) (taken taken_after report report_after : Option (List ℕ)) (answer : Status) : Type 0 where
+  pub end : End
+  pub text : List ℕ
+  pub evaluation : IsEvaluation o input end text
+  pub written : Appends taken taken_after text
+  pub answered : answer ≡ end_status end
+  pub reported : Appends report report_after (end_line end)

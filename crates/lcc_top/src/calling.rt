@@ -2,6 +2,7 @@ ghost use Rattle.std.specs.Prelude.{◌≡◌, ◌<◌, ◌≤◌, ◌⊎◌, �
 ghost use Rattle.std.specs.Io.KnownBytes.{Keeps};
 ghost use Rattle.lcc_base.specs.Faults.{Rose};
 ghost use Rattle.command_words.specs.declared.words.Command.{Command};
+ghost use Rattle.command_words.specs.declared.ceval_options.CevalOptions.{CevalOptions};
 ghost use Rattle.command_words.specs.declared.run_options.RunOptions.{RunOptions};
 ghost use Rattle.command_words.specs.Commands.{AreWordsOf, AreAccepted, reads};
 ghost use Rattle.outcomes.specs.declared.outcome.Refusal.{Refusal};
@@ -13,7 +14,7 @@ ghost use Rattle.simrun_tool.specs.Runnable.{IsRunnable};
 ghost use Rattle.lcc_top.specs.Commands.{behaviour_of, Refuses, Accepts};
 ghost use Rattle.lcc_top.specs.Causes.{IsCaused};
 ghost use Rattle.lcc_top.specs.RunAnswer.{RunAnswer};
-ghost use Rattle.lcc_top.specs.Headline.{CoverHeadline, RunHeadline, CompilerHeadline};
+ghost use Rattle.lcc_top.specs.Headline.{CoverHeadline, RunHeadline, CompilerHeadline, EvaluationHeadline};
 
 use crate::report::write_line;
 use crate::work::run;
@@ -24,16 +25,19 @@ use std::alloc::Global;
 /// All the work of the program: does what the words behind the program's name ask, with the
 /// input, the output and the report that it is given.
 ///
-/// It knows four commands so far. `lburg cover` reads a description with trees in its tail, at most
+/// It knows five commands so far. `lburg cover` reads a description with trees in its tail, at most
 /// 16,777,216 bytes, and writes a line for each tree: its least-cost derivation from the start
 /// symbol, or that it has none. `lburg tables` reads a description, whatever its tail is, and writes the
 /// text of its tables. `simrun` reads MIPS assembly, with what its program reads behind a line `%%`, and
 /// runs it; what it prints is written. `--target mipseb` or `mipsel` gives the order of bytes, big-endian or
 /// little-endian; `--steps N` the most steps, 1 to 4,294,967,295 (10,000,000); and `--stack N` the bytes of
 /// the stack, 4,096 to 16,777,216 (1,048,576). `rcc --target mipseb` reads a program of the first form of C
-/// and writes its MIPS assembly. Options stand in any order behind a command's first words, as `--name value` or
-/// `--name=value`. Nothing is written before all memory is taken. The report takes one line that tells how the
-/// call ended, or nothing.
+/// and writes its MIPS assembly. `ceval` reads a C source, with what its program reads behind a line `%%`, and
+/// runs it as the meaning of C says; what it writes is written once the run has ended. `--order big` or `little`
+/// gives the order of bytes, and `--turns N` the most turns, 1 to 4,294,967,295 (10,000,000); a repetition of a
+/// loop, a goto and a call each spend one. Options stand in any order behind a command's first words, as
+/// `--name value` or `--name=value`. Nothing is written before all memory is taken. The report takes one line that
+/// tells how the call ended, or nothing.
 pub fn top<S: Source, K: Sink, E: Sink>(
     alloc: Global,
     words: &[String],
@@ -83,6 +87,11 @@ pub fn top<S: Source, K: Sink, E: Sink>(
     // The headline of `rcc`, where the input tells what it had left.
     ensures compiler_headline { (bytes : List ℕ) → AreWordsOf Command.Rcc (map string_bytes words.now) → S.left input.old ≡ Some bytes
         → result ≡ Status.Ok → CompilerHeadline bytes (K.taken output.old) (K.taken output.new) }
+
+    // The headline of `ceval`, where the input tells what it had left.
+    ensures ceval_headline { (o : CevalOptions) (bytes : List ℕ) → AreWordsOf (Command.Ceval o) (map string_bytes words.now) → S.left input.old ≡ Some bytes
+        → (result ≡ Status.Ok) ⊎ (result ≡ Status.Undefined) ⊎ (result ≡ Status.OutOfTurns)
+        → EvaluationHeadline o bytes (K.taken output.old) (K.taken output.new) (E.taken report.old) (E.taken report.new) result }
 
     // Only a rising count of faults gives an answer of reading or writing, and a fault of the input
     // gives no other.

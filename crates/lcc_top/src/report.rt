@@ -4,11 +4,11 @@ ghost use Rattle.std.specs.Io.KnownBytes.{Appends};
 ghost use Rattle.lcc_base.specs.Faults.{HasCause};
 ghost use Rattle.lcc_base.specs.Taken.{TookPrefix};
 ghost use Rattle.asm_text.specs.StuckCause.{cause_name};
-ghost use Rattle.outcomes.specs.Outcome.{hex_digit, hex_word, at_line, end_line, refusal_line, line_of, place_line};
+ghost use Rattle.outcomes.specs.Outcome.{hex_digit, hex_word, at_line, end_line, refusal_line, line_of, place_line, undefined_line};
 
 use asm_text::StuckCause;
 use itoa::Buffer;
-use lcc_base::{Failed, Sink, write_all};
+use lcc_base::{Cause, Failed, Sink, write_all};
 use outcomes::{End, Outcome, Refusal};
 
 /// Writes three pieces, one behind another.
@@ -98,6 +98,23 @@ fn write_stuck<E: Sink>(report: &mut E, cause: StuckCause, pc: u32, step: u32) -
     }
 }
 
+/// `undefined: `, the cause and its line, and a line feed.
+fn write_undefined<E: Sink>(report: &mut E, cause: Cause, line: u32) -> Result<(), Failed>
+    ensures all { OnOk result (Appends (E.taken report.old) (E.taken report.new) (undefined_line cause line)) }
+    ensures prefix { OnErr result (TookPrefix (E.taken report.old) (E.taken report.new) (undefined_line cause line)) }
+    ensures cause { HasCause (E.faults report.old) (E.faults report.new) result }
+{
+    match write_three(
+        report,
+        b"undefined: ",
+        cause.name().as_bytes(),
+        b" at line ",
+    ) {
+        Err(fault) => Err(fault),
+        Ok(()) => write_number(report, b"", line as u64),
+    }
+}
+
 /// Writes the line of work that ended so, or nothing where it has none.
 fn write_end<E: Sink>(report: &mut E, end: End) -> Result<(), Failed>
     ensures all { OnOk result (Appends (E.taken report.old) (E.taken report.new) (end_line end)) }
@@ -111,6 +128,8 @@ fn write_end<E: Sink>(report: &mut E, end: End) -> Result<(), Failed>
         End::Stuck(cause, pc, step) => write_stuck(report, cause, pc, step),
         End::StackOut(pc, step) => write_place(report, b"stack out", pc, step),
         End::OutOfSteps(steps) => write_number(report, b"out of steps: ", steps as u64),
+        End::Undefined(cause, line) => write_undefined(report, cause, line),
+        End::OutOfTurns(turns) => write_number(report, b"out of turns: ", turns as u64),
     }
 }
 
@@ -127,6 +146,16 @@ fn write_at_line<E: Sink>(report: &mut E, line: u32, kind: &[u8], name: &str) ->
     }
 }
 
+/// `line L: constraint `, the constraint's number, and a line feed.
+fn write_constraint<E: Sink>(report: &mut E, line: u32, number: u8) -> Result<(), Failed>
+    ensures all { OnOk result (Appends (E.taken report.old) (E.taken report.new) (at_line line (codes "constraint " ++ decimal number))) }
+    ensures prefix { OnErr result (TookPrefix (E.taken report.old) (E.taken report.new) (at_line line (codes "constraint " ++ decimal number))) }
+    ensures cause { HasCause (E.faults report.old) (E.faults report.new) result }
+{
+    let mut buffer = Buffer::new();
+    write_at_line(report, line, b"constraint ", buffer.format(number))
+}
+
 /// Writes the line of a refusal.
 fn write_refusal<E: Sink>(report: &mut E, refusal: &Refusal) -> Result<(), Failed>
     ensures all { OnOk result (Appends (E.taken report.old) (E.taken report.new) (refusal_line refusal.now)) }
@@ -137,6 +166,7 @@ fn write_refusal<E: Sink>(report: &mut E, refusal: &Refusal) -> Result<(), Faile
         Refusal::BadText => write_all(report, b"bad text\n"),
         Refusal::NoMain => write_all(report, b"no main\n"),
         Refusal::Fault { line, name } => write_at_line(report, *line, b"", name.text()),
+        Refusal::Constraint { line, number } => write_constraint(report, *line, *number),
         Refusal::Limit { line, which } => write_at_line(report, *line, b"limit ", which.name()),
     }
 }

@@ -5,6 +5,7 @@ ghost use Rattle.outcomes.specs.Work.{IsWorked};
 ghost use Rattle.lcc_top.specs.Commands.{behaviour_of};
 ghost use Rattle.lcc_top.specs.Causes.{IsCaused};
 
+use ceval_tool::evaluate_input;
 use command_words::{Command, command_of};
 use lburg_tool::{cover_input, tables_input};
 use lcc_base::{Memory, ReadEnd, Sink, Source, read_all};
@@ -27,6 +28,7 @@ fn work<K: Sink>(alloc: Global, command: Command, input: &[u8], output: &mut K) 
         Command::Tables => tables_input(alloc, input, output),
         Command::Simrun(options) => run_input(alloc, options, input, output),
         Command::Rcc => compile_input(alloc, input, output),
+        Command::Ceval(options) => evaluate_input(alloc, options, input, output),
     }
 }
 

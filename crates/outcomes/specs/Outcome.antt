@@ -2,7 +2,9 @@
 -- numbers are decimal.
 use Rattle.std.specs.Prelude.{ℕ, ◌+◌, ◌/◌, ◌%◌, ◌^◌, ◌++◌, [], ◌∷◌, List, codes, decimal, nat_lt, if◌then◌else◌}
 use Rattle.std.specs.Fmt.{signed_decimal}
+use Rattle.lcc_base.specs.Cause.{cause_name as undefined_name}
 use Rattle.lcc_base.specs.Which.{which_name}
+use Rattle.lcc_base.specs.declared.cause.Cause.{Cause}
 use Rattle.asm_text.specs.StuckCause.{cause_name}
 use Rattle.outcomes.specs.FaultName.{fault_name}
 use Rattle.outcomes.specs.declared.status.Status.{Status}
@@ -28,6 +30,10 @@ hex_word n =
 abbrev pub place_line : List ℕ → ℕ → ℕ → List ℕ
 place_line what pc step = (what ++ codes " at 0x" ++ hex_word pc) ++ (codes ", step " ++ decimal step ++ codes "\n")
 
+-- `undefined: CAUSE at line L`
+abbrev pub undefined_line : Cause → ℕ → List ℕ
+undefined_line cause n = (codes "undefined: " ++ undefined_name cause ++ codes " at line ") ++ (decimal n ++ codes "\n")
+
 -- `line L: ` and what is told of the line
 abbrev pub at_line : ℕ → List ℕ → List ℕ
 at_line n what = (codes "line " ++ decimal n ++ codes ": ") ++ (what ++ codes "\n")
@@ -47,11 +53,14 @@ end_told (ends.Exited s) = told status.Ok (codes "exit " ++ signed_decimal s ++ 
 end_told (ends.Stuck cause pc step) = told status.Stuck (place_line (codes "stuck: " ++ cause_name cause) pc step)
 end_told (ends.StackOut pc step) = told status.StackOut (place_line (codes "stack out") pc step)
 end_told (ends.OutOfSteps n) = told status.OutOfSteps (codes "out of steps: " ++ decimal n ++ codes "\n")
+end_told (ends.Undefined cause n) = told status.Undefined (undefined_line cause n)
+end_told (ends.OutOfTurns n) = told status.OutOfTurns (codes "out of turns: " ++ decimal n ++ codes "\n")
 
 abbrev pub refusal_told : Refusal → Told
 refusal_told refusal.BadText = told status.BadText (codes "bad text\n")
 refusal_told refusal.NoMain = told status.BadText (codes "no main\n")
 refusal_told (refusal.Fault n name) = told status.BadText (at_line n (fault_name name))
+refusal_told (refusal.Constraint n number) = told status.BadProgram (at_line n (codes "constraint " ++ decimal number))
 refusal_told (refusal.Limit n which) = told status.Limit (at_line n (codes "limit " ++ which_name which))
 
 abbrev pub outcome_told : Outcome → Told

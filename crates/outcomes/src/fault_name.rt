@@ -1,6 +1,6 @@
 ghost use Rattle.std.specs.Prelude.{◌≡◌};
 
-/// A fault of a description, of its tail or of assembly, by the name that the report tells.
+/// A fault of a description, of its tail, of assembly or of a C source, by the name that the report tells.
 #[derive(Clone, Copy, Debug, PartialEq, Eq)]
 pub enum FaultName {
     /// The bytes form no token.
@@ -35,6 +35,20 @@ pub enum FaultName {
     DoubleLabel,
     /// A name of assembly is neither a label nor a built-in function.
     UnknownLabel,
+    /// A byte of a C source begins no token.
+    BadByte,
+    /// A constant of a C source is malformed, or greater than 4,294,967,295.
+    BadConstant,
+    /// A comment of a C source doesn't end.
+    OpenComment,
+    /// A line ends within a character constant or a string literal.
+    OpenText,
+    /// A constant of a C source is a floating one.
+    FloatConstant,
+    /// A literal of a C source is one of wide characters.
+    WideConstant,
+    /// A C source's tokens denote no unit.
+    NoParse,
 }
 
 impl FaultName {
@@ -61,6 +75,13 @@ impl FaultName {
             FaultName::BadOperand => "BadOperand",
             FaultName::DoubleLabel => "DoubleLabel",
             FaultName::UnknownLabel => "UnknownLabel",
+            FaultName::BadByte => "BadByte",
+            FaultName::BadConstant => "BadConstant",
+            FaultName::OpenComment => "OpenComment",
+            FaultName::OpenText => "OpenText",
+            FaultName::FloatConstant => "FloatConstant",
+            FaultName::WideConstant => "WideConstant",
+            FaultName::NoParse => "NoParse",
         }
     }
 }

@@ -4,7 +4,7 @@ ghost use Rattle.outcomes.specs.Outcome.{end_status, refusal_status};
 use crate::fault_name::FaultName;
 use crate::status::Status;
 use asm_text::StuckCause;
-use lcc_base::Which;
+use lcc_base::{Cause, Which};
 
 /// How a command's work on its input ended, with what its line on the report tells.
 #[derive(Clone, Copy, Debug, PartialEq, Eq)]
@@ -21,6 +21,10 @@ pub enum End {
     StackOut(u32, u32),
     /// The run was still going after so many steps.
     OutOfSteps(u32),
+    /// The program's run is undefined, for this cause at this line.
+    Undefined(Cause, u32),
+    /// The program's run was still going after so many turns.
+    OutOfTurns(u32),
 }
 
 /// Why a command refuses its input.
@@ -32,6 +36,8 @@ pub enum Refusal {
     NoMain,
     /// A line of the input has a fault.
     Fault { line: u32, name: FaultName },
+    /// A construct of the program, which begins on this line, breaks the constraint of this number.
+    Constraint { line: u32, number: u8 },
     /// A line of the input passes a limit.
     Limit { line: u32, which: Which },
 }
@@ -66,6 +72,8 @@ fn status_of_end(end: End) -> Status
         End::Stuck(_, _, _) => Status::Stuck,
         End::StackOut(_, _) => Status::StackOut,
         End::OutOfSteps(_) => Status::OutOfSteps,
+        End::Undefined(_, _) => Status::Undefined,
+        End::OutOfTurns(_) => Status::OutOfTurns,
     }
 }
 
@@ -77,6 +85,7 @@ fn status_of_refusal(refusal: &Refusal) -> Status
         Refusal::BadText => Status::BadText,
         Refusal::NoMain => Status::BadText,
         Refusal::Fault { line: _, name: _ } => Status::BadText,
+        Refusal::Constraint { line: _, number: _ } => Status::BadProgram,
         Refusal::Limit { line: _, which: _ } => Status::Limit,
     }
 }

@@ -13,7 +13,7 @@ use Rattle.outcomes.specs.Behaviour.{IsApart}
 use Rattle.simrun_tool.specs.AssemblyFaults.{of_assembly}
 use Rattle.simrun_tool.specs.Simulation.{RefusesAssembly, IsIdle, RefusesSimrun, simrun_behaviour}
 use Rattle.simrun_tool.specs.Runnable.{IsRunnable}
-use Rattle.simrun_tool.proofs.PartedOnce.{parted_once}
+use Rattle.input_parts.proofs.lemmas.PartedOnce.{parted_once}
 
 -- what the laws of texts say: an assembly text is one program's, has one first fault, and a program's has none
 pub record TextLaws : Type 0 where

@@ -1,7 +1,4 @@
 pub mod lemmas
-pub mod LineEnds
-pub mod Passed
-pub mod PartedOnce
 pub mod Apart
 pub mod Simulated
 pub mod Worked

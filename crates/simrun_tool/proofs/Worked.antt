@@ -11,7 +11,7 @@ use Rattle.command_words.specs.declared.run_options.RunOptions.{RunOptions}
 use Rattle.outcomes.specs.declared.outcome.Outcome.{Outcome}
 use Rattle.outcomes.specs.declared.outcome.Outcome.TheVariants as outcome
 use Rattle.outcomes.specs.Work.{DidWork}
-use Rattle.simrun_tool.specs.InputMark.{IsParted}
+use Rattle.input_parts.specs.InputMark.{IsParted}
 use Rattle.simrun_tool.specs.AssemblyFaults.{of_assembly}
 use Rattle.simrun_tool.specs.Simulation.{IsSimulation, RefusesSimrun}
 use Rattle.simrun_tool.specs.ProgramRan.{ProgramRan}

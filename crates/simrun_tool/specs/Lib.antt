@@ -1,4 +1,3 @@
-pub mod InputMark
 pub mod AssemblyFaults
 pub mod Simulation
 pub mod Runnable

@@ -7,7 +7,7 @@ use Rattle.asm_text.specs.Linked.{HasMain}
 use Rattle.asm_text.specs.Program.{MProgram}
 use Rattle.outcomes.specs.declared.outcome.End.{End}
 use Rattle.command_words.specs.declared.run_options.RunOptions.{RunOptions}
-use Rattle.simrun_tool.specs.InputMark.{IsParted}
+use Rattle.input_parts.specs.InputMark.{IsParted}
 use Rattle.simrun_tool.specs.Simulation.{IsSimulation}
 
 -- the input is the text of a program that has a code label main, with what the program reads behind a line `%%`

@@ -13,7 +13,7 @@ use Rattle.command_words.specs.declared.run_options.RunOptions.{RunOptions}
 use Rattle.outcomes.specs.declared.outcome.Outcome.TheVariants.{Refused}
 use Rattle.machine_runs.specs.Endings.{RunEnds}
 use Rattle.outcomes.specs.Behaviour.{Behaviour}
-use Rattle.simrun_tool.specs.InputMark.{IsParted}
+use Rattle.input_parts.specs.InputMark.{IsParted}
 use Rattle.simrun_tool.specs.AssemblyFaults.{of_assembly}
 
 -- The program's run prints this text and ends so: so many steps from the label main, in this order of bytes, with a stack

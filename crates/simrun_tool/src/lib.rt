@@ -3,7 +3,6 @@
 
 mod laws;
 mod mips;
-mod parting;
 mod simulate;
 
 pub use laws::simrun_laws;

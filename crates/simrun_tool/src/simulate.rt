@@ -10,9 +10,9 @@ ghost use Rattle.simrun_tool.specs.ProgramRan.{ProgramRan};
 
 use crate::laws::simrun_laws;
 use crate::mips::Mips;
-use crate::parting::parted;
 use asm_text::{AsmFault, Input, Isa, Program, read};
 use command_words::RunOptions;
+use input_parts::parted;
 use lcc_base::{Bytes, Memory, Sink, Which};
 use machine_runs::run_machine;
 use mips_machine::{LoadFault, load};

@@ -1,15 +1,11 @@
 -- Words that ask for a run, in any order and with `=`, and words that ask for none.
-use Rattle.std.proofs.Common.{◌≡◌, ℕ, List, [], ◌∷◌, refl, sym, ◌∙◌, ap, inl, inr, arith, true, false}
-use Rattle.std.specs.Prelude.{codes, Option, Some, None}
+use Rattle.std.proofs.Common.{◌≡◌, ℕ, List, [], ◌∷◌, refl, arith, true, false}
+use Rattle.std.specs.Prelude.{codes, Some, None}
 use Rattle.clap.proofs.OnLiterals.{clap_on_literals}
 use Rattle.clap.specs.Words.{fault_of}
 use Rattle.clap.specs.declared.error.kind.ErrorKind.TheVariants as kind
-use Rattle.lcc_base.specs.declared.order.Order.TheVariants.{Big}
-use Rattle.command_words.specs.declared.run_options.RunOptions.{RunOptions}
-use Rattle.command_words.specs.declared.words.Command.TheVariants.{Simrun}
 use Rattle.command_words.specs.OptionWords.{Options, app_for, value_of}
-use Rattle.command_words.specs.RunWords.{GivesNumber}
-use Rattle.command_words.specs.Commands.{AreWordsOf, words_of}
+use Rattle.command_words.specs.NumberWords.{GivesNumber}
 
 abbrev options : Options
 options = (codes "target", true) ∷ (codes "steps", false) ∷ (codes "stack", false) ∷ []
@@ -85,3 +81,23 @@ none is = let low = is.low in omega arith
 
 ten : GivesNumber 1 4294967295 10000000 (Some (codes "10")) 10
 ten = record { digits = (refl, (refl, tt)); some = omega arith; few = omega arith; value = refl; low = omega arith; high = omega arith }
+
+-- ---- an evaluation
+
+abbrev evaluation : Options
+evaluation = (codes "order", true) ∷ (codes "turns", false) ∷ []
+
+abbrev little : List (List ℕ)
+little = codes "--turns=5" ∷ codes "--order" ∷ codes "little" ∷ []
+
+order_is : value_of evaluation little (codes "order") ≡ Some (codes "little")
+unfolding clap_on_literals
+order_is = refl
+
+turns_are : value_of evaluation little (codes "turns") ≡ Some (codes "5")
+unfolding clap_on_literals
+turns_are = refl
+
+no_order : fault_of (app_for evaluation) (codes "--turns" ∷ codes "5" ∷ []) ≡ kind.MissingRequiredArgument ∷ []
+unfolding clap_on_literals
+no_order = refl

@@ -6,11 +6,14 @@ use Rattle.std.specs.Str.{bytes_eq}
 use Rattle.std.proofs.lemmas.Option.{same_Some}
 use Rattle.lcc_base.specs.declared.order.Order.{Order}
 use Rattle.lcc_base.specs.declared.order.Order.TheVariants.{Big, Little}
+use Rattle.command_words.specs.declared.ceval_options.CevalOptions.{CevalOptions}
 use Rattle.command_words.specs.declared.run_options.RunOptions.{RunOptions}
 use Rattle.command_words.specs.declared.words.Command.{Command}
-use Rattle.command_words.specs.declared.words.Command.TheVariants.{Cover, Tables, Simrun, Rcc}
+use Rattle.command_words.specs.declared.words.Command.TheVariants.{Cover, Tables, Simrun, Rcc, Ceval}
 use Rattle.command_words.specs.OptionWords.{value_of}
-use Rattle.command_words.specs.RunWords.{IsTarget, GivesTarget, GivesNumber, GivesRun}
+use Rattle.command_words.specs.NumberWords.{GivesNumber}
+use Rattle.command_words.specs.RunWords.{IsTarget, GivesTarget, GivesRun}
+use Rattle.command_words.specs.CevalWords.{IsOrder, GivesOrder, GivesCeval}
 use Rattle.command_words.specs.Commands.{AreWordsOf, words_of}
 
 -- ---- first words
@@ -20,6 +23,7 @@ pub data Tool : Type 0 where
   Tabulates : Tool
   Runs : Tool
   Compiles : Tool
+  Evaluates : Tool
 
 abbrev second : List (List ℕ) → Option Tool
 second [] = None
@@ -32,6 +36,7 @@ named (w ∷ ws) =
     if bytes_eq w (codes "lburg") then second ws
     else if bytes_eq w (codes "simrun") then Some Runs
     else if bytes_eq w (codes "rcc") then Some Compiles
+    else if bytes_eq w (codes "ceval") then Some Evaluates
     else None
 
 abbrev tool_of : Command → Tool
@@ -39,12 +44,14 @@ tool_of Cover = Covers
 tool_of Tables = Tabulates
 tool_of (Simrun o) = Runs
 tool_of Rcc = Compiles
+tool_of (Ceval o) = Evaluates
 
 named_so : (c : Command) (words : List (List ℕ)) → AreWordsOf c words → named words ≡ Some (tool_of c)
 named_so Cover words is = ap named is.parts
 named_so Tables words is = ap named is.parts
 named_so (Simrun o) words is = ap named is.parts
 named_so Rcc words is = ap named is.parts
+named_so (Ceval o) words is = ap named is.parts
 
 -- ---- the options of a run
 
@@ -92,6 +99,37 @@ one_run o p text is also =
     (number_once 1 4294967295 10000000 (text (codes "steps")) o.steps p.steps is.steps also.steps)
     (number_once 4096 16777216 1048576 (text (codes "stack")) o.stack p.stack is.stack also.stack)
 
+-- ---- the options of an evaluation
+
+one_order : (text : List ℕ) (o p : Order) → IsOrder text o → IsOrder text p → o ≡ p
+one_order text Big Big is also = refl
+one_order text Little Little is also = refl
+one_order text Big Little is also = absurd (differ (codes "big") (codes "little") 0 (λ e. omega arith) (sym is ∙ also))
+one_order text Little Big is also = absurd (differ (codes "big") (codes "little") 0 (λ e. omega arith) (sym also ∙ is))
+
+order_once : (text : Option (List ℕ)) (o p : Order) → GivesOrder text o → GivesOrder text p → o ≡ p
+order_once (Some text) o p is also = one_order text o p is also
+order_once None o p none also = absurd none
+
+abbrev evaluation : (order : Order) (turns : ℕ) → 1 ≤ turns → CevalOptions
+evaluation order turns some = record { order = order; turns = turns; some = some }
+
+same_evaluation : (o p : CevalOptions) → o.order ≡ p.order → o.turns ≡ p.turns → o ≡ p
+same_evaluation o p order turns =
+    let Turns : ℕ → Type 0 = λ n. (k : 1 ≤ n) → o ≡ evaluation o.order n k in
+    let Ordered : Order → Type 0 = λ a. (k : 1 ≤ p.turns) → o ≡ evaluation a p.turns k in
+    let one : Turns o.turns = λ k. ap (λ (x : 1 ≤ o.turns). evaluation o.order o.turns x) (le_prop o.some k) in
+    subst Ordered order (subst Turns turns one) p.some
+
+-- an evaluation's options
+one_evaluation : (o p : CevalOptions) (text : List ℕ → Option (List ℕ)) → GivesCeval o text → GivesCeval p text → o ≡ p
+one_evaluation o p text is also =
+    same_evaluation o p
+    (order_once (text (codes "order")) o.order p.order is.order also.order)
+    (number_once 1 4294967295 10000000 (text (codes "turns")) o.turns p.turns is.turns also.turns)
+
+-- ---- one command
+
 -- the words behind the first one are the same
 same_rest : (first : List ℕ) (words rest last : List (List ℕ)) → words ≡ first ∷ rest → words ≡ first ∷ last → rest ≡ last
 same_rest first words rest last is also = cc
@@ -103,6 +141,9 @@ same_command Rcc Rcc words is also same = refl
 same_command (Simrun o) (Simrun p) words is also same =
     let rest = same_rest (codes "simrun") words is.rest also.rest is.parts also.parts in
     ap Simrun (one_run o p (value_of (words_of (Simrun o)).options also.rest) (subst (λ l. GivesRun o (value_of (words_of (Simrun o)).options l)) rest is.gives) also.gives)
+same_command (Ceval o) (Ceval p) words is also same =
+    let rest = same_rest (codes "ceval") words is.rest also.rest is.parts also.parts in
+    ap Ceval (one_evaluation o p (value_of (words_of (Ceval o)).options also.rest) (subst (λ l. GivesCeval o (value_of (words_of (Ceval o)).options l)) rest is.gives) also.gives)
 same_command c d words is also same = absurd cc
 
 pub one_command : (c d : Command) (words : List (List ℕ)) → AreWordsOf c words → AreWordsOf d words → c ≡ d

@@ -60,11 +60,14 @@ end_kind (ends.Exited s) = tt
 end_kind (ends.Stuck cause pc step) = tt
 end_kind (ends.StackOut pc step) = tt
 end_kind (ends.OutOfSteps n) = tt
+end_kind (ends.Undefined cause n) = tt
+end_kind (ends.OutOfTurns n) = tt
 
 pub refusal_kind : (why : Refusal) → kind_of (refusal_status why) ≡ Refused
 refusal_kind refusal.BadText = refl
 refusal_kind refusal.NoMain = refl
 refusal_kind (refusal.Fault n name) = refl
+refusal_kind (refusal.Constraint n number) = refl
 refusal_kind (refusal.Limit n which) = refl
 
 -- a refusal's status tells of no end

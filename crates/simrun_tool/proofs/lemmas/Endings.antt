@@ -27,3 +27,5 @@ run_status o input text (ends.Exited n) s = inl refl
 run_status o input text (ends.Stuck cause pc k) s = inr refl
 run_status o input text (ends.StackOut pc k) s = inr refl
 run_status o input text (ends.OutOfSteps n) s = inr refl
+run_status o input text (ends.Undefined cause n) s = absurd s.run.ran
+run_status o input text (ends.OutOfTurns n) s = absurd s.run.ran

@@ -1,5 +1,5 @@
 use Rattle.std.proofs.Common.{◌≡◌, ◌⊎◌, inl, inr, refl, sym, ◌∙◌, subst}
-use Rattle.command_words.specs.declared.words.Command.TheVariants.{Cover, Simrun, Rcc}
+use Rattle.command_words.specs.declared.words.Command.TheVariants.{Cover, Simrun, Rcc, Ceval}
 use Rattle.command_words.specs.Commands.{reads}
 use Rattle.outcomes.specs.declared.status.Status.{Status}
 use Rattle.outcomes.specs.declared.status.Status.TheVariants as status
@@ -10,7 +10,7 @@ use Rattle.lcc_top.specs.Commands.{behaviour_of}
 use Rattle.lcc_top.specs.RunAnswer.{RunAnswer}
 use Rattle.lcc_top.proofs.Served as of
 use Rattle.lcc_top.proofs.RunAnswers.{run_answer, run_untold, begun}
-use Rattle.lcc_top.proofs.Headlines.{cover_headline, run_headline, compiler_headline}
+use Rattle.lcc_top.proofs.Headlines.{cover_headline, run_headline, compiler_headline, evaluation_headline}
 use Rattle.lcc_top.proofs.calling.top.Goals as goal
 
 pub returns-in-Ok-clause-done : goal.returns-in-Ok-clause-done
@@ -40,6 +40,9 @@ returns-in-Ok-clause-simrun_begun g c = λ o words moved.
 
 pub returns-in-Ok-clause-compiler_headline : goal.returns-in-Ok-clause-compiler_headline
 returns-in-Ok-clause-compiler_headline g c = λ bytes words is. compiler_headline bytes _ _ _ _ _ (returns-in-Ok-clause-done g c Rcc bytes words is)
+
+pub returns-in-Ok-clause-ceval_headline : goal.returns-in-Ok-clause-ceval_headline
+returns-in-Ok-clause-ceval_headline g c = λ o bytes words is. evaluation_headline o bytes _ _ _ _ _ (returns-in-Ok-clause-done g c (Ceval o) bytes words is)
 
 pub returns-in-Ok-clause-complete : goal.returns-in-Ok-clause-complete
 returns-in-Ok-clause-complete g c = λ command bytes words is small accepts fine sound quiet.

@@ -2,7 +2,7 @@ use Rattle.std.proofs.Common.{List, ℕ, sym, subst}
 use Rattle.outcomes.specs.declared.outcome.Outcome.{Outcome}
 use Rattle.outcomes.specs.Work.{IsWorked}
 use Rattle.outcomes.proofs.lemmas.Works.{worked}
-use Rattle.simrun_tool.specs.InputMark.{IsParted}
+use Rattle.input_parts.specs.InputMark.{IsParted}
 use Rattle.simrun_tool.specs.Simulation.{simrun_behaviour}
 use Rattle.simrun_tool.proofs.Worked.{simulated, not_read}
 use Rattle.simrun_tool.proofs.simulate.run_input.Goals as goal

@@ -2,7 +2,7 @@
 use Rattle.std.proofs.Common.{◌≡◌, ◌⊎◌, ℕ, true, false, eqb, List, [], ◌∷◌, ◌++◌, refl, sym, ap, subst, ◌∙◌, inl, inr, append_assoc}
 use Rattle.std.proofs.lemmas.Bool.Decides.{eqb_tells}
 use Rattle.lcc_text.specs.Lines.{lines_of, with_byte}
-use Rattle.simrun_tool.specs.InputMark.{IsWhole}
+use Rattle.input_parts.specs.InputMark.{IsWhole}
 
 at_feed : (b : ℕ) (bs : List ℕ) → eqb b 10 ≡ true → lines_of (b ∷ bs) ≡ [] ∷ lines_of bs
 at_feed b bs e = rw e refl

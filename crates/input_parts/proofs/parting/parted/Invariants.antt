@@ -1,6 +1,6 @@
 use Rattle.std.proofs.Common.{length, ◌-◌}
-use Rattle.simrun_tool.proofs.Passed.{IsPassed}
-use Rattle.simrun_tool.proofs.parting.parted.Given as goal
+use Rattle.input_parts.proofs.Passed.{IsPassed}
+use Rattle.input_parts.proofs.parting.parted.Given as goal
 
 abbrev pub invariant-loop-line : goal.invariant-loop-line
 invariant-loop-line l = IsPassed l.input l.at

@@ -5,8 +5,8 @@ use Rattle.std.proofs.Math.Seq.{take-add, take-append-add, drop-append-add}
 use Rattle.std.proofs.lemmas.List.{take_all, drop_all, drop-drop, append-nil}
 use Rattle.std.proofs.lemmas.List.Elements.{All-append, All-cons, All-nil}
 use Rattle.lcc_text.specs.Lines.{lines_of}
-use Rattle.simrun_tool.specs.InputMark.{HasNoMark, IsWhole, IsMarked}
-use Rattle.simrun_tool.proofs.LineEnds.{Ends, line_ends, lines_behind, no_line}
+use Rattle.input_parts.specs.InputMark.{HasNoMark, IsWhole, IsMarked}
+use Rattle.input_parts.proofs.LineEnds.{Ends, line_ends, lines_behind, no_line}
 
 -- no line before the place is `%%`, and where the input goes on there, a line begins
 pub record IsPassed (input : List ℕ) (at : ℕ) : Type 0 where

@@ -5,8 +5,8 @@ use Rattle.std.proofs.Math.Seq.{drop-append_seam}
 use Rattle.std.proofs.lemmas.List.{append_cancel_left}
 use Rattle.std.proofs.lemmas.List.Elements.{All-drop, All-head}
 use Rattle.lcc_text.specs.Lines.{lines_of}
-use Rattle.simrun_tool.specs.InputMark.{HasNoMark, IsWhole, EndsBefore, IsMarked, IsParted}
-use Rattle.simrun_tool.proofs.LineEnds.{lines_behind}
+use Rattle.input_parts.specs.InputMark.{HasNoMark, IsWhole, EndsBefore, IsMarked, IsParted}
+use Rattle.input_parts.proofs.LineEnds.{lines_behind}
 
 -- the line `%%` and what stands behind it
 begins_marked : (tail rest : List ℕ) → EndsBefore tail rest → lines_of (codes "%%" ++ tail) ≡ codes "%%" ∷ lines_of rest

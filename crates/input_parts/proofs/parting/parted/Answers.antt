@@ -4,8 +4,8 @@ use Rattle.std.proofs.lemmas.Bool.Decides.{Decides-eqb}
 use Rattle.std.proofs.lemmas.List.{take_rest}
 use Rattle.std.proofs.lemmas.Slice.Eq.{slice_eq-Decides}
 use Rattle.lcc_text.specs.Lines.{lines_of}
-use Rattle.simrun_tool.proofs.Passed.{passed_line, passed_all, marked_line}
-use Rattle.simrun_tool.proofs.parting.parted.Goals as goal
+use Rattle.input_parts.proofs.Passed.{passed_line, passed_all, marked_line}
+use Rattle.input_parts.proofs.parting.parted.Goals as goal
 
 pub returns-then-eq : goal.returns-then-eq
 returns-then-eq c =

@@ -3,8 +3,8 @@ use Rattle.std.proofs.lemmas.Bool.Decides.{nat_tests}
 use Rattle.lcc_text.specs.Classes.{AllIn, in_class}
 use Rattle.lcc_text.specs.declared.class.Class.TheVariants.{Digit}
 use Rattle.command_words.proofs.ClassWords.{stops_at_end}
-use Rattle.command_words.proofs.run_words.number_in.Goals as goal
-use Rattle.command_words.proofs.run_words.number_in.Goals.{then-is_empty-via-then-is_empty, then-is_empty-via-else-is_empty+then-digits-gt10, then-is_empty-via-else-is_empty+else-digits-gt10+then-run_len-digits}
+use Rattle.command_words.proofs.number_words.number_in.Goals as goal
+use Rattle.command_words.proofs.number_words.number_in.Goals.{then-is_empty-via-then-is_empty, then-is_empty-via-else-is_empty+then-digits-gt10, then-is_empty-via-else-is_empty+else-digits-gt10+then-run_len-digits}
 
 pub returns-then-is_empty : goal.returns-then-is_empty
 returns-then-is_empty c n number =

@@ -1,0 +1,4 @@
+pub mod SourceFaults
+pub mod Evaluation
+pub mod OneRefusal
+pub mod ProgramRan
