@@ -1,4 +1,3 @@
-pub mod BuiltIns
 pub mod MainFunction
 pub mod NameFaults
 pub mod Over

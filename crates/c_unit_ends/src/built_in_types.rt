@@ -1,10 +1,9 @@
 //! Whether a type fits a built-in function's (C89 3.1.2.6).
 ghost use Rattle.std.specs.Prelude.{◌≡◌, ◌<◌, List, false, length, Some};
 ghost use Rattle.c_types.specs.CType.{And, CType, Int, Listed, NoType, basic};
-ghost use Rattle.c_types.specs.Compatible.{all_compatible, parameters_compatible};
+ghost use Rattle.c_types.specs.Compatible.{all_compatible, compatible, parameters_compatible};
 ghost use Rattle.c_types.specs.Table.{AreBelow, AreSomeBelow, parameters_in, type_at, types as types_of, types_in};
-ghost use Rattle.c_units.specs.Ends.{fits_built_in, gives_otherwise};
-ghost use Rattle.c_unit_ends.specs.BuiltIns.{parameters_of, result_of};
+ghost use Rattle.c_units.specs.Ends.{built_in_parameters, built_in_result, fits_built_in, function_type, gives_otherwise};
 
 use c_meaning::BuiltIn;
 use c_types::{TypeId, TypeTable};
@@ -14,7 +13,7 @@ use lcc_base::Items;
 
 /// The place of the result of a built-in function.
 fn result_of_built_in(types: &TypeTable, b: BuiltIn) -> TypeId
-    ensures is { type_at types.now result ≡ result_of b }
+    ensures is { type_at types.now result ≡ built_in_result b }
     ensures within { result < length types.now.forms }
 {
     match b {
@@ -52,7 +51,7 @@ fn fit_parameters(
     more: bool,
 ) -> bool
     requires { AreSomeBelow (length types.now.forms) parameters.now }
-    ensures { result ≡ parameters_compatible (parameters_in (types_of types.now) parameters.now more) (Listed (parameters_of b) false) }
+    ensures { result ≡ parameters_compatible (parameters_in (types_of types.now) parameters.now more) (Listed (built_in_parameters b) false) }
 {
     match parameters {
         None => true,
@@ -64,30 +63,43 @@ fn fit_parameters(
     }
 }
 
-/// Whether the type is compatible with that of a built-in function.
+/// Whether a built-in function may be declared with the type.
 pub(crate) fn fits(types: &TypeTable, b: BuiltIn, of: TypeId) -> bool
     requires { of < length types.now.forms }
     ensures { result ≡ fits_built_in (Some b) (type_at types.now of) }
+{
+    fits_with(types, b, of, result_of_built_in(types, b))
+        || fits_with(types, b, of, types.basic_type(INT))
+}
+
+/// Whether the type is compatible with that of a built-in function that has this result.
+fn fits_with(types: &TypeTable, b: BuiltIn, of: TypeId, own: TypeId) -> bool
+    requires of { of < length types.now.forms }
+    requires own { own < length types.now.forms }
+    ensures { result ≡ compatible (type_at types.now of) (function_type (type_at types.now own) (built_in_parameters b)) }
 {
     let (base, qualifiers) = types.unqualified(of);
     match types.function_of(base) {
         Some((result, parameters, more)) => {
             qualifiers.number() == 0
-                && types.compatible(result, result_of_built_in(types, b))
+                && types.compatible(result, own)
                 && fit_parameters(types, b, parameters, more)
         }
         None => false,
     }
 }
 
-/// Whether the type is a function with another result than a built-in function has.
+/// Whether the type is a function with another result than a built-in function may have.
 pub(crate) fn gives_other(types: &TypeTable, b: BuiltIn, of: TypeId) -> bool
     requires { of < length types.now.forms }
     ensures { result ≡ gives_otherwise (Some b) (type_at types.now of) }
 {
     let (base, _) = types.unqualified(of);
     match types.function_of(base) {
-        Some((result, _, _)) => !types.compatible(result, result_of_built_in(types, b)),
+        Some((result, _, _)) => {
+            !(types.compatible(result, result_of_built_in(types, b))
+                || types.compatible(result, types.basic_type(INT)))
+        }
         None => false,
     }
 }

@@ -197,14 +197,21 @@ missing_from s u found (x ∷ xs) = missing_from s u (if is_nothing_in s u x.0 t
 abbrev pub function_type : CType → CTypes → CType
 function_type result ps = Plain 0 (Function result (Listed ps false))
 
-abbrev pub built_in_type : BuiltIn → CType
-built_in_type built_in.Putchar = function_type (basic Int) (And (basic Int) NoType)
-built_in_type built_in.Getchar = function_type (basic Int) NoType
-built_in_type built_in.Exit = function_type (basic Void) (And (basic Int) NoType)
+abbrev pub built_in_parameters : BuiltIn → CTypes
+built_in_parameters built_in.Putchar = And (basic Int) NoType
+built_in_parameters built_in.Getchar = NoType
+built_in_parameters built_in.Exit = And (basic Int) NoType
 
+-- exit gives nothing, the others an int
+abbrev pub built_in_result : BuiltIn → CType
+built_in_result built_in.Putchar = basic Int
+built_in_result built_in.Getchar = basic Int
+built_in_result built_in.Exit = basic Void
+
+-- a type that a built-in function may be declared with: exit may be declared with the result int too
 abbrev pub fits_built_in : Option BuiltIn → CType → Bool
 fits_built_in None of = true
-fits_built_in (Some b) of = compatible of (built_in_type b)
+fits_built_in (Some b) of = compatible of (function_type (built_in_result b) (built_in_parameters b)) || compatible of (function_type (basic Int) (built_in_parameters b))
 
 -- a declaration of a built-in function that the unit doesn't define, with another type
 abbrev pub is_otherwise : State → Parts → ℕ → CType → Bool
@@ -230,7 +237,7 @@ linked_symbol k = linked_by k.class k.value
 
 abbrev pub gives_otherwise : Option BuiltIn → CType → Bool
 gives_otherwise None of = false
-gives_otherwise (Some b) of = is_function of && not (compatible (result_type of) (result_type (built_in_type b)))
+gives_otherwise (Some b) of = is_function of && not (compatible (result_type of) (built_in_result b) || compatible (result_type of) (basic Int))
 
 abbrev pub is_called_otherwise : State → Parts → Option ℕ → CType → Bool
 is_called_otherwise s u None of = false

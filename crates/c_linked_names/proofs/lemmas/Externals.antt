@@ -6,7 +6,7 @@ use Rattle.c_ast.specs.Levels.{FitsExternal, FitsExternals}
 use Rattle.c_ast.specs.Trees.{ExternalTree, Function, Declares, Empty}
 use Rattle.c_symbols.specs.declared.symbol.Storage.{Storage}
 use Rattle.c_symbols.specs.declared.symbol.Storage.TheVariants as storage
-use Rattle.c_types.specs.CType.{CType, Plain, Array}
+use Rattle.c_types.specs.CType.{CType, Plain, Array, Int, basic}
 use Rattle.c_types.specs.Compatible.{compatible, lengths_fit}
 use Rattle.c_meaning.specs.declared.built_in.BuiltIn.{BuiltIn}
 use Rattle.c_meaning.specs.declared.built_in.BuiltIn.TheVariants as built_in
@@ -21,7 +21,7 @@ use Rattle.c_meaning.specs.Types.{is_function}
 use Rattle.c_tree_names.specs.Names.{AllExternalNames, ExternalNames}
 use Rattle.c_typing_steps.specs.Laws.{StepLaws}
 use Rattle.c_typing_steps.proofs.lemmas.Names.{Implies, each_more_in, stored_more}
-use Rattle.c_units.specs.Ends.{built_in_named, built_in_of, built_in_type, called_from, closed, closed_by, fits_built_in, has_main, is_called_otherwise, is_defined_in, is_link, is_otherwise, least, linked_symbol, missing_at, missing_from, name_of, names_fault, object_uses, function_uses, otherwise_from, tentative, tentative_objects, unit_fault, with_tentative}
+use Rattle.c_units.specs.Ends.{built_in_named, built_in_of, built_in_parameters, built_in_result, called_from, closed, closed_by, fits_built_in, function_type, has_main, is_called_otherwise, is_defined_in, is_link, is_otherwise, least, linked_symbol, missing_at, missing_from, name_of, names_fault, object_uses, function_uses, otherwise_from, tentative, tentative_objects, unit_fault, with_tentative}
 use Rattle.c_units.specs.Externals.{Parts, no_parts, with_declared}
 use Rattle.c_units.specs.Typing.{at_first}
 use Rattle.c_units.specs.UnitsRelation.{TypesExternal, TypesExternals}
@@ -130,10 +130,13 @@ unlinked_name (n ∷ ns) id e = by (n.1 == id) e (unlinked_name ns id)
     by true e k = never e
     by false e k = k e
 
-built_in_function : (b : BuiltIn) → is_function (built_in_type b) ≡ true
-built_in_function built_in.Putchar = refl
-built_in_function built_in.Getchar = refl
-built_in_function built_in.Exit = refl
+-- what fits a built-in function is a function
+built_in_function : (b : BuiltIn) (t : CType) → fits_built_in (Some b) t ≡ true → is_function t ≡ true
+built_in_function b t e = by (compatible t (function_type (built_in_result b) (built_in_parameters b))) (compatible t (function_type (basic Int) (built_in_parameters b))) refl refl e
+  where
+    by : (x y : Bool) → compatible t (function_type (built_in_result b) (built_in_parameters b)) ≡ x → compatible t (function_type (basic Int) (built_in_parameters b)) ≡ y → (x || y) ≡ true → is_function t ≡ true
+    by true y h i e = same_function t (function_type (built_in_result b) (built_in_parameters b)) h
+    by false y h i e = same_function t (function_type (basic Int) (built_in_parameters b)) (i ∙ e)
 
 module _ (types : TypeLaws) where
   -- a tentative definition has a type that is compatible with that of its symbol
@@ -174,11 +177,11 @@ module _ (types : TypeLaws) where
           let d = has_each (IsDeclared s) (λ (d : Linked). is_otherwise s (with_tentative s q) d.symbol d.of ≡ false) q.linked id h g.linked (unit_none s q e) in
           let r : is_otherwise s (with_tentative s q) id d.0.of ≡ false = subst (λ i. is_otherwise s (with_tentative s q) i d.0.of ≡ false) d.1.0 d.1.1.1 in
           let f = fits b (is_defined_in (with_tentative s q) id) (built_in_of s id) d.0.of x y r in
-          subst (λ i. is_function (known_at s i).of ≡ true) d.1.0 (absorbed_function types (known_at s d.0.symbol).of d.0.of d.1.1.0.absorbed ∙ (same_function d.0.of (built_in_type b) f ∙ built_in_function b))
+          subst (λ i. is_function (known_at s i).of ≡ true) d.1.0 (absorbed_function types (known_at s d.0.symbol).of d.0.of d.1.1.0.absorbed ∙ built_in_function b d.0.of f)
         where
-          fits : (b : BuiltIn) (defined : Bool) (o : Option BuiltIn) (t : CType) → defined ≡ false → o ≡ Some b → (not defined && not (fits_built_in o t)) ≡ false → compatible t (built_in_type b) ≡ true
+          fits : (b : BuiltIn) (defined : Bool) (o : Option BuiltIn) (t : CType) → defined ≡ false → o ≡ Some b → (not defined && not (fits_built_in o t)) ≡ false → fits_built_in (Some b) t ≡ true
           fits b true o t x y r = never x
-          fits b false (Some c) t x y r = let z : c ≡ b = cc in subst (λ c. compatible t (built_in_type c) ≡ true) z (not_false _ r)
+          fits b false (Some c) t x y r = let z : c ≡ b = cc in subst (λ c. fits_built_in (Some c) t ≡ true) z (not_false _ r)
           fits b false None t x y r = absurd (let none : ⊥ = cc in none)
 
       by : (b : BuiltIn) → is_defined_in (with_tentative s q) id ≡ false → built_in_of s id ≡ Some b → (l : Bool) → is_link s.links id ≡ l → is_function of ≡ true

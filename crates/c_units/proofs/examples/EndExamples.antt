@@ -1,5 +1,5 @@
 -- Examples of what is told at a unit's end, each with the nearest unit that breaks nothing beside it.
-use Rattle.std.specs.Prelude.{◌≡◌, refl, ℕ, codes, Option, Some, None, [], ◌∷◌, ◌++◌}
+use Rattle.std.specs.Prelude.{◌≡◌, true, false, refl, ℕ, codes, Option, Some, None, [], ◌∷◌, ◌++◌}
 use Rattle.c_ast.specs.declared.specifier.Storage.TheVariants as class
 use Rattle.c_ast.specs.declared.operator.BinaryOperator.TheVariants as binary
 use Rattle.c_ast.specs.Trees.{Variable, Combined, ByExpr, Evaluate, AnExpr, SizedExpr, NoParameters}
@@ -10,7 +10,9 @@ use Rattle.c_meaning.specs.Initialising.{init_fault}
 use Rattle.c_meaning.specs.DeclarationSamples.{of_int, with_class, name, array, open_array, of, is, k, pointer}
 use Rattle.c_units.specs.Statements.{stmt_fault}
 use Rattle.c_units.specs.Definitions.{definition_fault, parameter_fault}
-use Rattle.c_units.specs.Ends.{unit_fault}
+use Rattle.c_meaning.specs.declared.built_in.BuiltIn.TheVariants as built_in
+use Rattle.c_types.specs.CType.{NoType, And, Char, Int, Void, basic}
+use Rattle.c_units.specs.Ends.{fits_built_in, function_type, unit_fault}
 use Rattle.c_units.specs.UnitSamples.{number, void, function, with_body, main, call, use_of, declares, fault}
 
 -- ---- 16: tentative definitions
@@ -74,10 +76,22 @@ built_in_function : fault (main 2 (call 3 (codes "getchar") ∷ []) ∷ []) ≡ 
 unfolding fold fault_at init_fault decl_fault stmt_fault definition_fault parameter_fault unit_fault
 built_in_function = refl
 
--- exit gives nothing, so that a call may not declare it
-exit_undeclared : fault (main 2 (call 3 (codes "exit") ∷ []) ∷ []) ≡ Some (Breaks 52 3)
+-- exit gives nothing, and may be declared as giving an int, also by a call
+exit_undeclared : fault (main 2 (call 3 (codes "exit") ∷ []) ∷ []) ≡ None
 unfolding fold fault_at init_fault decl_fault stmt_fault definition_fault parameter_fault unit_fault
 exit_undeclared = refl
+
+exit_fits : fits_built_in (Some built_in.Exit) (function_type (basic Void) (And (basic Int) NoType)) ≡ true
+exit_fits = refl
+
+exit_with_int : fits_built_in (Some built_in.Exit) (function_type (basic Int) (And (basic Int) NoType)) ≡ true
+exit_with_int = refl
+
+exit_with_char : fits_built_in (Some built_in.Exit) (function_type (basic Char) (And (basic Int) NoType)) ≡ false
+exit_with_char = refl
+
+putchar_of_nothing : fits_built_in (Some built_in.Putchar) (function_type (basic Void) (And (basic Int) NoType)) ≡ false
+putchar_of_nothing = refl
 
 -- int putchar[2]; as another object, which the unit defines; and as one that it doesn't
 built_in_name_defined : fault (declares 1 (of (of_int ∷ []) (array (codes "putchar") 2)) ++ main 2 [] ∷ []) ≡ None
