@@ -1,39 +1,23 @@
 -- What stores come to.
-use Rattle.std.proofs.Common.{◌≡◌, ◌∙◌, ℕ, List, refl, sym, ap}
-use Rattle.std.specs.Prelude.{Result as Checked, Ok, Err, OnOk, IfErr}
+use Rattle.std.proofs.Common.{◌≡◌, ℕ, List, refl, sym, ap}
+use Rattle.std.specs.Prelude.{Result as Checked, Ok, Err}
 use Rattle.std.proofs.lemmas.Bool.{ne_eqb}
 use Rattle.lcc_base.specs.declared.cause.Cause.{Cause}
 use Rattle.lcc_base.specs.declared.order.Order.{Order}
 use Rattle.lcc_base.specs.Traces.{Event}
-use Rattle.objects.specs.declared.byte.Byte.{Byte}
 use Rattle.objects.specs.declared.purpose.Purpose.{Purpose}
-use Rattle.objects.specs.declared.store_fault.StoreFault.{StoreFault}
-use Rattle.objects.specs.declared.store_fault.StoreFault.TheVariants as fault
 use Rattle.objects.specs.declared.value.Value.{Value}
 use Rattle.objects.specs.Accesses.{field_written}
 use Rattle.objects.specs.Objects.{Object, Storage}
-use Rattle.objects.specs.Places.{IsLeft}
 use Rattle.c_runs.specs.Outcomes.{Gives, Ends, Undefined as Undefines, stores}
 use Rattle.c_runs.specs.Worlds.{World as RunWorld}
 use Rattle.c_worlds.specs.declared.stop.Stop.{Stop}
 use Rattle.c_worlds.specs.declared.stop.Stop.TheVariants.{Undefined, Memory}
 use Rattle.c_worlds.specs.declared.world.World.{World}
 use Rattle.c_worlds.specs.Shown.{Gets, shown}
+use Rattle.c_worlds.specs.Stops.{Stores}
 use Rattle.c_acts.specs.declared.spot.Spot.{Spot}
 use Rattle.c_acts.specs.Spots.{bits_of, stored_at}
-use Rattle.c_acts.specs.Stores.{Stores, stop_of}
-
--- storages of the same objects, of which as many were made
-pub same_storage : (a b : Storage) → a.objects ≡ b.objects → a.made ≡ b.made → a ≡ b
-same_storage a b objects made =
-    ap (λ (os : List Object). let s : Storage = record { objects = os; made = a.made } in s) objects
-    ∙ ap (λ (n : ℕ). let s : Storage = record { objects = b.objects; made = n } in s) made
-
-pub store_comes : (wanted : Checked (List Object) Cause) (p : Value) (bytes : List (Byte Value)) (line : ℕ) (old new : Storage) (r : Checked (Unit {0}) StoreFault)
-    → OnOk r (wanted ≡ Ok new.objects) → IfErr r (IsLeft old.objects p bytes wanted new.objects) → new.made ≡ old.made → Stores wanted line old new (stop_of line r)
-store_comes wanted p bytes line old new (Ok u) ok err made = (ok, made)
-store_comes wanted p bytes line old new (Err (fault.Undefined cause)) ok err made = (err.0, (refl, same_storage new old err.1 made))
-store_comes wanted p bytes line old new (Err fault.Memory) ok err made = tt
 
 -- a bit-field is written
 pub bits_stored : (purpose : Purpose) (order : Order) (x : Spot) (v : Value) (os : List Object) (p : Value)

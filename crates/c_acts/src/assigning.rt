@@ -7,17 +7,17 @@ ghost use Rattle.c_runs.specs.Outcomes.{either};
 ghost use Rattle.c_runs.specs.Places.{spot_of};
 ghost use Rattle.c_worlds.specs.Programs.{Calls, known, setting_of, tree};
 ghost use Rattle.c_worlds.specs.Shown.{Gets, StaysBelow};
+ghost use Rattle.c_worlds.specs.Stops.{Stores};
 ghost use Rattle.objects.specs.declared.purpose.Purpose.TheVariants.{Assignment as AsAssignment};
 ghost use Rattle.objects.specs.Accesses.{read_cause};
 ghost use Rattle.objects.specs.Copies.{copied};
-ghost use Rattle.c_acts.specs.Stores.{Stores};
 
 use crate::binary_acts::Parts;
 use crate::reading::kept;
 use crate::spot::Spot;
-use crate::storing::{Writing, store, store_at_line};
+use crate::storing::{Writing, store};
 use c_types::TypeId;
-use c_worlds::{Program, Stop, World, alignment, is_record, size};
+use c_worlds::{Program, Stop, World, alignment, is_record, size, store_at_line};
 use lcc_base::Cause;
 use objects::{Purpose, Storage, Value};
 

@@ -51,7 +51,7 @@ pub fn binary_act(
 }
 
 /// The same of an expression that writes nothing.
-fn combine(
+pub fn combine(
     program: &Program,
     world: &World,
     e: &CoreExpr,

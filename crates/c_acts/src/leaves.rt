@@ -5,7 +5,7 @@ ghost use Rattle.c_runs.specs.Expressions.{row};
 ghost use Rattle.c_runs.specs.Places as places;
 ghost use Rattle.c_worlds.specs.declared.stop.Stop.TheVariants.{Memory};
 ghost use Rattle.c_worlds.specs.declared.world.World.{World as AnyWorld};
-ghost use Rattle.c_acts.specs.BuiltIns.{listed};
+ghost use Rattle.c_worlds.specs.BuiltIns.{numbered_built_ins};
 ghost use Rattle.c_runs.specs.Calls as calls;
 ghost use Rattle.c_worlds.specs.Programs.{Calls, HasNames, known, setting_of, unit_of};
 ghost use Rattle.c_worlds.specs.Shown.{Comes};
@@ -95,7 +95,7 @@ fn built_in_number(program: &Program, b: BuiltIn) -> u32
 
 /// How many built-in functions that the unit doesn't define stand before this one, or in all, if it defines this one.
 fn place_among(names: Names, b: BuiltIn) -> u32
-    ensures is { result ≡ calls.place_among b (listed names) }
+    ensures is { result ≡ calls.place_among b (numbered_built_ins names) }
     ensures few { result ≤ 2 }
 {
     let putchar = if names.putchar { 0 } else { 1 };

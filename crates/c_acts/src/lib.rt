@@ -15,8 +15,10 @@ mod storing;
 mod unary_acts;
 
 pub use asking::asked;
-pub use binary_acts::{Parts, binary_act};
+pub use binary_acts::{Parts, binary_act, combine};
+pub use comparing::truth;
 pub use leaves::leaf;
+pub use reading::read_number;
 pub use shape::Shape;
 pub use spot::Spot;
 pub use storing::{Writing, store};

@@ -1,5 +1,6 @@
 //! What a place holds.
-ghost use Rattle.std.specs.Prelude.{◌≡◌};
+ghost use Rattle.std.specs.Prelude.{◌≡◌, Ok, IfSome};
+ghost use Rattle.objects.specs.declared.value.Value.TheVariants.{Number};
 ghost use Rattle.objects.specs.Accesses as accesses;
 ghost use Rattle.c_acts.specs.Spots.{LiesInUnit, held_at, kept_at};
 ghost use Rattle.c_runs.specs.Places.{held, spot_of};
@@ -24,6 +25,21 @@ pub fn read_place(
 {
     let spot = Spot::of(program.core.types(), place)?;
     at_line(line, read_spot(program.order, spot, storage, p))
+}
+
+/// The number that the place of an expression holds, to which this points, but for a bit-field's; `None` says nothing.
+pub fn read_number(
+    program: &Program,
+    storage: &Storage,
+    place: &CoreExpr,
+    p: Value,
+) -> Option<u32>
+    ensures { IfSome result (λ n. held program.now.order (spot_of (tree program.now place.now)) storage.now.objects p ≡ Ok (Number n)) }
+{
+    match Spot::of(program.core.types(), place) {
+        Ok(spot) if spot.width == 0 => storage.number(program.order, spot.scalar, p),
+        _ => None,
+    }
 }
 
 /// What stands there.

@@ -29,12 +29,29 @@ impl Spot {
     {
         let scalar = scalar(types, place.of);
         match place.what {
-            CoreKind::Member { first, width, .. } => member_spot(scalar, first, width),
+            CoreKind::Member { first, width, .. } => Self::of_member(scalar, first, width),
             _ => Ok(Spot {
                 scalar,
                 first: 0,
                 width: 0,
             }),
+        }
+    }
+
+    /// That of a member whose type has this width and sign. `Memory` as above.
+    pub fn of_member(scalar: Scalar, first: u8, width: u8) -> Result<Self, Stop>
+        ensures is { IfOk result (λ x. x ≡ record { scalar = scalar; first = first; width = width }) }
+        ensures inside { IfOk result LiesInUnit }
+        ensures err { IfErr result (λ stop. stop ≡ Memory) }
+    {
+        if width != 0 && first as u32 + width as u32 > 32 {
+            Err(Stop::Memory)
+        } else {
+            Ok(Spot {
+                scalar,
+                first,
+                width,
+            })
         }
     }
 
@@ -47,22 +64,5 @@ impl Spot {
             width: self.width,
             signed: self.scalar.signed,
         }
-    }
-}
-
-/// That of a member.
-fn member_spot(scalar: Scalar, first: u8, width: u8) -> Result<Spot, Stop>
-    ensures is { IfOk result (λ x. x ≡ record { scalar = scalar; first = first; width = width }) }
-    ensures inside { IfOk result LiesInUnit }
-    ensures err { IfErr result (λ stop. stop ≡ Memory) }
-{
-    if width != 0 && first as u32 + width as u32 > 32 {
-        Err(Stop::Memory)
-    } else {
-        Ok(Spot {
-            scalar,
-            first,
-            width,
-        })
     }
 }

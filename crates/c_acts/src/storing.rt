@@ -1,12 +1,11 @@
 //! What is written at a place.
-ghost use Rattle.std.specs.Prelude.{◌≡◌};
 ghost use Rattle.c_acts.specs.Spots.{LiesInUnit, stored_at};
-ghost use Rattle.c_acts.specs.Stores.{Stores, stop_of};
+ghost use Rattle.c_worlds.specs.Stops.{Stores};
 
 use crate::spot::Spot;
-use c_worlds::Stop;
+use c_worlds::{Stop, store_at_line};
 use lcc_base::Order;
-use objects::{Purpose, Storage, StoreFault, Value};
+use objects::{Purpose, Storage, Value};
 
 /// For what something is written, in which order of bytes, and at which line.
 #[derive(Clone, Copy)]
@@ -39,16 +38,5 @@ pub fn store(
             how.line,
             storage.write_field(how.purpose, how.order, spot.field(), value, p),
         )
-    }
-}
-
-/// What came of a store, with the line for its cause.
-pub fn store_at_line(line: u32, written: Result<(), StoreFault>) -> Result<(), Stop>
-    ensures { result ≡ stop_of line written }
-{
-    match written {
-        Ok(()) => Ok(()),
-        Err(StoreFault::Undefined(cause)) => Err(Stop::Undefined(cause, line)),
-        Err(StoreFault::Memory) => Err(Stop::Memory),
     }
 }

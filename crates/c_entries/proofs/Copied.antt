@@ -1,18 +1,14 @@
 -- A structure is copied: its source's causes come first.
 use Rattle.std.proofs.Common.{◌≡◌, ℕ, List, refl, sym, ap, ◌∙◌}
-use Rattle.std.specs.Prelude.{Option, Some, None, Result as Checked, Ok, Err, IfErr, slice_get}
+use Rattle.std.specs.Prelude.{Option, Some, None, Result as Checked, Ok, Err, slice_get}
 use Rattle.lcc_base.specs.declared.cause.Cause.{Cause}
 use Rattle.lcc_base.specs.Traces.{Event}
-use Rattle.objects.specs.declared.byte.Byte.{Byte}
 use Rattle.objects.specs.declared.purpose.Purpose.{Purpose}
 use Rattle.objects.specs.declared.purpose.Purpose.TheVariants.{Initialisation}
-use Rattle.objects.specs.declared.store_fault.StoreFault.{StoreFault}
-use Rattle.objects.specs.declared.store_fault.StoreFault.TheVariants.{Undefined as NotStored}
 use Rattle.objects.specs.declared.value.Value.{Value}
 use Rattle.objects.specs.Accesses.{read_cause}
 use Rattle.objects.specs.Copies.{copied}
 use Rattle.objects.specs.Objects.{Object, Storage}
-use Rattle.objects.specs.Places.{IsLeft}
 use Rattle.c_types.specs.CType.{CType}
 use Rattle.c_types.specs.Layout.{Tag}
 use Rattle.c_types.specs.Table.{Table, tags as tags_of, type_at}
@@ -29,6 +25,7 @@ use Rattle.c_worlds.specs.declared.stop.Stop.TheVariants.{Memory, Undefined}
 use Rattle.c_worlds.specs.declared.world.World.{World}
 use Rattle.c_worlds.specs.Programs.{known, setting_of, tree, unit_of}
 use Rattle.c_worlds.specs.Shown.{giving, shown}
+use Rattle.c_worlds.specs.Stops.{Stores}
 
 -- where it is copied, its source can be read
 pub source_fine : (purpose : Purpose) (tags : List Tag) (of : CType) (os new : List Object) (from to : Value) → assigned purpose tags of os from to ≡ Ok new → source tags of os from ≡ Ok from
@@ -50,22 +47,20 @@ source_first purpose tags of os from to cause line w go e = by_cause (read_cause
 -- ---- the storage's copy
 
 pub by_sizes : (p : Program) (of size align : ℕ) (ts : Table) → ts ≡ p.core.now.types → size ≡ size_of (tags_of ts) (type_at ts of) → align ≡ align_of (tags_of ts) (type_at ts of)
-    → (os : List Object) (from to : Value) (r : Checked (List Object) Cause) → copied Initialisation os from to size align ≡ r → with_copy p of os from to ≡ r
-by_sizes p of size align ts e f g os from to r h = rw (f, g, e) at h
+    → (os : List Object) (from to : Value) → copied Initialisation os from to size align ≡ with_copy p of os from to
+by_sizes p of size align ts e f g os from to = rw (f, g, e) refl
 
--- where it isn't copied, nothing has changed
-pub undefined_left : (old new : List Object) (to : Value) (bytes : List (Byte Value)) (wanted : Checked (List Object) Cause) (r : Checked (Unit {0}) StoreFault) (f : StoreFault) (cause : Cause) → r ≡ Err f → f ≡ NotStored cause → IfErr r (IsLeft old to bytes wanted new)
-    → (wanted ≡ Err cause) × (new ≡ old)
-undefined_left old new to bytes wanted r f cause e g h = rw (e, g) at h
-
-abbrev world_with : World → Storage → World
+abbrev pub world_with : World → Storage → World
 world_with w s = record { storage = s; locals = w.locals; input = w.input; output = w.output }
 
-pub with_storage : (w : World) (s : Storage) → s.made ≡ w.storage.made → (t : List Event) → shown (world_with w s) t ≡ with_objects (shown w t) s.objects
+with_storage : (w : World) (s : Storage) → s.made ≡ w.storage.made → (t : List Event) → shown (world_with w s) t ≡ with_objects (shown w t) s.objects
 with_storage w s e t = rw (← e) refl
 
-pub same_storage : (w : World) (s : Storage) → s.objects ≡ w.storage.objects → s.made ≡ w.storage.made → (t : List Event) → shown (world_with w s) t ≡ shown w t
-same_storage w s e f t = with_storage w s f t ∙ ap (λ (os : List Object). with_objects (shown w t) os) e
+-- what a store into the world's storage comes to
+pub stored_becomes : (wanted : Checked (List Object) Cause) (line : ℕ) (w : World) (s : Storage) (r : Checked (Unit {0}) Stop) → Stores wanted line w.storage s r → Becomes wanted line w (world_with w s) r
+stored_becomes wanted line w s (Ok u) h = (s.objects, (h.0, with_storage w s h.1))
+stored_becomes wanted line w s (Err (Undefined cause at)) h = (h.0, (h.1.0, λ t. ap (λ (x : Storage). shown (world_with w x) t) h.1.1))
+stored_becomes wanted line w s (Err Memory) h = tt
 
 -- ---- arguments
 

@@ -2,7 +2,8 @@
 ghost use Rattle.std.specs.Prelude.{◌≡◌, None, slice_get};
 ghost use Rattle.objects.specs.declared.value.Value.TheVariants as Value;
 ghost use Rattle.c_runs.specs.Calls.{function_at};
-ghost use Rattle.c_entries.specs.Callees.{Calls, numbered_built_ins};
+ghost use Rattle.c_entries.specs.Callees.{Calls};
+ghost use Rattle.c_worlds.specs.BuiltIns.{numbered_built_ins};
 ghost use Rattle.c_worlds.specs.Programs.{HasNames, unit_of};
 
 use c_meaning::{BuiltIn, CoreFunction};

@@ -5,9 +5,9 @@ ghost use Rattle.c_worlds.specs.Shown.{StaysBelow};
 
 use c_meaning::CoreExpr;
 use c_types::TypeId;
-use c_worlds::{Program, Stop, World, alignment, size};
+use c_worlds::{Program, Stop, World, alignment, size, store_at_line};
 use lcc_base::Cause;
-use objects::{Purpose, StoreFault, Value};
+use objects::{Purpose, Value};
 
 /// Copies the structure that an argument is to the running call's local n, and gives the copy. `Undefined` comes at the
 /// argument's line.
@@ -43,14 +43,11 @@ pub(crate) fn copy_structure(
     ensures stays { StaysBelow world.old world.new }
 {
     let types = program.core.types();
-    let size = size(types, of);
-    let alignment = alignment(types, of);
-    match world
-        .storage
-        .copy(Purpose::Initialisation, from, to, size, alignment)
-    {
-        Ok(()) => Ok(()),
-        Err(StoreFault::Undefined(cause)) => Err(Stop::Undefined(cause, line)),
-        Err(StoreFault::Memory) => Err(Stop::Memory),
-    }
+    let (size, alignment) = (size(types, of), alignment(types, of));
+    store_at_line(
+        line,
+        world
+            .storage
+            .copy(Purpose::Initialisation, from, to, size, alignment),
+    )
 }

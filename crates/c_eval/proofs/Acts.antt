@@ -1,6 +1,6 @@
 -- What an evaluation that calls nothing comes to, and how the run goes on from there.
 use Rattle.std.proofs.Common.{◌≡◌, ℕ, List, ◌∷◌, refl, sym, ap, ◌∙◌, subst}
-use Rattle.std.specs.Prelude.{Option, Some, None, Result as Checked, Ok, Err, IfOk}
+use Rattle.std.specs.Prelude.{Option, Some, None, Result as Checked, Ok, Err, IfOk, IfSome}
 use Rattle.lcc_base.specs.declared.memory.Memory.{Memory as NoMemory}
 use Rattle.lcc_base.specs.Traces.{Event}
 use Rattle.objects.specs.declared.value.Value.{Value}
@@ -9,7 +9,7 @@ use Rattle.c_meaning.specs.declared.filled_place.FilledPlace.{FilledPlace}
 use Rattle.c_meaning.specs.CoreTrees.{CoreOf}
 use Rattle.c_runs.specs.Calls.{Setting}
 use Rattle.c_runs.specs.Expressions.{eval, test}
-use Rattle.c_runs.specs.Outcomes.{How, Undefined as Undefines, Result, Ends, Out, Over, then_drop, then_go}
+use Rattle.c_runs.specs.Outcomes.{How, Undefined as Undefines, Result, Ends, Out, Next, Over, then_drop, then_go}
 use Rattle.c_runs.specs.Run.{context}
 use Rattle.c_runs.specs.Statements.{fill}
 use Rattle.c_runs.specs.Worlds.{World as RunWorld}
@@ -19,6 +19,7 @@ use Rattle.c_worlds.specs.declared.stop.Stop.TheVariants.{Undefined, Memory}
 use Rattle.c_worlds.specs.declared.world.World.{World}
 use Rattle.c_worlds.specs.Programs.{Calls, setting_of, tree}
 use Rattle.c_worlds.specs.Shown.{Comes, Gets, Goes, gave, shown}
+use Rattle.c_plain.specs.AtOnce.{DoneAtOnce, dropped}
 use Rattle.c_eval.specs.declared.focus.Focus.{Focus}
 use Rattle.c_eval.specs.declared.frame.Frame.{Frame}
 use Rattle.c_eval.specs.declared.machine.Machine.{Machine}
@@ -47,6 +48,34 @@ gets_own p c old new r h = subst (λ (s : Setting). Gets (λ k w. test s (tree p
 pub goes_own : (p : Program) (base : Value) (ps : List FilledPlace) (old new : World) (r : Checked (Unit {0}) Stop)
     → ((calls : Calls) → Goes (λ k w. fill (setting_of p calls) base (seen_places p ps) k w) old new r) → Goes (λ k w. fill (own p) base (seen_places p ps) k w) old new r
 goes_own p base ps old new r h = subst (λ (s : Setting). Goes (λ k w. fill s base (seen_places p ps) k w) old new r) (own_is p) (h (own p).calls)
+
+-- what holds in each setting does in the program's own
+pub in_own : (p : Program) (P : Setting → Type 0) → ((calls : Calls) → P (setting_of p calls)) → P (own p)
+in_own p P h = subst P (own_is p) (h (own p).calls)
+
+-- ---- what is done at once
+
+value_in : (given : Checked (Option Value) Stop) (u : Unit {0}) → dropped given ≡ Ok u → (v : Option Value) × (given ≡ Ok v)
+value_in (Ok v) u e = (v, refl)
+value_in (Err stop) u e = absurd cc
+
+abbrev stop_in : Checked (Unit {0}) Stop → Stop
+stop_in (Ok u) = Memory
+stop_in (Err stop) = stop
+
+stop_is : (given : Checked (Option Value) Stop) (stop : Stop) → dropped given ≡ Err stop → given ≡ Err stop
+stop_is (Ok v) stop e = absurd cc
+stop_is (Err s) stop e = let i : s ≡ stop = ap stop_in e in ap (λ (x : Stop). let r : Checked (Option Value) Stop = Err x in r) i
+
+pub effect_comes : (p : Program) (c : CoreOf ℕ) (old new : World) (u : Unit {0}) → DoneAtOnce p old new c (Ok u)
+    → (v : Option Value) × Comes (λ k w. eval (own p) (tree p c) k w) old new (Ok v)
+effect_comes p c old new u d =
+    let i = value_in d.0 u d.1.0 in
+    (i.0, comes_own p c old new (Ok i.0) (λ calls. subst (λ r. Comes (λ k w. eval (setting_of p calls) (tree p c) k w) old new r) i.1 (d.1.1 calls)))
+
+pub effect_stops : (p : Program) (c : CoreOf ℕ) (old new : World) (stop : Stop) → DoneAtOnce p old new c (Err stop)
+    → (calls : Calls) → Comes (λ k w. eval (setting_of p calls) (tree p c) k w) old new (Err stop)
+effect_stops p c old new stop d calls = subst (λ r. Comes (λ k w. eval (setting_of p calls) (tree p c) k w) old new r) (stop_is d.0 stop d.1.0) (d.1.1 calls)
 
 -- ---- ends
 
@@ -118,6 +147,21 @@ gave_on (Some v) k w go = refl
 pub gave_off : (v : Option Value) (k : ℕ) (w : RunWorld) (go : ℕ → RunWorld → Result) → then_drop (gave v k w) go ≡ go k w
 gave_off None k w go = refl
 gave_off (Some v) k w go = refl
+
+goes_by : (does : ℕ → RunWorld → Result) (old new : World) (given : Checked (Option Value) Stop) → Comes does old new given → Goes (λ k w. then_go (does k w) (λ k1 w1. Next k1 w1)) old new (dropped given)
+goes_by does old new (Ok v) c = λ k t. ap (λ r. then_go r (λ k1 w1. Next k1 w1)) (c k t) ∙ gave_on v k (shown new t) (λ k1 w1. Next k1 w1)
+goes_by does old new (Err (Undefined cause line)) c = λ k t. ap (λ r. then_go r (λ k1 w1. Next k1 w1)) (c k t)
+goes_by does old new (Err Memory) c = tt
+
+pub effect_goes : (p : Program) (c : CoreOf ℕ) (old new : World) (r : Checked (Unit {0}) Stop) → DoneAtOnce p old new c r
+    → (calls : Calls) → Goes (λ k w. then_go (eval (setting_of p calls) (tree p c) k w) (λ k1 w1. Next k1 w1)) old new r
+effect_goes p c old new r d calls =
+    subst (λ x. Goes (λ k w. then_go (eval (setting_of p calls) (tree p c) k w) (λ k1 w1. Next k1 w1)) old new x) d.1.0
+    (goes_by (λ k w. eval (setting_of p calls) (tree p c) k w) old new d.0 (d.1.1 calls))
+
+pub if_some : {A : Type 0} (P Q : A → Type 0) (r : Option A) → IfSome r P → ((x : A) → P x → Q x) → IfSome r Q
+if_some P Q (Some x) h f = f x h
+if_some P Q None h f = tt
 
 -- ---- frames that come or go
 

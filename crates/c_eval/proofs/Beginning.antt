@@ -1,5 +1,5 @@
 -- Runs that begin, and how they end.
-use Rattle.std.specs.Prelude.{◌≡◌, ◌<◌, ◌≤◌, ℕ, zero, suc, ◌+◌, ◌==◌, Bool, true, false, Option, Some, None, List, [], ◌∷◌, ◌++◌, slice_get, Result as Checked, Ok, Err, IfOk, refl}
+use Rattle.std.specs.Prelude.{◌≡◌, ◌≤◌, ℕ, zero, suc, ◌==◌, Bool, true, false, Option, Some, None, List, [], ◌∷◌, ◌++◌, slice_get, Result as Checked, Ok, Err, IfOk, refl}
 use Rattle.std.proofs.Common.{sym, ap, ◌∙◌, subst, arith}
 use Rattle.std.proofs.lemmas.Bool.Decides.{nat_tests}
 use Rattle.lcc_base.specs.declared.cause.Cause.{Cause}
@@ -22,14 +22,13 @@ use Rattle.c_worlds.specs.declared.program.Program.{Program}
 use Rattle.c_worlds.specs.declared.stop.Stop.TheVariants.{Undefined}
 use Rattle.c_worlds.specs.declared.world.World.{World}
 use Rattle.c_worlds.specs.OpenLocals.{all_locals}
-use Rattle.c_worlds.specs.Programs.{Calls, setting_of, unit_of}
+use Rattle.c_worlds.specs.Programs.{unit_of}
 use Rattle.c_worlds.specs.Shown.{shown}
 use Rattle.c_eval.specs.declared.evaluating.Outcome.{Outcome}
 use Rattle.c_eval.specs.declared.focus.Focus.{Focus}
 use Rattle.c_eval.specs.declared.focus.Focus.TheVariants as at
 use Rattle.c_eval.specs.declared.how.How.{How}
 use Rattle.c_eval.specs.declared.how.How.TheVariants as how
-use Rattle.c_eval.specs.declared.frame.Frame.{Frame}
 use Rattle.c_eval.specs.declared.machine.Machine.{Machine}
 use Rattle.c_eval.specs.Begins.{Begins}
 use Rattle.c_eval.specs.Ends.{Final, OfStatement, ended, final, final_of, how_of}

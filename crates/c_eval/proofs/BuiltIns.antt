@@ -1,5 +1,5 @@
 -- Calls of built-in functions.
-use Rattle.std.specs.Prelude.{◌≡◌, ◌≤◌, ◌-◌, ℕ, true, List, Option, Some, None, Result as Checked, Ok, Err, refl}
+use Rattle.std.specs.Prelude.{◌≡◌, ◌≤◌, ◌-◌, ℕ, true, List, Some, None, Ok, Err, refl}
 use Rattle.std.proofs.Common.{sym, ap, ◌∙◌}
 use Rattle.lcc_base.specs.Traces.{Event, output_of}
 use Rattle.objects.specs.declared.value.Value.{Value}

@@ -1,14 +1,12 @@
 -- Calls that are made, and those that wait.
-use Rattle.std.specs.Prelude.{◌≡◌, ℕ, zero, suc, ◌+◌, Bool, true, false, Option, Some, None, List, [], ◌∷◌, ◌++◌, length, take, drop, replicate, map, reverse, slice_get, refl}
-use Rattle.std.proofs.Common.{sym, ap, ◌∙◌, arith}
+use Rattle.std.specs.Prelude.{◌≡◌, ℕ, zero, suc, Option, Some, None, List, [], ◌∷◌, ◌++◌, length, replicate, map, reverse, refl}
+use Rattle.std.proofs.Common.{sym, ap, ◌∙◌}
 use Rattle.std.proofs.lemmas.List.{reverse-append}
 use Rattle.lcc_base.specs.Traces.{Event, Wrote, Opened, Closed, output_of}
 use Rattle.objects.specs.declared.value.Value.{Value}
 use Rattle.c_types.specs.CType.{CType}
 use Rattle.c_types.specs.Layout.{Tag}
-use Rattle.c_meaning.specs.Units.{FunctionTree}
 use Rattle.c_runs.specs.Calls.{Argument, Call, returned, handed}
-use Rattle.c_runs.specs.Expressions.{result_place}
 use Rattle.c_runs.specs.Locals.{made_call}
 use Rattle.c_runs.specs.Outcomes.{Out, Next, Break, Continue, Return, Goto, Over}
 use Rattle.c_runs.specs.Worlds.{World, left_behind}

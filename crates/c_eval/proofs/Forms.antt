@@ -8,7 +8,7 @@ use Rattle.c_meaning.specs.declared.core_stmt.CoreCase.{CoreCase}
 use Rattle.c_meaning.specs.declared.core_stmt.CoreStmt.{CoreStmt, CoreStmt-F, fold-roll-CoreStmt}
 use Rattle.c_meaning.specs.declared.core_stmt.CoreStmt.TheVariants as stmt
 use Rattle.c_meaning.specs.declared.filled_place.FilledPlace.{FilledPlace}
-use Rattle.c_meaning.specs.StmtTrees.{StmtOf, Block, Initialise, If, While, For, Switch, Stmts, filled_of, stmt_layer, stmt_of, stmts_of}
+use Rattle.c_meaning.specs.StmtTrees.{StmtOf, Expression, Block, Initialise, If, While, For, Switch, Stmts, filled_of, stmt_layer, stmt_of, stmts_of}
 use Rattle.c_worlds.specs.declared.program.Program.{Program}
 use Rattle.c_worlds.specs.Programs.{place_tree, stmt_trees}
 use Rattle.c_eval.specs.Stacks.{statements, statement}
@@ -39,6 +39,9 @@ is_if e s u = ap stmt_of (sym (stmt.rolls-If e s u)) ∙ fold-roll-CoreStmt (Stm
 
 pub is_while : (e : CoreOf ℕ) (s : Box CoreStmt) → stmt_of (stmt.While e s) ≡ While e (stmt_of s.value)
 is_while e s = ap stmt_of (sym (stmt.rolls-While e s)) ∙ fold-roll-CoreStmt (StmtOf ℕ) stmt_layer (CoreStmt-F.While e s)
+
+pub is_expression : (e : CoreOf ℕ) → stmt_of (stmt.Expression e) ≡ Expression e
+is_expression e = ap stmt_of (sym (stmt.rolls-Expression e)) ∙ fold-roll-CoreStmt (StmtOf ℕ) stmt_layer (CoreStmt-F.Expression e)
 
 pub is_for : (x y z : Option (CoreOf ℕ)) (s : Box CoreStmt) → stmt_of (stmt.For x y z s) ≡ For x y z (stmt_of s.value)
 is_for x y z s = ap stmt_of (sym (stmt.rolls-For x y z s)) ∙ fold-roll-CoreStmt (StmtOf ℕ) stmt_layer (CoreStmt-F.For x y z s)

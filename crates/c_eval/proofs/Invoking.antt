@@ -1,6 +1,6 @@
 -- Functions that are called, and bodies that begin.
-use Rattle.std.specs.Prelude.{◌≡◌, ◌≤◌, ◌-◌, ℕ, zero, suc, ◌+◌, Bool, true, false, Option, Some, None, List, [], ◌∷◌, ◌++◌, length, take, drop, map, Result as Checked, Ok, Err, IfOk, refl}
-use Rattle.std.proofs.Common.{sym, ap, ◌∙◌, arith}
+use Rattle.std.specs.Prelude.{◌≡◌, ◌≤◌, ◌-◌, ℕ, suc, true, false, Some, None, List, [], ◌∷◌, ◌++◌, length, take, drop, Result as Checked, Ok, Err, IfOk, refl}
+use Rattle.std.proofs.Common.{sym, ap, ◌∙◌}
 use Rattle.std.specs.Borrow.{Bor}
 use Rattle.lcc_base.specs.declared.cause.Cause.TheVariants.{CallMismatch, Outside}
 use Rattle.lcc_base.specs.Traces.{Event, Opened, output_of}
@@ -13,11 +13,11 @@ use Rattle.c_meaning.specs.declared.core_unit.CoreFunction.{CoreFunction}
 use Rattle.c_meaning.specs.CoreTrees.{line_of, type_of}
 use Rattle.c_meaning.specs.Units.{FunctionTree, function_seen}
 use Rattle.objects.specs.declared.value.Value.TheVariants.{Number, Pointer, Function as FunctionValue}
-use Rattle.c_runs.specs.Calls.{Argument, Call, built_in_at, built_in_fits, called_by, function_at, opened, provided, returned}
+use Rattle.c_runs.specs.Calls.{Argument, built_in_at, built_in_fits, called_by, function_at, opened, provided, returned}
 use Rattle.c_runs.specs.Laws.{CallIs}
 use Rattle.c_runs.specs.Locals.{made_call}
 use Rattle.c_runs.specs.Expressions.{call_by}
-use Rattle.c_runs.specs.Outcomes.{Result, Undefined as Undefines, OutOfTurns, Ends, Over, either, spend, undefined}
+use Rattle.c_runs.specs.Outcomes.{Result, Undefined as Undefines, OutOfTurns, Ends, either, spend, undefined}
 use Rattle.c_runs.specs.Run.{body_run, context, function_run}
 use Rattle.c_runs.specs.Statements.{Start, exec}
 use Rattle.c_runs.specs.Worlds.{World as RunWorld}

@@ -1,12 +1,11 @@
 -- Steps behind steps.
-use Rattle.std.specs.Prelude.{◌≡◌, ◌≤◌, ℕ, ◌+◌, List, refl}
-use Rattle.std.proofs.Common.{sym, ap, ◌∙◌, arith}
-use Rattle.lcc_base.specs.Traces.{Event, output_of}
+use Rattle.std.specs.Prelude.{◌≤◌, refl}
+use Rattle.std.proofs.Common.{sym, ◌∙◌, arith}
 use Rattle.c_worlds.specs.declared.program.Program.{Program}
 use Rattle.c_eval.specs.declared.focus.Focus.{Focus}
 use Rattle.c_eval.specs.declared.focus.Focus.TheVariants as at
 use Rattle.c_eval.specs.declared.machine.Machine.{Machine}
-use Rattle.c_eval.specs.Steps.{IsQuiet, Leads, Same, state_of}
+use Rattle.c_eval.specs.Steps.{IsQuiet, Leads, Same}
 use Rattle.c_eval.specs.Weights.{going}
 
 pub leads_nowhere : (p : Program) (m : Machine) (a : Focus) → Leads p m a m a

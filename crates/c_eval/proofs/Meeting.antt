@@ -13,7 +13,7 @@ use Rattle.c_worlds.specs.declared.stop.Stop.{Stop}
 use Rattle.c_worlds.specs.declared.stop.Stop.TheVariants.{Undefined, Memory}
 use Rattle.c_worlds.specs.declared.world.World.{World}
 use Rattle.c_worlds.specs.Programs.{Calls, setting_of}
-use Rattle.c_worlds.specs.Shown.{Comes, Gets, Goes, gave, shown}
+use Rattle.c_worlds.specs.Shown.{Comes, Gets, Goes, shown}
 use Rattle.c_eval.specs.declared.focus.Focus.{Focus}
 use Rattle.c_eval.specs.declared.focus.Focus.TheVariants as at
 use Rattle.c_eval.specs.declared.frame.Frame.{Frame}

@@ -1,6 +1,6 @@
 -- The end of a run passes through all that is left to do.
-use Rattle.std.specs.Prelude.{◌≡◌, ℕ, Option, Some, None, List, [], ◌∷◌, refl}
-use Rattle.std.proofs.Common.{sym, ap, ◌∙◌}
+use Rattle.std.specs.Prelude.{◌≡◌, ℕ, Some, None, List, [], ◌∷◌, refl}
+use Rattle.std.proofs.Common.{ap, ◌∙◌}
 use Rattle.lcc_base.specs.Traces.{output_of}
 use Rattle.objects.specs.declared.value.Value.{Value}
 use Rattle.c_acts.specs.declared.shape.Shape.{Shape}
@@ -19,9 +19,9 @@ use Rattle.c_worlds.specs.declared.program.Program.{Program}
 use Rattle.c_worlds.specs.Programs.{tree, trees}
 use Rattle.c_eval.specs.declared.frame.Frame.{Frame}
 use Rattle.c_eval.specs.declared.frame.Frame.TheVariants as on
-use Rattle.c_eval.specs.Ends.{OfExpression, OfStatement, final, ended}
-use Rattle.c_eval.specs.Loops.{tested_of, repeated_by, repeated_after}
-use Rattle.c_eval.specs.Stacks.{first_by, second_by, right_from, arguments_from, switched_from, filled_from, plug, statement}
+use Rattle.c_eval.specs.Ends.{OfExpression, OfStatement, final}
+use Rattle.c_eval.specs.Loops.{tested_of, repeated_by}
+use Rattle.c_eval.specs.Stacks.{first_by, second_by, right_from, arguments_from, switched_from, filled_from, statement}
 use Rattle.c_eval.specs.States.{ends, own}
 
 first_ends : (s : Setting) (shape : Shape) (c : CoreTree) (how : How) (w : World) → first_by s shape c (Ends how w) ≡ Ends how w

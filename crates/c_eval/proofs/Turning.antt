@@ -1,6 +1,6 @@
 -- Turns that are spent by loops and gotos.
-use Rattle.std.specs.Prelude.{◌≡◌, ◌≤◌, ℕ, zero, suc, ◌+◌, ◌-◌, Bool, true, false, Option, Some, None, List, [], ◌∷◌, Result as Checked, Ok, Err, refl}
-use Rattle.std.proofs.Common.{sym, ap, ◌∙◌, arith, subst}
+use Rattle.std.specs.Prelude.{◌≡◌, ◌≤◌, ℕ, zero, suc, ◌-◌, Bool, true, false, Option, Some, None, List, ◌∷◌, Result as Checked, Ok, Err}
+use Rattle.std.proofs.Common.{sym, ap, ◌∙◌, arith}
 use Rattle.std.specs.Borrow.{Bor}
 use Rattle.lcc_base.specs.declared.cause.Cause.{Cause}
 use Rattle.lcc_base.specs.Traces.{output_of}

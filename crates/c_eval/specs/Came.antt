@@ -1,7 +1,7 @@
 -- What is under way behind an evaluation: its value, or none, or the end of the run.
 use Rattle.std.specs.Prelude.{◌≡◌, ℕ, Bool, Option, Some, None, Result as Checked, Ok, Err}
 use Rattle.objects.specs.declared.value.Value.{Value}
-use Rattle.c_runs.specs.Outcomes.{Result, Gives, GivesNone, Ends, truth}
+use Rattle.c_runs.specs.Outcomes.{Result, GivesNone, Ends, truth}
 use Rattle.c_runs.specs.Worlds.{World}
 use Rattle.c_worlds.specs.declared.stop.Stop.{Stop}
 use Rattle.c_worlds.specs.declared.stop.Stop.TheVariants as stop

@@ -4,7 +4,6 @@ use Rattle.lcc_base.specs.Traces.{output_of}
 use Rattle.lcc_base.specs.declared.cause.Cause.TheVariants.{Outside}
 use Rattle.c_runs.specs.Outcomes.{How as RunHow, Undefined as RunUndefined, OutOfTurns as RunOutOfTurns, Exit as RunExit, Result, Gives, GivesNone, Ends, Out}
 use Rattle.c_runs.specs.Run.{Ending, ended_by}
-use Rattle.c_runs.specs.Worlds.{World as RunWorld}
 use Rattle.c_eval.specs.declared.how.How.{How}
 use Rattle.c_eval.specs.declared.how.How.TheVariants.{Undefined, OutOfTurns, Exit}
 

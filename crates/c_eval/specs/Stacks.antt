@@ -3,8 +3,6 @@ use Rattle.std.specs.Prelude.{ℕ, pos, false, Option, Some, None, List, [], ◌
 use Rattle.objects.specs.declared.value.Value.{Value}
 use Rattle.objects.specs.Pointers.{place_after}
 use Rattle.c_types.specs.CType.{CType}
-use Rattle.c_types.specs.Layout.{Tag}
-use Rattle.c_meaning.specs.declared.filled_place.FilledPlace.{FilledPlace}
 use Rattle.c_meaning.specs.declared.core_stmt.CoreStmt.{CoreStmt as StmtValue}
 use Rattle.c_acts.specs.declared.shape.Shape.{Shape}
 use Rattle.c_acts.specs.declared.shape.Shape.TheVariants.{Dropped, Unary, Binary, Logical, Conditional, Call as Calls}
@@ -15,8 +13,8 @@ use Rattle.c_meaning.specs.StmtTrees as stmt
 use Rattle.c_meaning.specs.Values.{CoreTree, CoreTrees}
 use Rattle.c_filling.specs.Filled.{seen_places}
 use Rattle.c_runs.specs.Calls.{Argument, Call, Setting, returned}
-use Rattle.c_runs.specs.Expressions.{Part, argument, arguments, asked, call_by, comma_from, parts_of, result_place, row}
-use Rattle.c_runs.specs.Outcomes.{Result, Gives, GivesNone, Out, Next, Return, stray, then_give, then_drop, then_do, then_go, then_next, looped, switched, catch, branch, if_done}
+use Rattle.c_runs.specs.Expressions.{Part, argument, arguments, call_by, comma_from, parts_of, result_place, row}
+use Rattle.c_runs.specs.Outcomes.{Result, Gives, GivesNone, Out, Next, Return, stray, then_give, then_drop, then_do, then_go, then_next, switched, catch, branch, if_done}
 use Rattle.c_runs.specs.Statements.{Start, At, exec, exec_all, any_has, jump, fill, filled, switch_on}
 use Rattle.c_runs.specs.Worlds.{World, objects, with_objects}
 use Rattle.c_worlds.specs.declared.program.Program.{Program}

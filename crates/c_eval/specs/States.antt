@@ -1,5 +1,5 @@
 -- What comes of a run from what is under way.
-use Rattle.std.specs.Prelude.{ℕ, Option, List}
+use Rattle.std.specs.Prelude.{ℕ, List}
 use Rattle.lcc_base.specs.Traces.{output_of}
 use Rattle.objects.specs.declared.value.Value.{Value}
 use Rattle.c_filling.specs.Filled.{seen_places}

@@ -47,7 +47,8 @@ pub enum Outcome {
 }
 
 /// Runs a program with this input and so many turns: a repetition of a loop, a goto and a call each spend one. What
-/// objects hold is in this order of bytes. `Memory` comes where an allocation was refused.
+/// objects hold is in this order of bytes. `Memory` comes where an allocation was refused; of a unit that no source has,
+/// also where a place or a size takes more than 32 bits.
 pub fn evaluate(
     alloc: Global,
     core: &Core,

@@ -28,7 +28,7 @@ use crate::how::How;
 use crate::machine::Machine;
 use c_acts::{Parts, asked, binary_act, leaf, unary_act};
 use c_meaning::CoreExpr;
-use c_plain::{is_plain, plain_value};
+use c_plain::value_at_once;
 use c_worlds::{Program, Stop, World};
 use lcc_base::{Cause, Memory};
 use objects::Value;
@@ -87,9 +87,19 @@ impl<'a> Machine<'a> {
         ensures quiet { IfOk result (λ _. IsQuiet self.old self.new) }
         ensures less { IfOk result (λ focus. IsBelow (1 + weight_e e.now) self.old self.new focus) }
     {
-        if is_plain(e) {
-            return came(plain_value(program, &mut self.world, e));
+        match value_at_once(program, &mut self.world, e) {
+            Some(given) => came(given),
+            None => self.eval_parts(program, e),
         }
+    }
+
+    /// An expression is evaluated part by part.
+    fn eval_parts(&mut self, program: &Program<'a>, e: &'a CoreExpr) -> Result<Focus<'a>, Memory>
+        requires { HasNames program.now }
+        ensures same { IfOk result (λ focus. Meets program.now self.old (λ k w. OfExpression (eval (own program.now) (tree program.now e.now) k w)) self.new focus) }
+        ensures quiet { IfOk result (λ _. IsQuiet self.old self.new) }
+        ensures less { IfOk result (λ focus. IsBelow (1 + weight_e e.now) self.old self.new focus) }
+    {
         match Form::of(e) {
             Form::Leaf => self.leaf(program, e),
             Form::Dropped(first) => self.await_first(e, first),

@@ -22,7 +22,7 @@ use crate::frame::Frame;
 use crate::machine::Machine;
 use c_acts::asked;
 use c_meaning::{CoreExpr, CoreStmt};
-use c_plain::{is_plain, plain_test, plain_value};
+use c_plain::{effect_at_once, test_at_once};
 use c_worlds::Program;
 use lcc_base::Memory;
 use objects::Value;
@@ -37,14 +37,28 @@ impl<'a> Machine<'a> {
     {
         match test_of(s) {
             None => Ok(Focus::Repeat(s)),
-            Some(test) if is_plain(test) => {
-                match plain_test(program, &mut self.world, test) {
-                    Ok(true) => Ok(Focus::Repeat(s)),
-                    Ok(false) => Ok(Focus::Next),
-                    Err(stop) => stopped(stop),
-                }
-            }
-            Some(test) => {
+            Some(test) => self.ask(program, s, test),
+        }
+    }
+
+    /// A loop's test is asked.
+    fn ask(
+        &mut self,
+        program: &Program<'a>,
+        s: &'a CoreStmt,
+        test: &'a CoreExpr,
+    ) -> Result<Focus<'a>, Memory>
+        requires names { HasNames program.now }
+        requires test { test_in (stmt_of s.now) ≡ Some test.now }
+        ensures same { IfOk result (λ focus. Meets program.now self.old (λ k w. OfStatement (repeated_by (own program.now) (statement program.now s.now) (test_of (own program.now) (statement program.now s.now) k w))) self.new focus) }
+        ensures quiet { IfOk result (λ _. IsQuiet self.old self.new) }
+        ensures less { IfOk result (λ focus. IsBelow (2 + weight_test (stmt_of s.now)) self.old self.new focus) }
+    {
+        match test_at_once(program, &mut self.world, test) {
+            Some(Ok(true)) => Ok(Focus::Repeat(s)),
+            Some(Ok(false)) => Ok(Focus::Next),
+            Some(Err(stop)) => stopped(stop),
+            None => {
                 self.stack.push(Frame::Test(s))?;
                 Ok(Focus::Eval(test))
             }
@@ -80,13 +94,27 @@ impl<'a> Machine<'a> {
     {
         match last_of(s) {
             None => self.tested(program, s),
-            Some(last) if is_plain(last) => {
-                match plain_value(program, &mut self.world, last) {
-                    Ok(_) => self.tested(program, s),
-                    Err(stop) => stopped(stop),
-                }
-            }
-            Some(last) => {
+            Some(last) => self.step(program, s, last),
+        }
+    }
+
+    /// The last part of a `for` is evaluated.
+    fn step(
+        &mut self,
+        program: &Program<'a>,
+        s: &'a CoreStmt,
+        last: &'a CoreExpr,
+    ) -> Result<Focus<'a>, Memory>
+        requires names { HasNames program.now }
+        requires last { last_in (stmt_of s.now) ≡ Some last.now }
+        ensures same { IfOk result (λ focus. Meets program.now self.old (λ k w. OfStatement (repeated_by (own program.now) (statement program.now s.now) (between_of (own program.now) (statement program.now s.now) k w))) self.new focus) }
+        ensures quiet { IfOk result (λ _. IsQuiet self.old self.new) }
+        ensures less { IfOk result (λ focus. IsBelow (2 + weight_between (stmt_of s.now)) self.old self.new focus) }
+    {
+        match effect_at_once(program, &mut self.world, last) {
+            Some(Ok(())) => self.tested(program, s),
+            Some(Err(stop)) => stopped(stop),
+            None => {
                 self.stack.push(Frame::Last(s))?;
                 Ok(Focus::Eval(last))
             }
@@ -107,13 +135,26 @@ impl<'a> Machine<'a> {
     {
         match first {
             None => self.tested(program, s),
-            Some(first) if is_plain(first) => {
-                match plain_value(program, &mut self.world, first) {
-                    Ok(_) => self.tested(program, s),
-                    Err(stop) => stopped(stop),
-                }
-            }
-            Some(first) => {
+            Some(first) => self.prepare(program, s, first),
+        }
+    }
+
+    /// The first part of a `for` is evaluated.
+    fn prepare(
+        &mut self,
+        program: &Program<'a>,
+        s: &'a CoreStmt,
+        first: &'a CoreExpr,
+    ) -> Result<Focus<'a>, Memory>
+        requires { HasNames program.now }
+        ensures same { IfOk result (λ focus. Meets program.now self.old (λ k w. OfStatement (maybe_dropped (own program.now) (maybe_seen (known program.now) (Some first.now)) k w (λ k1 w1. repeated_by (own program.now) (statement program.now s.now) (test_of (own program.now) (statement program.now s.now) k1 w1)))) self.new focus) }
+        ensures quiet { IfOk result (λ _. IsQuiet self.old self.new) }
+        ensures less { IfOk result (λ focus. IsBelow (4 + (weight_maybe (Some first.now) + weight_test (stmt_of s.now))) self.old self.new focus) }
+    {
+        match effect_at_once(program, &mut self.world, first) {
+            Some(Ok(())) => self.tested(program, s),
+            Some(Err(stop)) => stopped(stop),
+            None => {
                 self.stack.push(Frame::Initial(s))?;
                 Ok(Focus::Eval(first))
             }

@@ -1,5 +1,5 @@
 //! Statements that begin, or are entered at a label (C89 3.6).
-ghost use Rattle.std.specs.Prelude.{◌≡◌, ◌+◌, Some, IfOk, slice_get};
+ghost use Rattle.std.specs.Prelude.{◌≡◌, ◌+◌, ◌∷◌, Some, IfOk, IfNone, IfSome, slice_get};
 ghost use Rattle.c_filling.specs.Filled.{seen_places};
 ghost use Rattle.c_meaning.specs.CoreTrees.{line_of};
 ghost use Rattle.c_meaning.specs.StmtTrees.{stmt_of};
@@ -7,7 +7,8 @@ ghost use Rattle.c_runs.specs.Expressions.{eval, test as test_of};
 ghost use Rattle.c_runs.specs.Outcomes.{Gives, Next, Return, branch, then_do, then_go};
 ghost use Rattle.c_runs.specs.Statements.{At, Start, chosen, exec, exec_all, fill, initialised};
 ghost use Rattle.c_worlds.specs.declared.program.Program.{Program};
-ghost use Rattle.c_worlds.specs.Programs.{HasNames, tree};
+ghost use Rattle.c_worlds.specs.Programs.{Calls, HasNames, setting_of, tree};
+ghost use Rattle.c_worlds.specs.Shown.{Goes, StaysBelow};
 ghost use Rattle.c_eval.specs.Ends.{OfStatement};
 ghost use Rattle.c_eval.specs.Stacks.{statement, statements as trees_of, switched_from};
 ghost use Rattle.c_eval.specs.States.{own};
@@ -23,8 +24,8 @@ use crate::labels::has_label;
 use crate::machine::Machine;
 use c_filling::{are_plain, fill, make_zero};
 use c_meaning::{CoreCase, CoreExpr, CoreStmt, FilledPlace};
-use c_plain::{is_plain, plain_test, plain_value};
-use c_worlds::Program;
+use c_plain::{effect_at_once, test_at_once, value_at_once};
+use c_worlds::{Program, Stop, World};
 use lcc_base::{Cause, Memory};
 use objects::Value;
 
@@ -73,14 +74,14 @@ impl<'a> Machine<'a> {
         ensures quiet { IfOk result (λ _. IsQuiet self.old self.new) }
         ensures less { IfOk result (λ focus. IsBelow (4 + weight_e e.now) self.old self.new focus) }
     {
-        if is_plain(e) {
-            return match plain_value(program, &mut self.world, e) {
-                Ok(_) => Ok(Focus::Next),
-                Err(stop) => stopped(stop),
-            };
+        match effect_at_once(program, &mut self.world, e) {
+            Some(Ok(())) => Ok(Focus::Next),
+            Some(Err(stop)) => stopped(stop),
+            None => {
+                self.stack.push(Frame::Drop)?;
+                Ok(Focus::Eval(e))
+            }
         }
-        self.stack.push(Frame::Drop)?;
-        Ok(Focus::Eval(e))
     }
 
     /// A value that is returned.
@@ -90,15 +91,15 @@ impl<'a> Machine<'a> {
         ensures quiet { IfOk result (λ _. IsQuiet self.old self.new) }
         ensures less { IfOk result (λ focus. IsBelow (4 + weight_e e.now) self.old self.new focus) }
     {
-        if is_plain(e) {
-            return match plain_value(program, &mut self.world, e) {
-                Ok(Some(value)) => Ok(Focus::Return(Some(value), e.line)),
-                Ok(None) => Ok(no_result(0)),
-                Err(stop) => stopped(stop),
-            };
+        match value_at_once(program, &mut self.world, e) {
+            Some(Ok(Some(value))) => Ok(Focus::Return(Some(value), e.line)),
+            Some(Ok(None)) => Ok(no_result(0)),
+            Some(Err(stop)) => stopped(stop),
+            None => {
+                self.stack.push(Frame::Return(e))?;
+                Ok(Focus::Eval(e))
+            }
         }
-        self.stack.push(Frame::Return(e))?;
-        Ok(Focus::Eval(e))
     }
 
     /// One of two statements, by a test.
@@ -114,15 +115,15 @@ impl<'a> Machine<'a> {
         ensures quiet { IfOk result (λ _. IsQuiet self.old self.new) }
         ensures less { IfOk result (λ focus. IsBelow (4 + (weight_e test.now + (weight_s (stmt_of then.now) + weight_s (stmt_of otherwise.now)))) self.old self.new focus) }
     {
-        if is_plain(test) {
-            return match plain_test(program, &mut self.world, test) {
-                Ok(true) => Ok(Focus::Start(then)),
-                Ok(false) => Ok(Focus::Start(otherwise)),
-                Err(stop) => stopped(stop),
-            };
+        match test_at_once(program, &mut self.world, test) {
+            Some(Ok(true)) => Ok(Focus::Start(then)),
+            Some(Ok(false)) => Ok(Focus::Start(otherwise)),
+            Some(Err(stop)) => stopped(stop),
+            None => {
+                self.stack.push(Frame::Branch(test, then, otherwise))?;
+                Ok(Focus::Eval(test))
+            }
         }
-        self.stack.push(Frame::Branch(test, then, otherwise))?;
-        Ok(Focus::Eval(test))
     }
 
     /// A local object gets its first value.
@@ -192,15 +193,15 @@ impl<'a> Machine<'a> {
         ensures quiet { IfOk result (λ _. IsQuiet self.old self.new) }
         ensures less { IfOk result (λ focus. IsBelow (5 + (weight_e value.now + weight_body (stmt_of s.now))) self.old self.new focus) }
     {
-        if is_plain(value) {
-            return match plain_value(program, &mut self.world, value) {
-                Ok(Some(given)) => self.switch(s, given),
-                Ok(None) => Ok(no_result(0)),
-                Err(stop) => stopped(stop),
-            };
+        match value_at_once(program, &mut self.world, value) {
+            Some(Ok(Some(given))) => self.switch(s, given),
+            Some(Ok(None)) => Ok(no_result(0)),
+            Some(Err(stop)) => stopped(stop),
+            None => {
+                self.stack.push(Frame::Switch(s))?;
+                Ok(Focus::Eval(value))
+            }
         }
-        self.stack.push(Frame::Switch(s))?;
-        Ok(Focus::Eval(value))
     }
 
     /// A `switch` by its value.
@@ -230,14 +231,38 @@ impl<'a> Machine<'a> {
     }
 
     /// Statements begin in order.
-    pub fn list(&mut self, statements: &'a [CoreStmt]) -> Result<Focus<'a>, Memory>
-        ensures same { IfOk result (λ focus. (p : Program) → Meets p self.old (λ k w. OfStatement (exec_all (own p) (trees_of p statements.now) Start k w)) self.new focus) }
+    pub fn list(
+        &mut self,
+        program: &Program<'a>,
+        statements: &'a [CoreStmt],
+    ) -> Result<Focus<'a>, Memory>
+        requires { HasNames program.now }
+        ensures same { IfOk result (λ focus. Meets program.now self.old (λ k w. OfStatement (exec_all (own program.now) (trees_of program.now statements.now) Start k w)) self.new focus) }
         ensures quiet { IfOk result (λ _. IsQuiet self.old self.new) }
         ensures less { IfOk result (λ focus. IsBelow (1 + weight_ss (statements_of statements.now)) self.old self.new focus) }
     {
         match statements {
             [] => Ok(Focus::Next),
-            [first, rest @ ..] => {
+            [first, rest @ ..] => self.list_from(program, first, rest),
+        }
+    }
+
+    /// A statement and those behind it begin in order.
+    fn list_from(
+        &mut self,
+        program: &Program<'a>,
+        first: &'a CoreStmt,
+        rest: &'a [CoreStmt],
+    ) -> Result<Focus<'a>, Memory>
+        requires { HasNames program.now }
+        ensures same { IfOk result (λ focus. Meets program.now self.old (λ k w. OfStatement (exec_all (own program.now) (trees_of program.now (first.now ∷ rest.now)) Start k w)) self.new focus) }
+        ensures quiet { IfOk result (λ _. IsQuiet self.old self.new) }
+        ensures less { IfOk result (λ focus. IsBelow (1 + weight_ss (statements_of (first.now ∷ rest.now))) self.old self.new focus) }
+    {
+        match first_at_once(program, &mut self.world, first) {
+            Some(Ok(())) => Ok(Focus::List(rest)),
+            Some(Err(stop)) => stopped(stop),
+            None => {
                 self.stack.push(Frame::Then(rest))?;
                 Ok(Focus::Start(first))
             }
@@ -320,6 +345,19 @@ impl<'a> Machine<'a> {
             CoreStmt::Continue => Ok(Focus::Continue),
             CoreStmt::Nothing => Ok(Focus::Next),
         }
+    }
+}
+
+/// What comes of a statement that is an expression that calls nothing; else `None`, and nothing has changed.
+fn first_at_once(program: &Program, world: &mut World, s: &CoreStmt) -> Option<Result<(), Stop>>
+    requires { HasNames program.now }
+    ensures goes { IfSome result (λ r. (calls : Calls) → Goes (λ k w. exec (setting_of program.now calls) (statement program.now s.now) Start k w) world.old world.new r) }
+    ensures same { IfNone result (world.new ≡ world.old) }
+    ensures stays { StaysBelow world.old world.new }
+{
+    match s {
+        CoreStmt::Expression(e) => effect_at_once(program, world, e),
+        _ => None,
     }
 }
 

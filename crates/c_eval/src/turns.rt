@@ -53,7 +53,7 @@ impl<'a> Machine<'a> {
                 Focus::NoValue(line) => self.give_none(program, line)?,
                 Focus::Start(s) => self.start(program, s)?,
                 Focus::At(s, label) => self.start_at(program, s, label)?,
-                Focus::List(statements) => self.list(statements)?,
+                Focus::List(statements) => self.list(program, statements)?,
                 Focus::ListAt(statements, label) => self.list_at(statements, label)?,
                 Focus::Fill(places, base) => self.fill(program, places, base)?,
                 Focus::Next => self.next(program)?,

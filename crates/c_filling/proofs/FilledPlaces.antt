@@ -1,17 +1,13 @@
 -- What comes of places that are filled.
 use Rattle.std.proofs.Common.{◌≡◌, ℕ, suc, ◌+◌, ◌<◌, Bool, true, false, Option, zero, List, [], ◌∷◌, length, drop, get_or, drop-cons, pos, refl, ap, sym, ◌∙◌, subst, arith}
-use Rattle.std.specs.Prelude.{◌&&◌, IfErr, IsErrAnd, OnOk, Result as Checked, Ok, Err}
+use Rattle.std.specs.Prelude.{◌&&◌, IsErrAnd, Result as Checked, Ok, Err}
 use Rattle.lcc_base.specs.declared.cause.Cause.{Cause}
 use Rattle.lcc_base.specs.Traces.{Event}
-use Rattle.objects.specs.declared.byte.Byte.{Byte}
 use Rattle.objects.specs.declared.purpose.Purpose.TheVariants.{Initialisation}
-use Rattle.objects.specs.declared.store_fault.StoreFault.{StoreFault}
-use Rattle.objects.specs.declared.store_fault.StoreFault.TheVariants as fault
 use Rattle.objects.specs.declared.value.Value.{Value}
 use Rattle.objects.specs.Accesses.{bytes_written}
 use Rattle.objects.specs.Copies.{copied}
 use Rattle.objects.specs.Objects.{Object, Storage}
-use Rattle.objects.specs.Places.{IsLeft}
 use Rattle.objects.specs.Pointers.{place_after}
 use Rattle.c_types.specs.CType.{CType, Array}
 use Rattle.c_types.specs.Table.{Table, type_at}
@@ -32,21 +28,10 @@ use Rattle.c_worlds.specs.declared.stop.Stop.TheVariants.{Undefined, Memory}
 use Rattle.c_worlds.specs.declared.world.World.{World}
 use Rattle.c_worlds.specs.Programs.{known}
 use Rattle.c_worlds.specs.Shown.{shown, Gets, Goes}
-use Rattle.c_filling.specs.Filled.{Stores, are_plain_places, filled_at, seen_place, seen_places, stop_by}
+use Rattle.c_worlds.specs.Stops.{Stores}
+use Rattle.c_filling.specs.Filled.{are_plain_places, filled_at, seen_place, seen_places}
 
--- ---- stores
-
-storage : List Object → ℕ → Storage
-storage objects made = record { objects = objects; made = made }
-
-pub same_storage : (s t : Storage) → s.objects ≡ t.objects → s.made ≡ t.made → s ≡ t
-unfolding storage
-same_storage s t e f = ap (λ os. storage os s.made) e ∙ ap (λ m. storage t.objects m) f
-
-pub stores_by : (wanted : Checked (List Object) Cause) (old new : Storage) (p : Value) (bytes : List (Byte Value)) (r : Checked (Unit {0}) StoreFault) → OnOk r (wanted ≡ Ok new.objects) → IfErr r (IsLeft old.objects p bytes wanted new.objects) → new.made ≡ old.made → Stores wanted old new r
-stores_by wanted old new p bytes (Ok u) ok err made = (ok, made)
-stores_by wanted old new p bytes (Err (fault.Undefined cause)) ok err made = (err.0, same_storage new old err.1 made)
-stores_by wanted old new p bytes (Err fault.Memory) ok err made = made
+-- ---- what is stored
 
 -- an array of characters
 pub array_filled : (s : Setting) (x : FilledOf CType) (to v : Value) (os : List Object) (of : CType) (count : Option ℕ) (bytes : List ℕ) → x.of ≡ Array of count → bytes ≡ string_of s.unit (Array of count) (what_of x.value) → bytes_written Initialisation bytes os to ≡ filled s x to v os
@@ -80,24 +65,19 @@ world_in w s = record { storage = s; locals = w.locals; input = w.input; output 
 stored_in : World → List Event → List Object → ℕ → RunWorld
 stored_in w t os made = record { storage = record { objects = os; made = made }; locals = w.locals.here; input = w.input.now; trace = t }
 
-pub place_goes : (s : Setting) (p : Program) (x : FilledPlace) (base v to : Value) (old : World) (new : Storage) → to ≡ place_after base (pos x.at.offset) → Stores (filled s (seen_place p x) to v old.storage.objects) old.storage new (Ok tt) → (k : ℕ) (t : List Event) → filled_at s (seen_place p x) base v k (shown old t) ≡ Next k (shown (world_in old new) t)
+pub place_comes : (s : Setting) (p : Program) (x : FilledPlace) (base v to : Value) (line : ℕ) (old : World) (new : Storage) (r : Checked (Unit {0}) Stop) → to ≡ place_after base (pos x.at.offset) → line ≡ line_of x.value
+    → Stores (filled s (seen_place p x) to v old.storage.objects) line old.storage new r → Goes (λ k w. filled_at s (seen_place p x) base v k w) old (world_in old new) r
 unfolding stored_in
-place_goes s p x base v to old new e h k t =
+place_comes s p x base v to line old new (Ok u) e i h = λ k t.
     ap (λ q. if_done (filled s (seen_place p x) q v old.storage.objects) (line_of (seen_place p x).value) (shown old t) (λ os. Next k (with_objects (shown old t) os))) (sym e)
     ∙ ap (λ r. if_done r (line_of (seen_place p x).value) (shown old t) (λ os. Next k (with_objects (shown old t) os))) h.0
     ∙ ap (λ m. Next k (stored_in old t new.objects m)) (sym h.1)
-
-pub place_stops : (s : Setting) (p : Program) (x : FilledPlace) (base v to : Value) (old : World) (new : Storage) (f : StoreFault) (stop : Stop) → to ≡ place_after base (pos x.at.offset) → stop ≡ stop_by (line_of x.value) f → Stores (filled s (seen_place p x) to v old.storage.objects) old.storage new (Err f) → Goes (λ k w. filled_at s (seen_place p x) base v k w) old (world_in old new) (Err stop)
-place_stops s p x base v to old new (fault.Undefined cause) stop e i h =
-    let F : Stop → Type 0 = λ y. Goes (λ k u. filled_at s (seen_place p x) base v k u) old (world_in old new) (Err y) in
-    subst F (sym i) (λ k t.
+place_comes s p x base v to line old new (Err (Undefined cause at)) e i h = λ k t.
     ap (λ q. if_done (filled s (seen_place p x) q v old.storage.objects) (line_of (seen_place p x).value) (shown old t) (λ os. Next k (with_objects (shown old t) os))) (sym e)
     ∙ ap (λ r. if_done r (line_of (seen_place p x).value) (shown old t) (λ os. Next k (with_objects (shown old t) os))) h.0
-    ∙ ap (λ n. Over (Undefines cause n) (shown old t)) (line_seen (known p) x.value)
-    ∙ ap (λ (y : Storage). Over (Undefines cause (line_of x.value)) (shown (world_in old y) t)) (sym h.1))
-place_stops s p x base v to old new fault.Memory stop e i h =
-    let F : Stop → Type 0 = λ y. Goes (λ k u. filled_at s (seen_place p x) base v k u) old (world_in old new) (Err y) in
-    subst F (sym i) tt
+    ∙ ap (λ n. Over (Undefines cause n) (shown old t)) (line_seen (known p) x.value ∙ sym (h.1.0 ∙ i))
+    ∙ ap (λ (y : Storage). Over (Undefines cause at) (shown (world_in old y) t)) (sym h.1.1)
+place_comes s p x base v to line old new (Err Memory) e i h = tt
 
 -- ---- handed on
 

@@ -26,9 +26,10 @@ use Rattle.c_worlds.specs.declared.world.World.{World}
 use Rattle.c_worlds.specs.OpenLocals.{OpenLocals}
 use Rattle.c_worlds.specs.Programs.{Calls, setting_of}
 use Rattle.c_worlds.specs.Shown.{shown, Goes}
+use Rattle.c_worlds.proofs.lemmas.Stores.{same_storage}
 use Rattle.c_filling.specs.Filled.{seen_places}
 use Rattle.c_filling.specs.Starts.{Starts, kept_in}
-use Rattle.c_filling.proofs.FilledPlaces.{behind, ends, same_storage}
+use Rattle.c_filling.proofs.FilledPlaces.{behind, ends}
 
 zeros_known : (n : ℕ) → known_bytes {V = Value} (replicate n 0) ≡ replicate n (Bits 255 0)
 zeros_known zero = refl

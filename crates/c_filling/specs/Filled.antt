@@ -1,9 +1,5 @@
 -- Places that are filled, as the meaning has them.
-use Rattle.std.specs.Prelude.{◌≡◌, ℕ, pos, Bool, true, ◌&&◌, List, [], ◌∷◌, map, Result as Checked, Ok, Err}
-use Rattle.lcc_base.specs.declared.cause.Cause.{Cause}
-use Rattle.objects.specs.declared.store_fault.StoreFault.{StoreFault}
-use Rattle.objects.specs.declared.store_fault.StoreFault.TheVariants.{Undefined, Memory}
-use Rattle.objects.specs.Objects.{Object, Storage}
+use Rattle.std.specs.Prelude.{ℕ, pos, Bool, true, ◌&&◌, List, [], ◌∷◌, map}
 use Rattle.objects.specs.declared.value.Value.{Value}
 use Rattle.objects.specs.Pointers.{place_after}
 use Rattle.c_types.specs.CType.{CType}
@@ -16,8 +12,6 @@ use Rattle.c_runs.specs.Outcomes.{Out, Next, if_done}
 use Rattle.c_runs.specs.Statements.{filled, zeroed_at}
 use Rattle.c_runs.specs.Worlds.{World, objects, with_objects}
 use Rattle.c_worlds.specs.declared.program.Program.{Program}
-use Rattle.c_worlds.specs.declared.stop.Stop.{Stop}
-use Rattle.c_worlds.specs.declared.stop.Stop.TheVariants as stop
 use Rattle.c_worlds.specs.Programs.{place_tree}
 
 -- a place of a program's initialiser
@@ -39,15 +33,3 @@ filled_at s p base v k w = if_done (filled s p (place_after base (pos p.offset))
 -- the whole object zeroed
 abbrev pub zeroed_whole : Value → ℕ → World → Out
 zeroed_whole base k w = if_done (zeroed_at base (objects w)) 0 w (λ os. Next k (with_objects w os))
-
--- What is left of a store, by the objects that were wanted: where it is undefined nothing has changed. Nothing is said where
--- memory is wanting.
-abbrev pub Stores : Checked (List Object) Cause → Storage → Storage → Checked (Unit {0}) StoreFault → Type 0
-Stores wanted old new (Ok _) = (wanted ≡ Ok new.objects) × (new.made ≡ old.made)
-Stores wanted old new (Err (Undefined cause)) = (wanted ≡ Err cause) × (new ≡ old)
-Stores wanted old new (Err Memory) = new.made ≡ old.made
-
--- a fault of a store with a line
-abbrev pub stop_by : ℕ → StoreFault → Stop
-stop_by line (Undefined cause) = stop.Undefined cause line
-stop_by line Memory = stop.Memory

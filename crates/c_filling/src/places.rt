@@ -1,19 +1,22 @@
 //! One place of an object filled, and a whole object zeroed.
 ghost use Rattle.std.specs.Prelude.{◌≡◌, pos, IfSome};
 ghost use Rattle.objects.specs.Pointers.{place_after};
-ghost use Rattle.c_filling.specs.Filled.{Stores, filled_at, seen_place, stop_by, zeroed_whole};
-ghost use Rattle.c_meaning.specs.CoreTrees.{line_of};
+ghost use Rattle.c_filling.specs.Filled.{filled_at, seen_place, zeroed_whole};
 ghost use Rattle.c_runs.specs.Places.{Spot, stored};
 ghost use Rattle.c_runs.specs.Statements.{filled};
 ghost use Rattle.c_worlds.specs.Programs.{Calls, known, setting_of};
 ghost use Rattle.c_worlds.specs.Shown.{Goes, StaysBelow};
+ghost use Rattle.c_worlds.specs.Stops.{Stores};
 ghost use Rattle.objects.specs.declared.purpose.Purpose.TheVariants.{Initialisation};
 
 use crate::strings::string;
-use c_meaning::{CoreExpr, FilledPlace};
+use c_acts::{Spot, Writing, store};
+use c_meaning::FilledPlace;
 use c_types::MemberPlace;
-use c_worlds::{Program, Stop, World, alignment, array_length, at_line, is_record, scalar, size};
-use objects::{Field, Purpose, Storage, StoreFault, Value};
+use c_worlds::{
+    Program, Stop, World, alignment, array_length, at_line, is_record, scalar, size, store_at_line,
+};
+use objects::{Purpose, Storage, Value};
 use std::alloc::Global;
 
 /// Stores a value in a place of the object at `base`, const or not: an array of characters by a string of the program, a
@@ -33,20 +36,8 @@ pub fn fill_place(
     let Some(to) = behind(base, place.at.offset) else {
         return Err(Stop::Memory);
     };
-    match store(alloc, program, &mut world.storage, place, to, value) {
-        Ok(()) => Ok(()),
-        Err(fault) => Err(stopped(&place.value, fault)),
-    }
-}
-
-/// Why a run can't go on that stores the value of an expression.
-fn stopped(e: &CoreExpr, fault: StoreFault) -> Stop
-    ensures { result ≡ stop_by (line_of e.now) fault }
-{
-    match fault {
-        StoreFault::Undefined(cause) => Stop::Undefined(cause, e.line),
-        StoreFault::Memory => Stop::Memory,
-    }
+    let line = place.value.line;
+    store_value(alloc, program, &mut world.storage, place, to, value, line)
 }
 
 /// Makes each byte of the object at a place zero.
@@ -74,34 +65,33 @@ fn behind(base: Value, by: u32) -> Option<Value>
 }
 
 /// Stores a value at a place, as the place's type has it.
-fn store(
+fn store_value(
     alloc: Global,
     program: &Program,
     storage: &mut Storage,
     place: &FilledPlace,
     to: Value,
     value: Value,
-) -> Result<(), StoreFault>
-    ensures { (calls : Calls) → Stores (filled (setting_of program.now calls) (seen_place program.now place.now) to value storage.old.objects) storage.old storage.new result }
+    line: u32,
+) -> Result<(), Stop>
+    ensures { (calls : Calls) → Stores (filled (setting_of program.now calls) (seen_place program.now place.now) to value storage.old.objects) line storage.old storage.new result }
 {
     let types = program.core.types();
     let of = place.at.of;
     if let Some(count) = array_length(types, of) {
-        match string(alloc, program, count, &place.value) {
-            Ok(bytes) => storage.write_bytes(Purpose::Initialisation, &bytes, to),
-            Err(_) => Err(StoreFault::Memory),
-        }
+        let bytes = string(alloc, program, count, &place.value)?;
+        store_at_line(
+            line,
+            storage.write_bytes(Purpose::Initialisation, &bytes, to),
+        )
     } else if is_record(types, of) {
-        let length = size(types, of);
-        storage.copy(
-            Purpose::Initialisation,
-            value,
-            to,
-            length,
-            alignment(types, of),
+        let (size, alignment) = (size(types, of), alignment(types, of));
+        store_at_line(
+            line,
+            storage.copy(Purpose::Initialisation, value, to, size, alignment),
         )
     } else {
-        store_scalar(program, storage, place.at, to, value)
+        store_scalar(program, storage, place.at, to, value, line)
     }
 }
 
@@ -112,26 +102,16 @@ fn store_scalar(
     at: MemberPlace,
     to: Value,
     value: Value,
-) -> Result<(), StoreFault>
-    ensures { Stores (stored Initialisation program.now.order (record { of = known program.now at.of; first = at.first; width = at.width }) value storage.old.objects to) storage.old storage.new result }
+    line: u32,
+) -> Result<(), Stop>
+    ensures { Stores (stored Initialisation program.now.order (record { of = known program.now at.of; first = at.first; width = at.width }) value storage.old.objects to) line storage.old storage.new result }
 {
     let scalar = scalar(program.core.types(), at.of);
-    if at.width == 0 {
-        storage.write(
-            Purpose::Initialisation,
-            program.order,
-            scalar.width,
-            value,
-            to,
-        )
-    } else if u32::from(at.first) + u32::from(at.width) > 32 {
-        Err(StoreFault::Memory)
-    } else {
-        let field = Field {
-            first: at.first,
-            width: at.width,
-            signed: scalar.signed,
-        };
-        storage.write_field(Purpose::Initialisation, program.order, field, value, to)
-    }
+    let spot = Spot::of_member(scalar, at.first, at.width)?;
+    let how = Writing {
+        purpose: Purpose::Initialisation,
+        order: program.order,
+        line,
+    };
+    store(storage, how, spot, value, to)
 }

@@ -1,3 +1,4 @@
 mod Counted
 mod Steps
 mod Choices
+mod AtOnce

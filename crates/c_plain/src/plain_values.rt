@@ -6,12 +6,11 @@ ghost use Rattle.c_acts.specs.declared.shape.Shape.TheVariants as shaped;
 ghost use Rattle.c_meaning.specs.CoreTrees.{what_of};
 ghost use Rattle.c_plain.specs.Plain.{is_plain, settles, used};
 ghost use Rattle.c_runs.specs.Expressions.{asked as asked_part, eval, test};
-ghost use Rattle.c_runs.specs.Outcomes.{truth as truth_value};
 ghost use Rattle.c_worlds.specs.Programs.{Calls, HasNames, setting_of, tree};
 ghost use Rattle.c_worlds.specs.Shown.{Comes, Gets, StaysBelow};
 
 use crate::parts::{first_part, one_part, stray, three_parts, two_parts};
-use c_acts::{Parts, Shape, asked, binary_act, leaf, unary_act};
+use c_acts::{Parts, Shape, asked, binary_act, leaf, truth, unary_act};
 use c_meaning::{CoreExpr, CoreKind};
 use c_worlds::{Program, Stop, World};
 use lcc_base::Cause;
@@ -217,16 +216,5 @@ fn is_settled(what: &CoreKind, holds: bool) -> bool
     match what {
         CoreKind::Or => holds,
         _ => !holds,
-    }
-}
-
-/// 1 where it is so, and else 0.
-fn truth(holds: bool) -> Value
-    ensures { result ≡ truth_value holds }
-{
-    if holds {
-        Value::Number(1)
-    } else {
-        Value::Number(0)
     }
 }

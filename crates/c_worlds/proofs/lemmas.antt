@@ -1,2 +1,3 @@
 pub mod Comings
 pub mod Counts
+pub mod Stores

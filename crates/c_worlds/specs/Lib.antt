@@ -1,3 +1,4 @@
+pub mod BuiltIns
 pub mod OpenLocals
 pub mod Programs
 pub mod Shown

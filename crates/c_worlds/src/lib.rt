@@ -13,7 +13,7 @@ mod world;
 pub use locals::Locals;
 pub use names::Names;
 pub use program::Program;
-pub use stop::{Stop, at_line};
+pub use stop::{Stop, at_line, store_at_line};
 pub use types::{
     alignment, array_length, is_const, is_pointer, is_record, known_type, scalar, size,
 };

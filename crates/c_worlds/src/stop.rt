@@ -1,7 +1,8 @@
 ghost use Rattle.std.specs.Prelude.{◌≡◌};
-ghost use Rattle.c_worlds.specs.Stops.{told};
+ghost use Rattle.c_worlds.specs.Stops.{stop_of, told};
 
 use lcc_base::{Cause, Memory};
+use objects::StoreFault;
 use std::alloc::AllocError;
 use thiserror::Error;
 
@@ -45,5 +46,16 @@ pub fn at_line<T>(line: u32, checked: Result<T, Cause>) -> Result<T, Stop>
     match checked {
         Ok(value) => Ok(value),
         Err(cause) => Err(Stop::Undefined(cause, line)),
+    }
+}
+
+/// What came of a store, with the line for its cause.
+pub fn store_at_line(line: u32, stored: Result<(), StoreFault>) -> Result<(), Stop>
+    ensures { result ≡ stop_of line stored }
+{
+    match stored {
+        Ok(()) => Ok(()),
+        Err(StoreFault::Undefined(cause)) => Err(Stop::Undefined(cause, line)),
+        Err(StoreFault::Memory) => Err(Stop::Memory),
     }
 }

@@ -1,7 +1,7 @@
 -- How the rows of expressions begin: with their first part, and then the next one. Each holds in any setting, whatever the
 -- parts do.
-use Rattle.std.specs.Prelude.{◌≡◌, refl, ℕ, ◌<◌, Bool, true, false, not, Option, Some, None, List, [], ◌∷◌, length}
-use Rattle.std.proofs.Common.{ap, sym, ◌∙◌, arith}
+use Rattle.std.specs.Prelude.{◌≡◌, refl, ℕ, true, List, [], ◌∷◌, length}
+use Rattle.std.proofs.Common.{ap, ◌∙◌}
 use Rattle.objects.specs.declared.value.Value.{Value}
 use Rattle.c_types.specs.CType.{CType}
 use Rattle.c_meaning.specs.declared.core_expr.CoreKind.{CoreKind}
@@ -10,7 +10,7 @@ use Rattle.c_meaning.specs.declared.core_expr.Conversion.TheVariants as to
 use Rattle.c_meaning.specs.CoreTrees.{line_of}
 use Rattle.c_runs.specs.Calls.{Setting}
 use Rattle.c_runs.specs.Expressions.{Part, row, asked, comma_from}
-use Rattle.c_runs.specs.Outcomes.{Result, Gives, GivesNone, Ends, stray, truth, then_give, then_drop, branch}
+use Rattle.c_runs.specs.Outcomes.{Result, Gives, GivesNone, Ends, stray, then_give, then_drop, branch}
 use Rattle.c_runs.specs.Worlds.{World}
 use Rattle.c_worlds.specs.Shown.{giving}
 use Rattle.c_acts.specs.declared.shape.Shape.TheVariants.{Leaf, Dropped, Unary, Binary, Logical, Conditional, Comma, Call}

@@ -1,8 +1,9 @@
 use Rattle.std.proofs.Common.{subst}
 use Rattle.objects.specs.declared.field.Field.{Field}
 use Rattle.objects.specs.Accesses.{field_written}
-use Rattle.c_acts.specs.Stores.{Stores}
-use Rattle.c_acts.proofs.Storages.{bits_stored, store_comes}
+use Rattle.c_worlds.proofs.lemmas.Stores.{store_comes}
+use Rattle.c_worlds.specs.Stops.{Stores}
+use Rattle.c_acts.proofs.Storages.{bits_stored}
 use Rattle.c_acts.proofs.storing.store.Goals as goal
 
 pub returns-else-spot-eq0 : goal.returns-else-spot-eq0

@@ -1,4 +1,4 @@
-use Rattle.std.specs.Prelude.{◌≡◌, refl}
+use Rattle.std.specs.Prelude.{refl}
 use Rattle.std.proofs.Common.{ap, ◌∙◌}
 use Rattle.c_runs.specs.Outcomes.{Undefined}
 use Rattle.c_runs.specs.Run.{run}

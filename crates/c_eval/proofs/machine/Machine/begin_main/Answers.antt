@@ -1,4 +1,4 @@
-use Rattle.std.specs.Prelude.{◌≡◌, slice_get}
+use Rattle.std.specs.Prelude.{slice_get}
 use Rattle.c_types.specs.Table.{types}
 use Rattle.c_meaning.specs.Units.{function_seen}
 use Rattle.c_worlds.specs.Programs.{unit_of}

@@ -1,8 +1,6 @@
-use Rattle.std.specs.Prelude.{◌≡◌, Some, None}
 use Rattle.std.proofs.Common.{ap, sym, ◌∙◌, arith}
 use Rattle.c_meaning.specs.CoreTrees.{line_of, type_of}
 use Rattle.c_runs.specs.Calls.{built_in_fits}
-use Rattle.c_runs.specs.Outcomes.{Ends, Exit, Gives}
 use Rattle.c_worlds.specs.Programs.{known}
 use Rattle.c_worlds.specs.Shown.{shown}
 use Rattle.c_entries.specs.Arguments.{arguments_seen}

@@ -1,4 +1,4 @@
-use Rattle.std.specs.Prelude.{◌≡◌, ◌∷◌, ◌++◌, []}
+use Rattle.std.specs.Prelude.{◌∷◌, ◌++◌, []}
 use Rattle.std.proofs.Common.{ap, sym, ◌∙◌, arith}
 use Rattle.lcc_base.specs.Traces.{Opened}
 use Rattle.c_types.specs.Table.{types}

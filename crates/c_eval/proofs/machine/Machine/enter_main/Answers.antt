@@ -1,4 +1,4 @@
-use Rattle.std.specs.Prelude.{◌≡◌, [], refl}
+use Rattle.std.specs.Prelude.{[], refl}
 use Rattle.std.proofs.Common.{ap, sym, ◌∙◌, arith}
 use Rattle.objects.specs.declared.value.Value.TheVariants.{Pointer}
 use Rattle.c_types.specs.Table.{types}

@@ -1,4 +1,3 @@
-use Rattle.std.specs.Prelude.{◌≡◌}
 use Rattle.std.proofs.Common.{ap, sym, ◌∙◌}
 use Rattle.c_types.specs.Table.{types}
 use Rattle.c_meaning.specs.Units.{function_seen}

@@ -9,24 +9,24 @@ use Rattle.c_eval.proofs.Acts.{comes_own, plain_stops, with_world}
 use Rattle.c_eval.proofs.StatementSteps.{nothing_meets, value_returned}
 use Rattle.c_eval.proofs.machine.Machine.return_value.Goals as goal
 
-pub returns-in-Ok-Some-clause-same : goal.returns-in-Ok-Some-clause-same
-returns-in-Ok-Some-clause-same c =
+pub returns-in-Some-Ok-Some-clause-same : goal.returns-in-Some-Ok-Some-clause-same
+returns-in-Some-Ok-Some-clause-same c =
     let a = c.args in
-    let x = c.in-Ok-Some in
-    let w = c.plain_value.new.world in
+    let x = c.in-Some-Ok-Some in
+    let w = c.value_at_once.new.world in
     value_returned a.program.now a.self.now (with_world a.self.now w) a.e.now x.value c.e.inside.line (ap line_of c.e.view_is) x.ensures.stays.1 refl refl
-    (comes_own a.program.now a.e.now a.self.now.world w (Ok (Some x.value)) (rw x.field-0-is at x.ensures.comes))
+    (comes_own a.program.now a.e.now a.self.now.world w (Ok (Some x.value)) (let h = rw x.field-0-is at x.ensures.comes in rw x.field-0-0-is at h))
 
-pub returns-in-Ok-None-clause-same : goal.returns-in-Ok-None-clause-same
-returns-in-Ok-None-clause-same c =
+pub returns-in-Some-Ok-None-clause-same : goal.returns-in-Some-Ok-None-clause-same
+returns-in-Some-Ok-None-clause-same c =
     let a = c.args in
-    let x = c.in-Ok-None in
-    let w = c.plain_value.new.world in
+    let x = c.in-Some-Ok-None in
+    let w = c.value_at_once.new.world in
     nothing_meets a.program.now a.self.now (with_world a.self.now w) (λ k v. eval (own a.program.now) (tree a.program.now a.e.now) k v) (λ r. then_do r (λ u k1 w1. Return (Some u) (line_of a.e.now) k1 w1)) c.no_result.result x.ensures.stays.1 refl refl
-    (λ k v. refl) (comes_own a.program.now a.e.now a.self.now.world w (Ok None) (rw x.field-0-is at x.ensures.comes)) c.no_result.ensures
+    (λ k v. refl) (comes_own a.program.now a.e.now a.self.now.world w (Ok None) (let h = rw x.field-0-is at x.ensures.comes in rw x.field-0-0-is at h)) c.no_result.ensures
 
-pub returns-in-Err-clause-same : goal.returns-in-Err-clause-same
-returns-in-Err-clause-same c =
+pub returns-in-Some-Err-clause-same : goal.returns-in-Some-Err-clause-same
+returns-in-Some-Err-clause-same c =
     let a = c.args in
-    let x = c.in-Err in
-    plain_stops a.program.now a.self.now c.plain_value.new.world a.e.now (λ r. then_do r (λ u k1 w1. Return (Some u) (line_of a.e.now) k1 w1)) x.stop c.stopped.result (λ how w. refl) x.ensures.stays.1 x.ensures.comes c.stopped.ensures
+    let x = c.in-Some-Err in
+    plain_stops a.program.now a.self.now c.value_at_once.new.world a.e.now (λ r. then_do r (λ u k1 w1. Return (Some u) (line_of a.e.now) k1 w1)) x.stop c.stopped.result (λ how w. refl) x.ensures.stays.1 (rw x.field-0-is at x.ensures.comes) c.stopped.ensures

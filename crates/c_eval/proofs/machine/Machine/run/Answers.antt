@@ -1,4 +1,3 @@
-use Rattle.std.specs.Prelude.{◌≡◌}
 use Rattle.c_eval.specs.declared.focus.Focus.TheVariants as at
 use Rattle.c_eval.proofs.Beginning.{leads_over, leads_seen}
 use Rattle.c_eval.proofs.Leading.{leads_more, leads_nowhere}

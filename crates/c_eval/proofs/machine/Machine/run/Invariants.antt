@@ -1,4 +1,4 @@
-use Rattle.std.proofs.Common.{◌≡◌, ◌+◌}
+use Rattle.std.proofs.Common.{◌+◌}
 use Rattle.c_eval.specs.Steps.{Leads}
 use Rattle.c_eval.specs.Weights.{going}
 use Rattle.c_eval.proofs.machine.Machine.run.Given as goal
