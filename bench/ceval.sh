@@ -3,11 +3,12 @@
 #
 # Makes C programs, runs LCC on each, and prints a line for each: the bytes of
 # its source, seconds, how many of what it counts (nodes of the checked program
-# that are evaluated, calls, bytes, ..) and how many of these a second, and the
-# most memory that the process had. Seconds are those of a whole process, best
-# of RUNS (1), reading and checking of the source included. What a program has
-# to answer is worked out here; a line whose answer is another one ends with it,
-# and so does one whose process didn't end within TIMEOUT seconds (120). With
+# that are evaluated, calls, bytes, ..), how many of these a second, and the most
+# memory that the process had (what Python has, some 12 MiB, is told where it
+# had less). Seconds are those of a whole process, best of RUNS (1), with
+# reading and checking of the source. What a program has to answer is worked out
+# here: a line whose answer is another one ends with it, and so does one whose
+# process didn't end within TIMEOUT seconds (120). Then the status is 1. With
 # NAMEs only these lines. Wants python3.
 #
 #   arithmetic    a loop on locals: 14 nodes in each of 10,000,000 turns
@@ -27,6 +28,7 @@ dir=$(mktemp -d) || exit 1
 trap 'rm -rf "$dir"' EXIT
 trap 'exit 130' INT TERM
 RUNS=${RUNS:-1} TIMEOUT=${TIMEOUT:-120} python3 -B - "$dir" "$@" <<'PY'
+import json
 import os
 import subprocess
 import sys
@@ -168,6 +170,24 @@ def run(source):
         return seconds, usage.ru_maxrss * 1024, child.returncode, file.read(200).decode(errors="replace").strip()
 
 
+def apart(make, source):
+    """Writes a source in a process of its own, since a child's memory counts from its parent's. Gives its size, and what make says."""
+    told, tells = os.pipe()
+    child = os.fork()
+    if child == 0:
+        text, *rest = make()
+        assert len(text) <= MOST
+        with open(source, "w") as file:
+            file.write(text)
+        os.write(tells, json.dumps([len(text)] + rest).encode())
+        os._exit(0)
+    os.close(tells)
+    with open(told, "rb") as pipe:
+        said = pipe.read()
+    os.waitpid(child, 0)
+    return json.loads(said)
+
+
 unknown = [name for name in names if name not in dict(KINDS)]
 if unknown:
     sys.exit("no such line: " + ", ".join(unknown))
@@ -176,11 +196,8 @@ failed = False
 for name, make in KINDS:
     if names and name not in names:
         continue
-    text, number, what, answer = make()
-    assert len(text) <= MOST
     source = os.path.join(folder, "source")
-    with open(source, "w") as file:
-        file.write(text)
+    size, number, what, answer = apart(make, source)
     try:
         seconds, memory, status, report = min(run(source) for _ in range(runs))
     except OSError as error:
@@ -189,7 +206,7 @@ for name, make in KINDS:
     if (status, report) != (0, "exit %d" % answer):
         failed = True
         wrong = "  no end" if status == -9 and seconds >= limit else "  status %d %s, and not exit %d" % (status, report, answer)
-    print("%-11s %9d %8.2f %10d %-10s %12.0f %9.1f%s" % (name, len(text), seconds, number, what, number / seconds,
+    print("%-11s %9d %8.2f %10d %-10s %12.0f %9.1f%s" % (name, size, seconds, number, what, number / seconds,
                                                          memory / 2**20, wrong), flush=True)
 sys.exit(1 if failed else 0)
 PY
