@@ -47,7 +47,8 @@ def wrapped(n):
 
 
 def whole(head, piece, tail):
-    """head, as many pieces as 16 MiB have room for, and tail; and how many. A piece is a text, or made from its number."""
+    """head, as many pieces as 16 MiB have room for, and tail; and how many. A piece is a text or made
+    from its number."""
     rest, made = MOST - len(head) - len(tail), []
     if isinstance(piece, str):
         made = [piece] * (rest // len(piece))
@@ -92,7 +93,8 @@ def bytes_():
 
 def globals_():
     n, rounds = 100000, 20
-    text = ("".join("int g%d=%d;" % (i, i) for i in range(n)) + "int main(void){int i,x=0;for(i=0;i<%d;i++){" % rounds
+    text = ("".join("int g%d=%d;" % (i, i) for i in range(n))
+            + "int main(void){int i,x=0;for(i=0;i<%d;i++){" % rounds
             + "".join("x+=g%d;" % i for i in range(n)) + "}return x;}")
     return text, n * rounds, "reads", wrapped(rounds * n * (n - 1) // 2)
 
@@ -148,10 +150,10 @@ def commas():
     return text, n + 1, "operands", 1
 
 
-KINDS = [("arithmetic", arithmetic), ("arrays", arrays), ("calls", calls), ("open calls", open_calls), ("bytes", bytes_),
-         ("globals", globals_), ("gotos", gotos), ("switch", switch), ("statements", statements), ("blocks", blocks),
-         ("functions", functions), ("locals", locals_), ("elements", elements), ("literals", literals),
-         ("commas", commas)]
+KINDS = [("arithmetic", arithmetic), ("arrays", arrays), ("calls", calls), ("open calls", open_calls),
+         ("bytes", bytes_), ("globals", globals_), ("gotos", gotos), ("switch", switch),
+         ("statements", statements), ("blocks", blocks), ("functions", functions), ("locals", locals_),
+         ("elements", elements), ("literals", literals), ("commas", commas)]
 
 
 def run(source):
@@ -171,7 +173,8 @@ def run(source):
 
 
 def apart(make, source):
-    """Writes a source in a process of its own, since a child's memory counts from its parent's. Gives its size, and what make says."""
+    """Writes a source in a process of its own, since the most memory of a child is at least that of
+    its parent. Gives the source's size, and what make says."""
     told, tells = os.pipe()
     child = os.fork()
     if child == 0:
@@ -205,7 +208,9 @@ for name, make in KINDS:
     wrong = ""
     if (status, report) != (0, "exit %d" % answer):
         failed = True
-        wrong = "  no end" if status == -9 and seconds >= limit else "  status %d %s, and not exit %d" % (status, report, answer)
+        wrong = "  status %d %s, and not exit %d" % (status, report, answer)
+        if status == -9 and seconds >= limit:
+            wrong = "  no end"
     print("%-11s %9d %8.2f %10d %-10s %12.0f %9.1f%s" % (name, size, seconds, number, what, number / seconds,
                                                          memory / 2**20, wrong), flush=True)
 sys.exit(1 if failed else 0)
