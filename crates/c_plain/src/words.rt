@@ -38,10 +38,16 @@ fn unary_word(program: &Program, world: &World, e: &CoreExpr) -> Option<u32>
 {
     let part = one_part(e)?;
     match e.what {
-        CoreKind::Read => {
-            let p = plain_pointer(program, world, part)?;
-            read_word(program, world, e, part, p)
-        }
+        CoreKind::Read => match Shape::of(&part.what) {
+            Shape::Leaf => {
+                let p = leaf_pointer(program, world, part)?;
+                read_word(program, world, e, part, p)
+            }
+            _ => {
+                let p = plain_pointer(program, world, part)?;
+                read_word(program, world, e, part, p)
+            }
+        },
         _ => {
             let n = plain_word(program, world, part)?;
             changed_word(e, part, n)
