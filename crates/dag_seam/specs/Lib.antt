@@ -1,0 +1,4 @@
+pub mod Turns
+pub mod Ran
+pub mod Open
+pub mod Laws

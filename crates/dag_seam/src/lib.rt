@@ -1,0 +1,7 @@
+//! Laws of blocks of dags for what stands above them: which runs a block has as it grows, which values its nodes have, and
+//! what its trees are.
+#![tactic(auto)]
+
+mod laws;
+
+pub use laws::{blocks_go_on, runs_go_on};
