@@ -1,7 +1,7 @@
 -- Scalars and bit-fields read and written through pointers. Where several causes stand together, the first in this order is
 -- told: Outside, Misaligned, Dead, ReadOnly, and then of what is read Unknown and PointerBytes.
 -- Source: ISO/IEC 9899:1990, 6.3, 6.3.3.2, 6.3.16, in the profile of this compiler.
-use Rattle.std.specs.Prelude.{ℕ, List, [], ◌∷◌, length, replicate, Option, Some, None, is_none, Result, Err}
+use Rattle.std.specs.Prelude.{ℕ, List, [], ◌∷◌, length, replicate, Option, Some, None, is_none, Result, Ok, Err}
 use Rattle.lcc_base.specs.declared.order.Order.{Order}
 use Rattle.lcc_base.specs.declared.cause.Cause.{Cause}
 use Rattle.lcc_base.specs.declared.cause.Cause.TheVariants.{Outside, Misaligned, Dead, ReadOnly, PointerNumber}
@@ -48,6 +48,11 @@ if_none (Some c) r = Err c
 -- the scalar of a type at a place
 abbrev pub read : Order → Scalar → List Object → Value → Result Value Cause
 read order s objects p = if_none (read_cause objects p (bytes_in s.width) (bytes_in s.width)) (scalar_of order s (bytes_through objects p (bytes_in s.width)))
+
+-- the number that was read, if it was one
+abbrev pub number_given : Result Value Cause → Option ℕ
+number_given (Ok (Number n)) = Some n
+number_given r = None
 
 -- the objects once a value is written as a scalar of so many bytes
 abbrev pub written : Purpose → Order → Width → Value → List Object → Value → Result (List Object) Cause

@@ -19,7 +19,7 @@ pub fn unary(op: Unary, value: Value) -> Result<Value, Cause>
 }
 
 /// What the operation makes of a word.
-fn change(op: Unary, n: u32) -> u32
+pub fn change(op: Unary, n: u32) -> u32
     ensures { result ≡ unary_word op n }
 {
     match op {
@@ -53,8 +53,9 @@ fn by_right(op: Binary, right: u32) -> Cause
     }
 }
 
-/// What the operation makes of two words, or why it has no result.
-fn combine(signed: bool, op: Binary, x: u32, y: u32) -> Result<u32, Cause>
+/// What the operation makes of two words, signed as its left operand is. `ZeroDivisor`, `DivideOverflow` and `ShiftCount`
+/// come where it has no result.
+pub fn combine(signed: bool, op: Binary, x: u32, y: u32) -> Result<u32, Cause>
     ensures { result ≡ unless (word_cause signed op x y) (binary_word signed op x y) }
 {
     match op {
@@ -170,8 +171,8 @@ pub fn compare(signed: bool, op: Comparison, left: Value, right: Value) -> Resul
     }
 }
 
-/// Whether the comparison of two words holds.
-fn compare_words(signed: bool, op: Comparison, x: u32, y: u32) -> bool
+/// Whether the comparison of two words holds, as signed numbers or unsigned ones.
+pub fn compare_words(signed: bool, op: Comparison, x: u32, y: u32) -> bool
     ensures { result ≡ holds signed op x y }
 {
     match op {

@@ -21,7 +21,7 @@ mod storing;
 mod value;
 mod width;
 
-pub use arithmetic::{binary, compare, test_integer, unary};
+pub use arithmetic::{binary, change, combine, compare, compare_words, test_integer, unary};
 pub use byte::Byte;
 pub use conversions::{convert, extend, to_scalar};
 pub use field::Field;

@@ -1,6 +1,7 @@
 //! An object: its bytes as values, with masks of known bits behind them only where a bit is unknown, and
 //! bytes of pointers and functions only where there are any.
-ghost use Rattle.std.specs.Prelude.{◌≡◌, ◌<◌, ◌≤◌, ◌+◌, ◌^◌, ℕ, false, [], ◌∷◌, Some, length, take, drop, map, replicate, slice_get, IfOk, OnOk, OnErr};
+ghost use Rattle.std.specs.Prelude.{◌≡◌, ◌<◌, ◌≤◌, ◌+◌, ◌^◌, ℕ, false, [], ◌∷◌, Some, length, take, drop, map, replicate, slice_get, Ok, IfOk, IfSome, OnOk, OnErr};
+ghost use Rattle.objects.specs.Accesses.{number_given};
 ghost use Rattle.objects.specs.Bytes.{known_bytes, number_bytes};
 ghost use Rattle.objects.specs.Causes.{is_narrowed};
 ghost use Rattle.objects.specs.Fields.{with_field};
@@ -8,10 +9,11 @@ ghost use Rattle.objects.specs.Objects.{with_bytes};
 ghost use Rattle.objects.specs.Scalars.{scalar_of, scalar_bytes};
 ghost use Rattle.objects.specs.Values.{bytes_in};
 ghost use Rattle.objects.specs.declared.byte.Byte.TheVariants.{Bits};
+ghost use Rattle.objects.specs.declared.value.Value.TheVariants.{Number};
 
 use crate::conversions::to_scalar;
 use crate::fields::write_field;
-use crate::scalars::{half_bytes, parts, scalar as scalar_in, word_bytes};
+use crate::scalars::{given_number, half_bytes, parts, scalar as scalar_in, word_bytes};
 use crate::slices::{are_full, complete, number_at, paste, paste_masked, set_masked, shown};
 use crate::{Byte, Field, Scalar, Value, Width};
 use lcc_base::{Cause, Memory, Order};
@@ -319,12 +321,42 @@ impl Object {
         requires { place + bytes_in scalar.width ≤ length self.now.bytes }
         ensures { result ≡ scalar_of order scalar (take (bytes_in scalar.width) (drop place self.now.bytes)) }
     {
+        match self.known_number(order, scalar, place) {
+            Some(n) => Ok(Value::Number(n)),
+            None => self.load_bytes(order, scalar, place),
+        }
+    }
+
+    /// The number that the scalar of a type at a place is, if it is one.
+    pub fn number(&self, order: Order, scalar: Scalar, place: u32) -> Option<u32>
+        requires { place + bytes_in scalar.width ≤ length self.now.bytes }
+        ensures { result ≡ number_given (scalar_of order scalar (take (bytes_in scalar.width) (drop place self.now.bytes))) }
+    {
+        match self.known_number(order, scalar, place) {
+            Some(n) => Some(n),
+            None => given_number(self.load_bytes(order, scalar, place)),
+        }
+    }
+
+    /// The same where all its bits are known by their masks; `None` says nothing.
+    fn known_number(&self, order: Order, scalar: Scalar, place: u32) -> Option<u32>
+        requires { place + bytes_in scalar.width ≤ length self.now.bytes }
+        ensures { IfSome result (λ n. scalar_of order scalar (take (bytes_in scalar.width) (drop place self.now.bytes)) ≡ Ok (Number n)) }
+    {
         let at = place as usize;
         let size = self.size as usize;
         if self.bytes.len() == size || are_full(&self.bytes, scalar.width, size + at) {
             let n = number_at(&self.bytes, order, scalar.width, at);
-            return Ok(Value::Number(to_scalar(scalar, n)));
+            return Some(to_scalar(scalar, n));
         }
+        None
+    }
+
+    /// The scalar of a type at a place, by its bytes.
+    fn load_bytes(&self, order: Order, scalar: Scalar, place: u32) -> Result<Value, Cause>
+        requires { place + bytes_in scalar.width ≤ length self.now.bytes }
+        ensures { result ≡ scalar_of order scalar (take (bytes_in scalar.width) (drop place self.now.bytes)) }
+    {
         match scalar.width {
             Width::One => scalar_in(order, scalar, &[self.byte(place)]),
             Width::Two => scalar_in(order, scalar, &self.pair(place)),

@@ -1,6 +1,7 @@
 //! The scalar that bytes in memory are, and the bytes of a scalar.
 //! Source: C89, 3.1.2.5 (representation of types).
 ghost use Rattle.std.specs.Prelude.{◌≡◌, ◌⊎◌, ◌∷◌, [], length};
+ghost use Rattle.objects.specs.Accesses.{number_given};
 ghost use Rattle.objects.specs.Bytes.{number_bytes, number_of_bytes, whole_of, by_weight, is_part_of, part_bytes};
 ghost use Rattle.objects.specs.Conversions.{as_type};
 ghost use Rattle.objects.specs.Scalars.{scalar_of};
@@ -92,6 +93,16 @@ fn is_part(whole: Value, place: u8, byte: Byte<Value>) -> bool
             whole: other,
             place: k,
         } => same_whole(whole, other) && k == place,
+    }
+}
+
+/// The number that was read, if it was one.
+pub fn given_number(read: Result<Value, Cause>) -> Option<u32>
+    ensures { result ≡ number_given read }
+{
+    match read {
+        Ok(Value::Number(n)) => Some(n),
+        _ => None,
     }
 }
 

@@ -1,7 +1,7 @@
 //! The objects that live, and what is read through pointers to them.
 //! Source: C89, 3.1.2.4, 3.3 to 3.3.9, in the profile of this compiler.
-ghost use Rattle.std.specs.Prelude.{◌≡◌, ◌<◌, ◌≤◌, ◌+◌, ◌^◌, [], Some, None, false, length, not, is_none, replicate, take, IfOk, IfErr, OnOk, OnErr};
-ghost use Rattle.objects.specs.Accesses.{read_cause, write_cause, read as read_through, field_read};
+ghost use Rattle.std.specs.Prelude.{◌≡◌, ◌<◌, ◌≤◌, ◌+◌, ◌^◌, ◌%◌, ◌↔◌, IsTrue, [], Some, None, false, length, not, is_none, replicate, take, IfOk, IfErr, OnOk, OnErr};
+ghost use Rattle.objects.specs.Accesses.{read_cause, write_cause, read as read_through, number_given, field_read};
 ghost use Rattle.objects.specs.Bytes.{known_bytes};
 ghost use Rattle.objects.specs.Causes as causes;
 ghost use Rattle.objects.specs.Objects.{object_of, is_constant, next_name, with_object, ended};
@@ -206,6 +206,17 @@ impl Storage {
         self.objects[place.object].load(order, scalar, place.offset)
     }
 
+    /// The number that the scalar of a type at a place is, if it can be read and is one.
+    pub fn number(&self, order: Order, scalar: Scalar, p: Value) -> Option<u32>
+        ensures { result ≡ number_given (read_through order scalar self.now.objects p) }
+    {
+        let size = scalar.width.bytes();
+        match self.place(p, size, size) {
+            Ok(place) => self.objects[place.object].number(order, scalar, place.offset),
+            Err(_) => None,
+        }
+    }
+
     /// The number of a bit-field whose unit is at a place, with the same causes. Condition: it has bits and
     /// lies in the unit.
     pub fn read_field(&self, order: Order, field: Field, p: Value) -> Result<Value, Cause>
@@ -248,7 +259,7 @@ impl Storage {
     {
         if (object.size as u64) < offset as u64 + size as u64 {
             Err(Cause::Outside)
-        } else if offset % alignment != 0 {
+        } else if !is_aligned(offset, alignment) {
             Err(Cause::Misaligned)
         } else if !self.lives(object) {
             Err(Cause::Dead)
@@ -281,5 +292,18 @@ impl Storage {
         } else {
             Ok(place)
         }
+    }
+}
+
+/// Whether an offset is a multiple of the alignment; of 1, 2 and 4 it is told without a division.
+fn is_aligned(offset: u32, alignment: u32) -> bool
+    requires { 0 < alignment }
+    ensures { IsTrue result ↔ (offset % alignment ≡ 0) }
+{
+    match alignment {
+        1 => true,
+        2 => offset % 2 == 0,
+        4 => offset % 4 == 0,
+        _ => offset % alignment == 0,
     }
 }

@@ -11,6 +11,7 @@ ghost use Rattle.objects.specs.Places.{IsLeft};
 ghost use Rattle.objects.specs.Scalars.{scalar_bytes};
 ghost use Rattle.objects.specs.Values.{bytes_in};
 ghost use Rattle.objects.specs.declared.byte.Byte.TheVariants.{Bits};
+ghost use Rattle.objects.specs.declared.value.Value.TheVariants.{Number};
 
 use crate::place::Place;
 use crate::scalars::same_object;
@@ -40,6 +41,26 @@ impl Storage {
         let size = width.bytes();
         let place = self.target(purpose, p, size, size)?;
         store_scalar(&mut self.objects, place, order, width, value)?;
+        Ok(())
+    }
+
+    /// Writes a number as a scalar of so many bytes, which takes no memory: its low bits. `Outside`, `Misaligned`, `Dead`
+    /// and `ReadOnly` come in this order, and then nothing has changed.
+    pub fn write_number(
+        &mut self,
+        purpose: Purpose,
+        order: Order,
+        width: Width,
+        n: u32,
+        p: Value,
+    ) -> Result<(), Cause>
+        ensures ok { OnOk result (written purpose order width (Number n) self.old.objects p ≡ Ok self.new.objects) }
+        ensures err { IfErr result (λ c. (written purpose order width (Number n) self.old.objects p ≡ Err c) × (self.new ≡ self.old)) }
+        ensures made { self.new.made ≡ self.old.made }
+    {
+        let size = width.bytes();
+        let place = self.target(purpose, p, size, size)?;
+        store_number(&mut self.objects, place, order, width, n);
         Ok(())
     }
 
@@ -181,6 +202,15 @@ fn store_scalar(
     ensures err { OnErr result ((count : ℕ) × (objects.new.items ≡ stored objects.old.items place.object place.offset (take count (scalar_bytes order width value)))) }
 {
     objects[place.object].store(order, width, place.offset, value)
+}
+
+/// Stores a number in an object.
+fn store_number(objects: &mut Vec<Object>, place: Place, order: Order, width: Width, n: u32)
+    requires there { place.object < length objects.old.items }
+    requires inside { place.offset + bytes_in width ≤ length (contents (slice_get objects.old.items place.object)) }
+    ensures { objects.new.items ≡ stored objects.old.items place.object place.offset (scalar_bytes order width (Number n)) }
+{
+    objects[place.object].store_number(order, width, place.offset, n);
 }
 
 /// Stores a number in a field of a unit of an object.

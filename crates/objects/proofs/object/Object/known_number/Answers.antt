@@ -2,14 +2,11 @@ use Rattle.std.proofs.Common.{◌≤◌, ◌+◌, ℕ, take, drop, ap, sym, ◌�
 use Rattle.std.specs.BTreeMap.{get}
 use Rattle.std.specs.Ordering.{nat_cmp}
 use Rattle.objects.specs.declared.value.Value.TheVariants.{Number}
-use Rattle.objects.specs.declared.width.Width.{Width}
 use Rattle.objects.specs.Conversions.{as_scalar}
-use Rattle.objects.specs.Scalars.{scalar_of}
 use Rattle.objects.specs.Values.{bytes_in}
-use Rattle.objects.proofs.Holding.{front_one}
 use Rattle.objects.proofs.Halves.{size_is, in_front, masked, known_load_in, full_load_in}
-use Rattle.objects.proofs.object.Object.load.Goals as goal
-use Rattle.objects.proofs.object.Object.load.Goals.{then-len-size-via-then-len-size, then-len-size-via-else-len-size+then-are_full}
+use Rattle.objects.proofs.object.Object.known_number.Goals as goal
+use Rattle.objects.proofs.object.Object.known_number.Goals.{then-len-size-via-then-len-size, then-len-size-via-else-len-size+then-are_full}
 
 pub are_full-requires : goal.are_full-requires
 are_full-requires c =
@@ -29,17 +26,12 @@ returns-then-len-size c =
     let part = take width (drop c.args.place c.deref-then-len-size.result.now) in
     let held = ap (λ xs. take width (drop c.args.place xs)) c.deref-then-len-size.ensures.value in
     let inside : c.args.place + width ≤ c.self.inside.size = omega (arith, len, c.requires) in
-    ap (λ (n : ℕ). Ok (Number n)) (c.to_scalar.ensures ∙ ap (λ (n : ℕ). as_scalar c.args.scalar n) c.number_at-n.ensures)
+    sym
+    (ap (λ (n : ℕ). Ok (Number n)) (c.to_scalar.ensures ∙ ap (λ (n : ℕ). as_scalar c.args.scalar n) c.number_at-n.ensures)
     ∙ elim c.then-len-size.branch [
       | then-len-size-via-then-len-size w ↦ known_load_in c.args.order c.args.scalar c.self.inside.made c.self.inside.constant (get nat_cmp c.self.inside.parts) c.self.inside.size c.self.inside.bytes.items part c.args.self.now c.args.place width c.self.view_is (omega (arith, w.if-len-size.true, c.len.ensures, c.self.inside.bytes.ok.0)) inside held
       | then-len-size-via-else-len-size+then-are_full w ↦
           let two = masked c.len.result c.self.inside.size c.self.inside.bytes.items c.self.invariant.complete (c.len.ensures ∙ c.self.inside.bytes.ok.0) (omega (arith, w.if-len-size.false)) in
           let full = ap (λ xs. take width (drop (c.self.inside.size + c.args.place) xs)) (sym w.deref.ensures.value) ∙ w.are_full.ensures w.if-are_full.true in
           full_load_in c.args.order c.args.scalar c.self.inside.made c.self.inside.constant (get nat_cmp c.self.inside.parts) c.self.inside.size c.self.inside.bytes.items part c.args.self.now c.args.place width c.self.view_is two inside full held
-    ]
-
-pub returns-in-One : goal.returns-in-One
-returns-in-One c =
-    c.scalar.ensures
-    ∙ ap (λ bs. scalar_of c.args.order c.args.scalar bs) (front_one c.args.place c.args.self.now.bytes c.byte.result c.byte.ensures)
-    ∙ ap (λ (w : Width). scalar_of c.args.order c.args.scalar (take (bytes_in w) (drop c.args.place c.args.self.now.bytes))) (sym c.in-One.is)
+    ])
