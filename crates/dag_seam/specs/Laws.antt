@@ -1,6 +1,6 @@
 -- What holds of blocks as they grow: what they do, their runs, and the values of their nodes.
 use Rattle.std.specs.Prelude.{◌≡◌, ℕ, ◌+◌, Bool, true, false, Some, None, List, [], ◌∷◌, ◌++◌, slice_get}
-use Rattle.forests.specs.Words.{Word}
+use Rattle.forests.specs.Words.{Word, unknown}
 use Rattle.forests.specs.Worlds.{World, Point}
 use Rattle.forests.specs.Bodies.{Setting}
 use Rattle.forests.specs.Budgets.{with_left}
@@ -8,13 +8,13 @@ use Rattle.dag_forest.specs.declared.entry.Entry.{Entry}
 use Rattle.dag_forest.specs.declared.entry.Entry.TheVariants.{Value, Root}
 use Rattle.dag_forest.specs.declared.parts.Parts.{Parts}
 use Rattle.dag_forest.specs.Entries.{is_call}
-use Rattle.dag_forest.specs.Meaning.{Keeps, Ran, Through, Runs}
+use Rattle.dag_forest.specs.Meaning.{Keeps, Temporary, Ran, Through, Runs}
 use Rattle.dag_forest.specs.declared.act.Act.{Act}
 use Rattle.dag_forest.specs.declared.act.Act.TheVariants.{Made, Acts}
-use Rattle.dag_forest.specs.Schedules.{is_in, kids_list, in_turn}
+use Rattle.dag_forest.specs.Schedules.{is_in, kids_list, in_turn, acts_of}
 use Rattle.dag_forest.specs.Tally.{node_count}
-use Rattle.dag_seam.specs.Ran.{IsOver}
-use Rattle.dag_seam.specs.Turns.{waiting_behind, waiting, made_behind}
+use Rattle.dag_seam.specs.Ran.{IsOver, IsOn}
+use Rattle.dag_seam.specs.Turns.{waiting_behind, waiting, made_behind, Makes}
 
 -- ---- what a block does
 
@@ -54,3 +54,11 @@ abbrev pub RunsStop : Type 0
 RunsStop =
     (s : Setting) (keeps : Keeps) (xs ys : List Act) (made : ℕ → Bool) (values : ℕ → Word) (left : ℕ) (w : World) (r : Ran)
     → IsOver r → Runs s keeps xs made values left w r → Runs s keeps (xs ++ ys) made values left w r
+
+-- Where only nodes that the block makes have temporaries, a run in which unused nodes are made is one of what the block does,
+-- with the same values of the nodes that are made.
+abbrev pub RunsUsed : Type 0
+RunsUsed =
+    (s : Setting) (keeps : Keeps) (es : List Entry) (left : ℕ) (w : World) (r : Ran) → ((m : ℕ) (t : Temporary) → keeps m ≡ Some t → Makes m (acts_of es))
+    → Runs s keeps (in_turn es 0 []) (λ m. false) (λ m. unknown) left w r
+    → (r1 : Ran) × IsOn (λ m. made_behind (acts_of es) (λ k. false) m ≡ true) r r1 × Runs s keeps (acts_of es) (λ m. false) (λ m. unknown) left w r1

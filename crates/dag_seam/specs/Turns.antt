@@ -1,5 +1,5 @@
 -- What waits behind the entries of a block: calls that stand below no root yet, and the nodes above them.
-use Rattle.std.specs.Prelude.{ℕ, suc, List, [], ◌∷◌, ◌++◌, Bool, true, false, if◌then◌else◌}
+use Rattle.std.specs.Prelude.{◌≡◌, ◌⊎◌, ℕ, suc, List, [], ◌∷◌, ◌++◌, Bool, true, false, if◌then◌else◌}
 use Rattle.dag_forest.specs.declared.entry.Entry.{Entry}
 use Rattle.dag_forest.specs.declared.entry.Entry.TheVariants.{Value, Root}
 use Rattle.dag_forest.specs.declared.act.Act.{Act}
@@ -25,3 +25,9 @@ made_behind (Acts x ∷ as') made = made_behind as' made
 -- which nodes of a block are made
 abbrev pub made_of : List Entry → (ℕ → Bool)
 made_of entries = made_behind (in_turn entries 0 []) (λ m. false)
+
+-- one of these acts makes the node
+abbrev pub Makes : ℕ → List Act → Type 0
+Makes m [] = ⊥
+Makes m (Made n x ∷ as') = (m ≡ n) ⊎ Makes m as'
+Makes m (Acts x ∷ as') = Makes m as'
