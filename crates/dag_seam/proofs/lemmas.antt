@@ -5,3 +5,6 @@ pub mod Runs
 pub mod UsedCalls
 pub mod Once
 pub mod UsedRuns
+pub mod Keys
+pub mod MadeNodes
+pub mod Opening

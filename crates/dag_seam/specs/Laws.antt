@@ -4,17 +4,19 @@ use Rattle.forests.specs.Words.{Word, unknown}
 use Rattle.forests.specs.Worlds.{World, Point}
 use Rattle.forests.specs.Bodies.{Setting}
 use Rattle.forests.specs.Budgets.{with_left}
+use Rattle.forests.specs.Alike.{AreAlike}
 use Rattle.dag_forest.specs.declared.entry.Entry.{Entry}
 use Rattle.dag_forest.specs.declared.entry.Entry.TheVariants.{Value, Root}
 use Rattle.dag_forest.specs.declared.parts.Parts.{Parts}
-use Rattle.dag_forest.specs.Entries.{is_call}
-use Rattle.dag_forest.specs.Meaning.{Keeps, Temporary, Ran, Through, Runs}
+use Rattle.dag_forest.specs.Entries.{AreBelow, is_call}
+use Rattle.dag_forest.specs.Meaning.{Keeps, Temporary, IsTemporary, Ran, Through, Runs}
 use Rattle.dag_forest.specs.declared.act.Act.{Act}
 use Rattle.dag_forest.specs.declared.act.Act.TheVariants.{Made, Acts}
-use Rattle.dag_forest.specs.Schedules.{is_in, kids_list, in_turn, acts_of}
-use Rattle.dag_forest.specs.Tally.{node_count}
+use Rattle.dag_forest.specs.Schedules.{at, is_in, kids_list, in_turn, acts_of}
+use Rattle.dag_forest.specs.Tally.{tally, keys_of, key_behind, AreFormed, node_count, ends}
 use Rattle.dag_seam.specs.Ran.{IsOver, IsOn}
-use Rattle.dag_seam.specs.Turns.{waiting_behind, waiting, made_behind, Makes}
+use Rattle.dag_seam.specs.Turns.{waiting_behind, waiting, made_behind, made_of, Makes}
+use Rattle.dag_seam.specs.Open.{IsNow, Open}
 
 -- ---- what a block does
 
@@ -55,6 +57,16 @@ RunsStop =
     (s : Setting) (keeps : Keeps) (xs ys : List Act) (made : ℕ → Bool) (values : ℕ → Word) (left : ℕ) (w : World) (r : Ran)
     → IsOver r → Runs s keeps xs made values left w r → Runs s keeps (xs ++ ys) made values left w r
 
+-- A run of an open block goes on with that of what further entries do.
+abbrev pub BlockRuns : Type 0
+BlockRuns =
+    (s : Setting) (keeps : Keeps) (es fs : List Entry) (acts : List Act) (left : ℕ) (w : World) (values : ℕ → Word) (left1 : ℕ) (w1 : World) (r : Ran) → GoesOn es fs acts
+    → Runs s keeps (in_turn es 0 []) (λ m. false) (λ m. unknown) left w (Through values (with_left left1 w1)) → Runs s keeps acts (made_of es) values left1 w1 r
+    → Runs s keeps (in_turn (es ++ fs) 0 []) (λ m. false) (λ m. unknown) left w r
+
+abbrev pub MadeGoesOn : Type 0
+MadeGoesOn = (es fs : List Entry) (acts : List Act) → GoesOn es fs acts → made_of (es ++ fs) ≡ made_behind acts (made_of es)
+
 -- Where only nodes that the block makes have temporaries, a run in which unused nodes are made is one of what the block does,
 -- with the same values of the nodes that are made.
 abbrev pub RunsUsed : Type 0
@@ -62,3 +74,36 @@ RunsUsed =
     (s : Setting) (keeps : Keeps) (es : List Entry) (left : ℕ) (w : World) (r : Ran) → ((m : ℕ) (t : Temporary) → keeps m ≡ Some t → Makes m (acts_of es))
     → Runs s keeps (in_turn es 0 []) (λ m. false) (λ m. unknown) left w r
     → (r1 : Ran) × IsOn (λ m. made_behind (acts_of es) (λ k. false) m ≡ true) r r1 × Runs s keeps (acts_of es) (λ m. false) (λ m. unknown) left w r1
+
+-- ---- values of nodes
+
+abbrev pub NoneOpen : Type 0
+NoneOpen = (s : Setting) (keeps : Keeps) (values : ℕ → Word) (w : World) → Open s keeps [] values w
+
+-- The node of these parts that is asked for behind the entries, if it is there already and is no call, has the value that its
+-- operator gives now.
+abbrev pub ValueHolds : Type 0
+ValueHolds =
+    (s : Setting) (keeps : Keeps) (es : List Entry) (values : ℕ → Word) (w : World) → Open s keeps es values w
+    → (x : Parts) (n : ℕ) → slice_get (keys_of es) n ≡ Some (key_behind es x) → is_call x.operator.op ≡ false → IsNow s keeps (made_of es) x values w (values n)
+
+-- a new node may have the value that its operator gives now, or, if it is a call, any value
+abbrev pub NodeOpens : Type 0
+NodeOpens =
+    (s : Setting) (keeps : Keeps) (es : List Entry) → AreFormed es 0 → (values : ℕ → Word) (w : World) → Open s keeps es values w
+    → (x : Parts) → AreBelow (node_count es) x.kids → (v : Word) → (is_call x.operator.op ≡ false → IsNow s keeps (made_of es) x values w v)
+    → Open s keeps (es ++ Value x ∷ []) (at values (node_count es) v) w
+
+-- the same where it is kept
+abbrev pub KeptOpens : Type 0
+KeptOpens =
+    (s : Setting) (keeps : Keeps) (es : List Entry) → AreFormed es 0 → (values : ℕ → Word) (w : World) → Open s keeps es values w
+    → (x : Parts) → AreBelow (node_count es) x.kids → (v : Word) (t : Temporary) → keeps (node_count es) ≡ Some t → IsTemporary s t → (is_call x.operator.op ≡ false → IsNow s keeps (made_of es) x values w v)
+    → Open s keeps (es ++ Value x ∷ []) (at values (node_count es) v) (t.put v w)
+
+-- behind a root, where the same objects live, and are the same unless the root ends the stretch
+abbrev pub RootHolds : Type 0
+RootHolds =
+    (s : Setting) (keeps : Keeps) (es : List Entry) (values : ℕ → Word) (w : World) → Open s keeps es values w
+    → (x : Parts) (w1 : World) → AreAlike w.objects w1.objects → (ends (tally es).calling x ≡ false → (o : ℕ) → slice_get w1.objects o ≡ slice_get w.objects o)
+    → Open s keeps (es ++ Root x ∷ []) values w1

@@ -1,4 +1,4 @@
-ghost use Rattle.dag_seam.specs.Laws.{CallGoesOn, NodeGoesOn, RootGoesOn, RunsAppend, RunsStop, RunsUsed, TurnsAppend, WaitingAppend};
+ghost use Rattle.dag_seam.specs.Laws.{BlockRuns, CallGoesOn, KeptOpens, MadeGoesOn, NodeGoesOn, NodeOpens, NoneOpen, RootGoesOn, RootHolds, RunsAppend, RunsStop, RunsUsed, TurnsAppend, ValueHolds, WaitingAppend};
 
 /// What a block does with further entries is what it did, and then what these do, where it is known what waits for a root.
 /// Where nothing waits, a node that is no call and a root act by themselves, and so does a call with a root behind it that
@@ -9,6 +9,7 @@ pub fn blocks_go_on()
     ensures nodes { NodeGoesOn }
     ensures roots { RootGoesOn }
     ensures calls { CallGoesOn }
+    ensures made { MadeGoesOn }
 {}
 
 /// A run of a block goes on with one of further acts; one that is over stays as it is. And a run in which unused nodes are
@@ -16,5 +17,17 @@ pub fn blocks_go_on()
 pub fn runs_go_on()
     ensures further { RunsAppend }
     ensures stopped { RunsStop }
+    ensures blocks { BlockRuns }
     ensures used { RunsUsed }
+{}
+
+/// In an open block each node that is no call, and no read of a stretch that has ended, has the value that its operator
+/// gives now: so in a block without entries, and behind a new node and a root. So the number of a node that is asked for
+/// again stands for what its operator gives there.
+pub fn values_hold()
+    ensures start { NoneOpen }
+    ensures again { ValueHolds }
+    ensures nodes { NodeOpens }
+    ensures kept { KeptOpens }
+    ensures roots { RootHolds }
 {}

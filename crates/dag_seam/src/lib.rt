@@ -4,4 +4,4 @@
 
 mod laws;
 
-pub use laws::{blocks_go_on, runs_go_on};
+pub use laws::{blocks_go_on, runs_go_on, values_hold};

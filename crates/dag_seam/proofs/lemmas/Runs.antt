@@ -1,19 +1,21 @@
 -- A run of acts as one of other acts that begin alike.
 use Rattle.std.proofs.Common.{◌≡◌, ℕ, zero, suc, Bool, true, false, Option, Some, None, List, [], ◌∷◌, ◌++◌, refl, sym, ap, ◌∙◌, subst}
 use Rattle.op_forest.specs.Nodes.{Head}
-use Rattle.forests.specs.Words.{Word}
+use Rattle.forests.specs.Words.{Word, unknown}
 use Rattle.forests.specs.Worlds.{World, Point, at_world, Next, To, End, Effect, Went, Exits, Unfinished, Stuck}
 use Rattle.forests.specs.Bodies.{Setting, does}
 use Rattle.forests.specs.Budgets.{with_left}
 use Rattle.forests.specs.Alike.{AreAlike}
+use Rattle.dag_forest.specs.declared.entry.Entry.{Entry}
 use Rattle.dag_forest.specs.declared.parts.Parts.{Parts}
 use Rattle.dag_forest.specs.Entries.{is_call, is_read}
 use Rattle.dag_forest.specs.declared.act.Act.{Act}
 use Rattle.dag_forest.specs.declared.act.Act.TheVariants.{Made, Acts}
-use Rattle.dag_forest.specs.Schedules.{head_of, operands, at}
+use Rattle.dag_forest.specs.Schedules.{in_turn, head_of, operands, at}
 use Rattle.dag_forest.specs.Meaning.{is_end, is_handing, Temporary, Keeps, IsThere, CanKeep, SameBut, Same, HasNow, spent, Handed, Acted, Leaves, MadeRuns, stepped, Ran, Through, Jumps, Ends, Exited, Out, RunsBehind, Runs}
 use Rattle.dag_seam.specs.Ran.{IsOver}
-use Rattle.dag_seam.specs.Turns.{made_behind}
+use Rattle.dag_seam.specs.Turns.{made_behind, made_of}
+use Rattle.dag_seam.specs.Laws.{GoesOn}
 
 -- an outcome of the first kind has one of the second kind, if a run that is over has
 abbrev pub Passes : Ran → (Ran → Type 0) → Type 0
@@ -152,3 +154,7 @@ module _ (s : Setting) (keeps : Keeps) where
   runs_stop xs ys made values left w r is_over h = runs_on xs ys false made values left w r r (λ r1 o e. sym e)
       (λ values2 left2 w2 e. let no : ⊥ = subst IsOver e is_over in absurd no)
       h
+
+  pub block_runs : (es fs : List Entry) (acts : List Act) (left : ℕ) (w : World) (values : ℕ → Word) (left1 : ℕ) (w1 : World) (r : Ran) → GoesOn es fs acts → Runs s keeps (in_turn es 0 []) (λ m. false) (λ m. unknown) left w (Through values (with_left left1 w1)) → Runs s keeps acts (made_of es) values left1 w1 r
+      → Runs s keeps (in_turn (es ++ fs) 0 []) (λ m. false) (λ m. unknown) left w r
+  block_runs es fs acts left w values left1 w1 r on h g = subst (λ z. Runs s keeps z (λ m. false) (λ m. unknown) left w r) (sym on.0) (runs_append (in_turn es 0 []) acts (λ m. false) (λ m. unknown) left w values left1 w1 r h g)

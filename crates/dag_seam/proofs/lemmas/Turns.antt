@@ -11,7 +11,7 @@ use Rattle.dag_forest.specs.declared.act.Act.{Act}
 use Rattle.dag_forest.specs.declared.act.Act.TheVariants.{Made, Acts}
 use Rattle.dag_forest.specs.Schedules.{Parted, at, waits, has_kid_in, is_in, parted, reversed, kids_list, kids_of, number_of, with_below, with_other, in_turn}
 use Rattle.dag_forest.specs.Tally.{node_count}
-use Rattle.dag_seam.specs.Turns.{waiting_behind, waiting, made_behind}
+use Rattle.dag_seam.specs.Turns.{waiting_behind, waiting, made_behind, made_of}
 use Rattle.dag_seam.specs.Laws.{GoesOn}
 
 one_more : (n k : ℕ) → n + suc k ≡ suc n + k
@@ -104,3 +104,6 @@ module _ (es : List Entry) (free : waiting es ≡ []) where
     goes_on es free (Value c ∷ Root a ∷ []) ∙ ap (λ z. in_turn es 0 [] ++ z) (call_turn c a (node_count es) calls within),
     waits_on es free (Value c ∷ Root a ∷ []) ∙ call_leaves c a (node_count es) calls within,
   )
+
+pub made_goes_on : (es fs : List Entry) (acts : List Act) → GoesOn es fs acts → made_of (es ++ fs) ≡ made_behind acts (made_of es)
+made_goes_on es fs acts on = ap (λ z. made_behind z (λ m. false)) on.0 ∙ made_append (in_turn es 0 []) acts (λ m. false)
