@@ -8,3 +8,5 @@ pub mod UsedRuns
 pub mod Keys
 pub mod MadeNodes
 pub mod Opening
+pub mod Acts
+pub mod Rooms

@@ -1,4 +1,5 @@
 pub mod Turns
 pub mod Ran
 pub mod Open
+pub mod Rooms
 pub mod Laws
