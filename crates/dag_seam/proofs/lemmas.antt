@@ -10,3 +10,6 @@ pub mod MadeNodes
 pub mod Opening
 pub mod Acts
 pub mod Rooms
+pub mod RoomCauses
+pub mod Behind
+pub mod Means

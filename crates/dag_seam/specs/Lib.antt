@@ -2,4 +2,6 @@ pub mod Turns
 pub mod Ran
 pub mod Open
 pub mod Rooms
+pub mod RoomLaws
+pub mod SplitLaws
 pub mod Laws

@@ -1,3 +1,4 @@
+ghost use Rattle.dag_seam.specs.RoomLaws.{CallHasRoom, HandedHasNone, KeptIsMade, OnceHasNone, RoomHasCause, RoomHasKind, RoomsAreApart, RoomsAreBelow, RoomsAreFew};
 ghost use Rattle.dag_seam.specs.Laws.{BlockRuns, CallGoesOn, KeptOpens, MadeGoesOn, NodeGoesOn, NodeOpens, NoneOpen, RootGoesOn, RootHolds, RunsAppend, RunsStop, RunsUsed, TurnsAppend, ValueHolds, WaitingAppend};
 
 /// What a block does with further entries is what it did, and then what these do, where it is known what waits for a root.
@@ -30,4 +31,19 @@ pub fn values_hold()
     ensures nodes { NodeOpens }
     ensures kept { KeptOpens }
     ensures roots { RootHolds }
+{}
+
+/// A node of a block has a room of its own where it is a call that isn't handed to a root; and else only where it is used
+/// more than once, or behind its stretch. A room is of the kind of its node's suffix; rooms are numbered from 0, each once,
+/// and there are no more than nodes.
+pub fn rooms_are_needed()
+    ensures calls { CallHasRoom }
+    ensures causes { RoomHasCause }
+    ensures handed { HandedHasNone }
+    ensures once { OnceHasNone }
+    ensures kinds { RoomHasKind }
+    ensures made { KeptIsMade }
+    ensures below { RoomsAreBelow }
+    ensures apart { RoomsAreApart }
+    ensures few { RoomsAreFew }
 {}

@@ -9,7 +9,7 @@ use Rattle.dag_forest.specs.declared.entry.Entry.{Entry}
 use Rattle.dag_forest.specs.declared.entry.Entry.TheVariants.{Value, Root}
 use Rattle.dag_forest.specs.declared.parts.Parts.{Parts}
 use Rattle.dag_forest.specs.Emission.{AreOnce}
-use Rattle.dag_forest.specs.Schedules.{Parted, at, with_below, with_other, is_in, waits, number_of, kids_of, kids_list, parted, reversed, in_turn, all_uses, used}
+use Rattle.dag_forest.specs.Schedules.{Parted, at, with_below, with_other, is_in, waits, number_of, kids_of, kids_list, parted, reversed, in_turn, all_uses, used, acts_of}
 use Rattle.dag_seam.specs.Turns.{Makes}
 use Rattle.dag_seam.proofs.lemmas.Maps.{at_old, unmade, unmade_other}
 
@@ -117,3 +117,23 @@ makes_used (Made n x ∷ xs) m h = by (is_in n (all_uses (used xs))) (makes_used
     by true f g = ⊎_elim (λ e. inl e) (λ e. inr (f e)) g
     by false f g = inr (f g)
 makes_used (Acts x ∷ xs) m h = makes_used xs m h
+
+once_less : (xs : List Act) (made made1 : ℕ → Bool) → ((m : ℕ) → made m ≡ false → made1 m ≡ false) → AreOnce xs made → AreOnce xs made1
+once_less [] made made1 f once = tt
+once_less (Made n x ∷ xs) made made1 f once = (
+  f n once.0,
+  once_less xs (at made n true) (at made1 n true) (λ m h. at_old made1 n true m (unmade_other made n m h) ∙ f m (unmade made n m h)) once.1,
+)
+once_less (Acts x ∷ xs) made made1 f once = once_less xs made made1 f once
+
+once_used : (xs : List Act) (made : ℕ → Bool) → AreOnce xs made → AreOnce (used xs) made
+once_used [] made once = tt
+once_used (Made n x ∷ xs) made once = by (is_in n (all_uses (used xs))) (once_used xs (at made n true) once.1)
+  where
+    by : (b : Bool) → AreOnce (used xs) (at made n true) → AreOnce (if b then Made n x ∷ used xs else used xs) made
+    by true h = (once.0, h)
+    by false h = once_less (used xs) (at made n true) made (λ m e. unmade made n m e) h
+once_used (Acts x ∷ xs) made once = once_used xs made once
+
+pub acts_are_once : (entries : List Entry) → AreOnce (acts_of entries) (λ m. false)
+acts_are_once entries = once_used (in_turn entries 0 []) (λ m. false) (turns_are_once entries)
