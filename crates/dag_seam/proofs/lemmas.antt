@@ -13,3 +13,6 @@ pub mod Rooms
 pub mod RoomCauses
 pub mod Behind
 pub mod Means
+pub mod NewSlots
+pub mod SlotTrees
+pub mod FitTrees

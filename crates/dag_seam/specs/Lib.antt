@@ -4,4 +4,5 @@ pub mod Open
 pub mod Rooms
 pub mod RoomLaws
 pub mod SplitLaws
+pub mod Fitting
 pub mod Laws

@@ -84,7 +84,7 @@ keys_stay [] t m k e = e
 keys_stay (Value x ∷ es) t m k e = keys_stay es (with_entry t (Value x)) m k (get_left t.keys (key_at t.stretch (length t.keys) x ∷ []) m k e)
 keys_stay (Root x ∷ es) t m k e = keys_stay es (with_entry t (Root x)) m k e
 
-abbrev IsAny : Parts → Type 0
+abbrev pub IsAny : Parts → Type 0
 IsAny x = Unit {0}
 
 keys_from : (es : List Entry) (t : Tally) → AreEntries (HasParts (fold with_entry t es).keys) IsAny es (length t.keys)
