@@ -16,3 +16,4 @@ pub mod Means
 pub mod NewSlots
 pub mod SlotTrees
 pub mod FitTrees
+pub mod SplitFits

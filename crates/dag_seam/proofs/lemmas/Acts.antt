@@ -65,6 +65,11 @@ entries_map P P1 Q Q1 [] n f g h = tt
 entries_map P P1 Q Q1 (Value x ∷ es) n f g h = (f n x h.0, entries_map P P1 Q Q1 es (suc n) f g h.1)
 entries_map P P1 Q Q1 (Root x ∷ es) n f g h = (g x h.0, entries_map P P1 Q Q1 es n f g h.1)
 
+pub entries_zip : (P P1 P2 : ℕ → Parts → Type 0) (Q Q1 Q2 : Parts → Type 0) (es : List Entry) (n : ℕ) → ((m : ℕ) (x : Parts) → P m x → P1 m x → P2 m x) → ((x : Parts) → Q x → Q1 x → Q2 x) → AreEntries P Q es n → AreEntries P1 Q1 es n → AreEntries P2 Q2 es n
+entries_zip P P1 P2 Q Q1 Q2 [] n f k h g = tt
+entries_zip P P1 P2 Q Q1 Q2 (Value x ∷ es) n f k h g = (f n x h.0 g.0, entries_zip P P1 P2 Q Q1 Q2 es (suc n) f k h.1 g.1)
+entries_zip P P1 P2 Q Q1 Q2 (Root x ∷ es) n f k h g = (k x h.0 g.0, entries_zip P P1 P2 Q Q1 Q2 es n f k h.1 g.1)
+
 -- ---- nodes have the parts of their keys
 
 abbrev pub HasParts : List Key → ℕ → Parts → Type 0
@@ -98,3 +103,6 @@ keys_from (Root x ∷ es) t = (tt, keys_from es (with_entry t (Root x)))
 
 pub acts_have_parts : (es : List Entry) → AreActs (HasParts (keys_of es)) IsAny (acts_of es)
 acts_have_parts es = acts_are (HasParts (keys_of es)) IsAny es (keys_from es none)
+
+pub entries_have_parts : (es : List Entry) → AreEntries (HasParts (keys_of es)) IsAny es 0
+entries_have_parts es = keys_from es none
