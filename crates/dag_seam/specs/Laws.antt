@@ -1,18 +1,19 @@
 -- What holds of blocks as they grow: what they do, their runs, and the values of their nodes.
 use Rattle.std.specs.Prelude.{◌≡◌, ℕ, ◌+◌, Bool, true, false, Some, None, List, [], ◌∷◌, ◌++◌, slice_get}
 use Rattle.forests.specs.Words.{Word, unknown}
-use Rattle.forests.specs.Worlds.{World, Point}
-use Rattle.forests.specs.Bodies.{Setting}
+use Rattle.forests.specs.Worlds.{World, Point, Move, Went}
+use Rattle.forests.specs.Bodies.{Setting, does}
 use Rattle.forests.specs.Budgets.{with_left}
 use Rattle.forests.specs.Alike.{AreAlike}
+use Rattle.forests.specs.Kept.{CallsKeep}
 use Rattle.dag_forest.specs.declared.entry.Entry.{Entry}
 use Rattle.dag_forest.specs.declared.entry.Entry.TheVariants.{Value, Root}
 use Rattle.dag_forest.specs.declared.parts.Parts.{Parts}
 use Rattle.dag_forest.specs.Entries.{AreBelow, is_call}
-use Rattle.dag_forest.specs.Meaning.{Keeps, Temporary, IsTemporary, Ran, Through, Runs}
+use Rattle.dag_forest.specs.Meaning.{is_end, Leaves, Keeps, Temporary, IsTemporary, Ran, Through, Runs}
 use Rattle.dag_forest.specs.declared.act.Act.{Act}
 use Rattle.dag_forest.specs.declared.act.Act.TheVariants.{Made, Acts}
-use Rattle.dag_forest.specs.Schedules.{at, is_in, kids_list, in_turn, acts_of}
+use Rattle.dag_forest.specs.Schedules.{at, head_of, operands, is_in, kids_list, in_turn, acts_of}
 use Rattle.dag_forest.specs.Tally.{tally, keys_of, key_behind, AreFormed, node_count, ends}
 use Rattle.dag_seam.specs.Ran.{IsOver, IsOn}
 use Rattle.dag_seam.specs.Turns.{waiting_behind, waiting, made_behind, made_of, Makes}
@@ -107,3 +108,17 @@ RootHolds =
     (s : Setting) (keeps : Keeps) (es : List Entry) (values : ℕ → Word) (w : World) → Open s keeps es values w
     → (x : Parts) (w1 : World) → AreAlike w.objects w1.objects → (ends (tally es).calling x ≡ false → (o : ℕ) → slice_get w1.objects o ≡ slice_get w.objects o)
     → Open s keeps (es ++ Root x ∷ []) values w1
+
+-- The same behind a root that has acted where its operands have their values.
+abbrev pub RootActs : Type 0
+RootActs =
+    (s : Setting) → CallsKeep s.call → (keeps : Keeps) (es : List Entry) (values : ℕ → Word) (w : World) → Open s keeps es values w
+    → (x : Parts) (left : ℕ) (vs : List Word) (p : Point) (move : Move) → does s (head_of x) (operands x.kids values) (with_left left w) ≡ Went vs p move → Leaves (is_end x) keeps (made_of es) w p.world
+    → Open s keeps (es ++ Root x ∷ []) values p.world
+
+-- Behind a call and a root that uses it, whatever the call's value, where the same objects live.
+abbrev pub CallHolds : Type 0
+CallHolds =
+    (s : Setting) (keeps : Keeps) (es : List Entry) → AreFormed es 0 → (values : ℕ → Word) (w : World) → Open s keeps es values w
+    → (c a : Parts) → AreBelow (node_count es) c.kids → is_call c.operator.op ≡ true → is_in (node_count es) (kids_list a.kids) ≡ true → (v : Word) (w1 : World) → AreAlike w.objects w1.objects
+    → Open s keeps (es ++ Value c ∷ Root a ∷ []) (at values (node_count es) v) w1

@@ -1,5 +1,7 @@
+ghost use Rattle.dag_seam.specs.Fitting.{SplitAppends, SplitIsFit};
 ghost use Rattle.dag_seam.specs.RoomLaws.{CallHasRoom, HandedHasNone, KeptIsMade, OnceHasNone, RoomHasCause, RoomHasKind, RoomsAreApart, RoomsAreBelow, RoomsAreFew};
-ghost use Rattle.dag_seam.specs.Laws.{BlockRuns, CallGoesOn, KeptOpens, MadeGoesOn, NodeGoesOn, NodeOpens, NoneOpen, RootGoesOn, RootHolds, RunsAppend, RunsStop, RunsUsed, TurnsAppend, ValueHolds, WaitingAppend};
+ghost use Rattle.dag_seam.specs.Laws.{BlockRuns, CallGoesOn, CallHolds, KeptOpens, MadeGoesOn, NodeGoesOn, NodeOpens, NoneOpen, RootActs, RootGoesOn, RootHolds, RunsAppend, RunsStop, RunsUsed, TurnsAppend, ValueHolds, WaitingAppend};
+ghost use Rattle.dag_seam.specs.SplitLaws.{BehindFirst};
 
 /// What a block does with further entries is what it did, and then what these do, where it is known what waits for a root.
 /// Where nothing waits, a node that is no call and a root act by themselves, and so does a call with a root behind it that
@@ -31,6 +33,8 @@ pub fn values_hold()
     ensures nodes { NodeOpens }
     ensures kept { KeptOpens }
     ensures roots { RootHolds }
+    ensures acted { RootActs }
+    ensures calls { CallHolds }
 {}
 
 /// A node of a block has a room of its own where it is a call that isn't handed to a root; and else only where it is used
@@ -46,4 +50,13 @@ pub fn rooms_are_needed()
     ensures below { RoomsAreBelow }
     ensures apart { RoomsAreApart }
     ensures few { RoomsAreFew }
+{}
+
+/// Where each node and root of a block has the operands, the symbol and the constant that its operator needs, and no address
+/// of a block is kept, its trees are well formed one by one, and are labels and jump as its roots do; they stand in front of
+/// what follows. Behind the first root that is a label stand the roots behind it.
+pub fn split_trees_fit()
+    ensures fit { SplitIsFit }
+    ensures front { SplitAppends }
+    ensures labels { BehindFirst }
 {}

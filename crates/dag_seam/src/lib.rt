@@ -4,4 +4,4 @@
 
 mod laws;
 
-pub use laws::{blocks_go_on, rooms_are_needed, runs_go_on, values_hold};
+pub use laws::{blocks_go_on, rooms_are_needed, runs_go_on, split_trees_fit, values_hold};

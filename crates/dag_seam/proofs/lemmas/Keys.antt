@@ -1,6 +1,9 @@
 -- The keys of a block's nodes, as it grows.
 use Rattle.std.proofs.Common.{◌≡◌, ⊎_elim, ℕ, zero, suc, ◌+◌, ◌<◌, ◌≤◌, Bool, true, false, true≢false, Some, None, List, [], ◌∷◌, ◌++◌, length, slice_get, inl, inr, refl, sym, ap, ◌∙◌, subst, arith, length-append}
-use Rattle.std.specs.Prelude.{◌⊎◌, fold, if◌then◌else◌}
+use Rattle.std.specs.Prelude.{◌⊎◌, ◌||◌, ◌==◌, fold, get_or, if◌then◌else◌}
+use Rattle.std.proofs.Math.Seq.{get_or-append_seam}
+use Rattle.std.proofs.lemmas.Bool.{eqb-true}
+use Rattle.dag_seam.proofs.lemmas.Within.{or_true, or_left, or_right}
 use Rattle.std.proofs.lemmas.List.Sums.{fold-append}
 use Rattle.op_forest.specs.declared.op.Op.{Op}
 use Rattle.op_forest.specs.declared.op.Op.TheVariants as op
@@ -10,9 +13,10 @@ use Rattle.dag_forest.specs.declared.key.Key.{Key}
 use Rattle.dag_forest.specs.declared.kids.Kids.{Kids}
 use Rattle.dag_forest.specs.declared.kids.Kids.TheVariants.{Zero, One, Two}
 use Rattle.dag_forest.specs.declared.parts.Parts.{Parts}
-use Rattle.dag_forest.specs.Entries.{AreBelow, is_read}
+use Rattle.dag_forest.specs.Entries.{AreBelow, is_call, is_read, is_write}
 use Rattle.dag_forest.specs.Keys.{key_at, mark_of}
-use Rattle.dag_forest.specs.Tally.{Tally, with_entry, none, tally, keys_of, key_behind, AreFormed, node_count, ends}
+use Rattle.dag_forest.specs.Schedules.{is_in, kids_list}
+use Rattle.dag_forest.specs.Tally.{holds_call, kids_call, Tally, with_entry, none, tally, keys_of, key_behind, AreFormed, node_count, ends}
 
 pub tally_value : (es : List Entry) (x : Parts) → tally (es ++ Value x ∷ []) ≡ with_entry (tally es) (Value x)
 tally_value es x = fold-append with_entry none es (Value x ∷ [])
@@ -98,3 +102,31 @@ pub within : {X : Type 0} (xs : List X) (m : ℕ) (k : X) → slice_get xs m ≡
 within [] m k e = absurd (none_some k e)
 within (x ∷ xs) zero k e = omega arith
 within (x ∷ xs) (suc m) k e = let h = within xs m k e in omega (arith, h)
+
+-- ---- calls at and below nodes
+
+calling_from : (es : List Entry) (t : Tally) → length (fold with_entry t es).calling ≡ length t.calling + node_count es
+calling_from [] t = omega arith
+calling_from (Value x ∷ es) t = let h = calling_from es (with_entry t (Value x)) in let e = length-append t.calling (holds_call t.calling x ∷ []) in omega (arith, h, e)
+calling_from (Root x ∷ es) t = calling_from es (with_entry t (Root x))
+
+called_in : (calling : List Bool) (n : ℕ) (k : Kids) → get_or calling n false ≡ true → is_in n (kids_list k) ≡ true → kids_call calling k ≡ true
+called_in calling n Zero h i = absurd (true≢false (sym i))
+called_in calling n (One a) h i = ⊎_elim (λ e. ap (λ m. get_or calling m false) (sym (eqb-true n a e)) ∙ h) (λ e. absurd (true≢false (sym e))) (or_true (n == a) false i)
+called_in calling n (Two a c) h i = ⊎_elim
+    (λ e. or_left (get_or calling a false) (get_or calling c false) (ap (λ m. get_or calling m false) (sym (eqb-true n a e)) ∙ h))
+    (λ e. ⊎_elim (λ q. or_right (get_or calling a false) (get_or calling c false) (ap (λ m. get_or calling m false) (sym (eqb-true n c q)) ∙ h)) (λ q. absurd (true≢false (sym q))) (or_true (n == c) false e))
+    (or_true (n == a) (is_in n (c ∷ [])) i)
+
+-- a root that uses a call ends the stretch
+pub call_ends : (es : List Entry) (c a : Parts) → is_call c.operator.op ≡ true → is_in (node_count es) (kids_list a.kids) ≡ true → ends (tally (es ++ Value c ∷ [])).calling a ≡ true
+call_ends es c a calls within =
+    let calling = (tally (es ++ Value c ∷ [])).calling in
+    let count : length (tally es).calling ≡ 0 + node_count es = calling_from es none in
+    let here : length (tally es).calling ≡ node_count es = omega (arith, count) in
+    let got : get_or calling (node_count es) false ≡ true =
+        ap (λ (t : Tally). get_or t.calling (node_count es) false) (tally_value es c)
+        ∙ ap (λ m. get_or ((tally es).calling ++ holds_call (tally es).calling c ∷ []) m false) (sym here)
+        ∙ get_or-append_seam (tally es).calling (holds_call (tally es).calling c) [] false
+        ∙ or_left (is_call c.operator.op) (kids_call (tally es).calling c.kids) calls in
+    or_right (is_write a.operator.op) (holds_call calling a) (or_right (is_call a.operator.op) (kids_call calling a.kids) (called_in calling (node_count es) a.kids got within))

@@ -1,25 +1,27 @@
 -- The values of an open block's nodes, as it grows.
-use Rattle.std.proofs.Common.{◌≡◌, ⊎_elim, ℕ, ◌+◌, ◌<◌, ◌≤◌, Bool, true, false, true≢false, Some, None, List, [], ◌∷◌, ◌++◌, length, slice_get, refl, sym, ap, ◌∙◌, subst, arith}
-use Rattle.std.specs.Prelude.{◌⊎◌, if◌then◌else◌}
+use Rattle.std.proofs.Common.{◌≡◌, ⊎_elim, ℕ, ◌+◌, ◌<◌, ◌≤◌, Bool, true, false, true≢false, Some, None, List, [], ◌∷◌, ◌++◌, length, slice_get, refl, sym, ap, ◌∙◌, subst, arith, append_assoc}
+use Rattle.std.specs.Prelude.{◌⊎◌, ◌||◌, if◌then◌else◌}
 use Rattle.op_forest.specs.Nodes.{Head}
 use Rattle.forests.specs.Words.{Word}
-use Rattle.forests.specs.Worlds.{World, Point}
-use Rattle.forests.specs.Bodies.{Setting}
+use Rattle.forests.specs.Worlds.{World, Point, Move, Went}
+use Rattle.forests.specs.Bodies.{Setting, does}
 use Rattle.forests.specs.Alike.{AreAlike}
+use Rattle.forests.specs.Budgets.{with_left}
+use Rattle.forests.specs.Kept.{CallsKeep, Kept, does_kept}
 use Rattle.dag_forest.specs.declared.entry.Entry.{Entry}
 use Rattle.dag_forest.specs.declared.entry.Entry.TheVariants.{Value, Root}
 use Rattle.dag_forest.specs.declared.key.Key.{Key}
 use Rattle.dag_forest.specs.declared.kids.Kids.{Kids}
 use Rattle.dag_forest.specs.declared.kids.Kids.TheVariants.{Zero, One, Two}
 use Rattle.dag_forest.specs.declared.parts.Parts.{Parts}
-use Rattle.dag_forest.specs.Entries.{AreBelow, is_call, is_read}
-use Rattle.dag_forest.specs.Meaning.{Temporary, Keeps, IsTemporary, SameBut, HasNow}
-use Rattle.dag_forest.specs.Schedules.{head_of, operands, at}
-use Rattle.dag_forest.specs.Tally.{tally, keys_of, key_behind, AreFormed, node_count, ends}
+use Rattle.dag_forest.specs.Entries.{AreBelow, is_call, is_read, is_write}
+use Rattle.dag_forest.specs.Meaning.{is_end, Leaves, Temporary, Keeps, IsTemporary, SameBut, HasNow}
+use Rattle.dag_forest.specs.Schedules.{is_in, kids_list, head_of, operands, at}
+use Rattle.dag_forest.specs.Tally.{kids_call, tally, keys_of, key_behind, AreFormed, node_count, ends}
 use Rattle.dag_seam.specs.Turns.{made_of}
 use Rattle.dag_seam.specs.Open.{IsNow, Open}
 use Rattle.dag_seam.proofs.lemmas.Maps.{at_new, at_old}
-use Rattle.dag_seam.proofs.lemmas.Keys.{keys_value, keys_root, stretch_value, stretch_root, last_get, read_mark, AreMarked, are_marked, count_keys, are_earlier, within}
+use Rattle.dag_seam.proofs.lemmas.Keys.{keys_value, keys_root, stretch_value, stretch_root, last_get, read_mark, AreMarked, are_marked, count_keys, are_earlier, within, call_ends}
 use Rattle.dag_seam.proofs.lemmas.MadeNodes.{next_unmade, made_more}
 
 -- the operands are other nodes than a later one
@@ -95,3 +97,26 @@ module _ (s : Setting) (keeps : Keeps) where
         by m k is plain mark false e r q =
             now_moves (is_read k.parts.operator.op) (made_of es) (made_of (es ++ Root x ∷ [])) (head_of k.parts) (operands k.parts.kids values) w w1 (values m) alike (made_more es (Root x ∷ [])) (λ z o off old. absurd (true≢false (sym z ∙ r)))
             (is_open.now m k is plain (λ z. absurd (true≢false (sym z ∙ r))))
+
+  not_end : (w c k : Bool) → (w || (c || k)) ≡ false → (w || c) ≡ false
+  not_end true c k h = h
+  not_end false true k h = h
+  not_end false false k h = refl
+
+  pub root_acts : CallsKeep s.call → (es : List Entry) (values : ℕ → Word) (w : World) → Open s keeps es values w → (x : Parts) (left : ℕ) (vs : List Word) (p : Point) (move : Move) → does s (head_of x) (operands x.kids values) (with_left left w) ≡ Went vs p move → Leaves (is_end x) keeps (made_of es) w p.world
+      → Open s keeps (es ++ Root x ∷ []) values p.world
+  root_acts keep es values w is_open x left vs p move e leaves =
+      let kept : Kept w (Went vs p move) = subst (Kept w) e (does_kept s keep (head_of x) (operands x.kids values) (with_left left w)) in
+      root_open es values w is_open x p.world (sym kept.shapes)
+      (λ none o. by (not_end (is_write x.operator.op) (is_call x.operator.op) (kids_call (tally es).calling x.kids) none) o)
+    where
+      by : is_end x ≡ false → (o : ℕ) → slice_get p.world.objects o ≡ slice_get w.objects o
+      by none = subst (λ b. Leaves b keeps (made_of es) w p.world) none leaves
+
+  pub call_holds : (es : List Entry) → AreFormed es 0 → (values : ℕ → Word) (w : World) → Open s keeps es values w → (c a : Parts) → AreBelow (node_count es) c.kids → is_call c.operator.op ≡ true → is_in (node_count es) (kids_list a.kids) ≡ true → (v : Word) (w1 : World) → AreAlike w.objects w1.objects
+      → Open s keeps (es ++ Value c ∷ Root a ∷ []) (at values (node_count es) v) w1
+  call_holds es formed values w is_open c a below calls within v w1 alike =
+      subst (λ z. Open s keeps z (at values (node_count es) v) w1) (append_assoc es (Value c ∷ []) (Root a ∷ []))
+      (root_open (es ++ Value c ∷ []) (at values (node_count es) v) w
+      (node_open es formed values w is_open c below v (λ plain. absurd (true≢false (sym calls ∙ plain))))
+      a w1 alike (λ none. absurd (true≢false (sym (call_ends es c a calls within) ∙ none))))
