@@ -3,5 +3,7 @@
 #![tactic(auto)]
 
 mod laws;
+mod splits;
 
 pub use laws::{blocks_go_on, rooms_are_needed, runs_go_on, split_trees_fit, values_hold};
+pub use splits::split_trees_mean;

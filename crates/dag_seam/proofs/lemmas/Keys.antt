@@ -70,7 +70,7 @@ all_marked [] t h = h
 all_marked (Value x ∷ es) t h = all_marked es (with_entry t (Value x)) (marked_value t x h)
 all_marked (Root x ∷ es) t h = all_marked es (with_entry t (Root x)) (marked_root t x h)
 
-none_some : {A : Type 0} (u : A) → None ≡ Some u → ⊥
+pub none_some : {A : Type 0} (u : A) → None ≡ Some u → ⊥
 none_some u e = cc
 
 pub are_marked : (es : List Entry) → AreMarked (tally es)
