@@ -1,0 +1,5 @@
+pub mod Uses
+pub mod Usable
+pub mod Sizing
+pub mod Parts
+pub mod Weighing
