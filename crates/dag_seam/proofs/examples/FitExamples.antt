@@ -21,11 +21,21 @@ slots = split_frame [] (doubled (pos 0)) ++ []
 
 fits : FitsBlock slots (doubled (pos 0))
 fits = (
-  record { fits = record { operator = omega arith; part = tt; operands = tt; local = λ e. let no : ⊥ = cc in absurd no }; value = refl }, (
-  record { fits = record { operator = omega arith; part = tt; operands = record { key = _; is = refl; value = refl; suffix = refl }; local = λ e. let no : ⊥ = cc in absurd no }; value = refl }, (
-  record { fits = record { operator = omega arith; part = tt; operands = tt; local = λ e. let no : ⊥ = cc in absurd no }; value = refl }, (
-  record { fits = record { operator = omega arith; part = tt; operands = (record { key = _; is = refl; value = refl; suffix = refl }, record { key = _; is = refl; value = refl; suffix = refl }); local = λ e. let no : ⊥ = cc in absurd no }; value = refl }, (
-  record { operator = omega arith; part = tt; operands = (record { key = _; is = refl; value = refl; suffix = refl }, record { key = _; is = refl; value = refl; suffix = refl }); local = λ e. let no : ⊥ = cc in absurd no }, tt)))))
+  record { fits = record { operator = omega arith; part = tt; operands = tt; local = λ e. let no : ⊥ = cc in absurd no }; value = refl },
+  (
+    record { fits = record { operator = omega arith; part = tt; operands = record { key = _; is = refl; value = refl; suffix = refl }; local = λ e. let no : ⊥ = cc in absurd no }; value = refl },
+    (
+      record { fits = record { operator = omega arith; part = tt; operands = tt; local = λ e. let no : ⊥ = cc in absurd no }; value = refl },
+      (
+        record { fits = record { operator = omega arith; part = tt; operands = (record { key = _; is = refl; value = refl; suffix = refl }, record { key = _; is = refl; value = refl; suffix = refl }); local = λ e. let no : ⊥ = cc in absurd no }; value = refl },
+        (
+          record { operator = omega arith; part = tt; operands = (record { key = _; is = refl; value = refl; suffix = refl }, record { key = _; is = refl; value = refl; suffix = refl }); local = λ e. let no : ⊥ = cc in absurd no },
+          tt,
+        ),
+      ),
+    ),
+  ),
+)
 
 word_or_address : Suffix → Type 0
 word_or_address I = Unit {0}

@@ -18,7 +18,6 @@ module _ (P : ℕ → Parts → Type 0) (Q : Parts → Type 0) where
   are_append (Made n x ∷ xs) ys h g = (h.0, are_append xs ys h.1 g)
   are_append (Acts x ∷ xs) ys h g = (h.0, are_append xs ys h.1 g)
 
-
   are_first : (a : Act) (xs : List Act) → AreActs P Q (a ∷ xs) → AreActs P Q (a ∷ []) × AreActs P Q xs
   are_first (Made n x) xs h = ((h.0, tt), h.1)
   are_first (Acts x) xs h = ((h.0, tt), h.1)

@@ -56,10 +56,10 @@ read_mark o stretch count h = absurd (true≢false (sym h))
 marked_value : (t : Tally) (x : Parts) → AreMarked t → AreMarked (with_entry t (Value x))
 marked_value t x h = record {
   marks = λ m k is r. ⊎_elim
-  (λ q. h.marks m k q r)
-  (λ q. let e : mark_of x.operator.op t.stretch (length t.keys) ≡ t.stretch = read_mark x.operator.op t.stretch (length t.keys) (ap (λ (z : Key). is_read z.parts.operator.op) q.1 ∙ r) in
-  let d : mark_of x.operator.op t.stretch (length t.keys) ≡ k.mark = ap (λ (z : Key). z.mark) q.1 in omega (arith, d, e))
-  (last_get t.keys (key_at t.stretch (length t.keys) x) m k is);
+      (λ q. h.marks m k q r)
+      (λ q. let e : mark_of x.operator.op t.stretch (length t.keys) ≡ t.stretch = read_mark x.operator.op t.stretch (length t.keys) (ap (λ (z : Key). is_read z.parts.operator.op) q.1 ∙ r) in
+      let d : mark_of x.operator.op t.stretch (length t.keys) ≡ k.mark = ap (λ (z : Key). z.mark) q.1 in omega (arith, d, e))
+      (last_get t.keys (key_at t.stretch (length t.keys) x) m k is);
 }
 
 marked_root : (t : Tally) (x : Parts) → AreMarked t → AreMarked (with_entry t (Root x))
@@ -125,8 +125,8 @@ call_ends es c a calls within =
     let count : length (tally es).calling ≡ 0 + node_count es = calling_from es none in
     let here : length (tally es).calling ≡ node_count es = omega (arith, count) in
     let got : get_or calling (node_count es) false ≡ true =
-        ap (λ (t : Tally). get_or t.calling (node_count es) false) (tally_value es c)
-        ∙ ap (λ m. get_or ((tally es).calling ++ holds_call (tally es).calling c ∷ []) m false) (sym here)
-        ∙ get_or-append_seam (tally es).calling (holds_call (tally es).calling c) [] false
-        ∙ or_left (is_call c.operator.op) (kids_call (tally es).calling c.kids) calls in
+    ap (λ (t : Tally). get_or t.calling (node_count es) false) (tally_value es c)
+    ∙ ap (λ m. get_or ((tally es).calling ++ holds_call (tally es).calling c ∷ []) m false) (sym here)
+    ∙ get_or-append_seam (tally es).calling (holds_call (tally es).calling c) [] false
+    ∙ or_left (is_call c.operator.op) (kids_call (tally es).calling c.kids) calls in
     or_right (is_write a.operator.op) (holds_call calling a) (or_right (is_call a.operator.op) (kids_call calling a.kids) (called_in calling (node_count es) a.kids got within))

@@ -52,20 +52,20 @@ module _ (s : Setting) (keeps : Keeps) where
         → Open s keeps (es ++ Value x ∷ []) (at values (node_count es) v) w1
     opened w1 moves now = record {
       now = λ m k is plain mark. ⊎_elim
-      (λ q.
-      let l = within (keys_of es) m k q in let c = count_keys es in
-      let ne : m ≡ node_count es → ⊥ = λ e. omega (arith, e, l, c) in
-      subst (λ u. IsNow s keeps (made_of (es ++ Value x ∷ [])) k.parts (at values (node_count es) v) w1 u) (sym (at_old values (node_count es) v m ne))
-      (subst (λ ws. HasNow (is_read k.parts.operator.op) s keeps (made_of (es ++ Value x ∷ [])) (head_of k.parts) ws w1 (values m)) (sym (operands_below k.parts.kids m (node_count es) values v (are_earlier es formed m k q) (omega (arith, l, c))))
-      (moves (is_read k.parts.operator.op) (head_of k.parts) (operands k.parts.kids values) (values m) (is_open.now m k q plain (λ r. mark r ∙ stretch_value es x)))))
-      (λ q.
-      let here : m ≡ node_count es = q.0 ∙ count_keys es in
-      let parts : x ≡ k.parts = ap (λ (z : Key). z.parts) q.1 in
-      subst (λ u. IsNow s keeps (made_of (es ++ Value x ∷ [])) k.parts (at values (node_count es) v) w1 u) (sym (ap (at values (node_count es) v) here ∙ at_new values (node_count es) v))
-      (subst (λ (z : Parts). IsNow s keeps (made_of (es ++ Value x ∷ [])) z (at values (node_count es) v) w1 v) parts
-      (subst (λ ws. HasNow (is_read x.operator.op) s keeps (made_of (es ++ Value x ∷ [])) (head_of x) ws w1 v) (sym (operands_below x.kids (node_count es) (node_count es) values v below (omega arith)))
-      (moves (is_read x.operator.op) (head_of x) (operands x.kids values) v (now (ap (λ (z : Parts). is_call z.operator.op) parts ∙ plain))))))
-      (last_get (keys_of es) (key_behind es x) m k (sym (ap (λ z. slice_get z m) (keys_value es x)) ∙ is));
+          (λ q.
+          let l = within (keys_of es) m k q in let c = count_keys es in
+          let ne : m ≡ node_count es → ⊥ = λ e. omega (arith, e, l, c) in
+          subst (λ u. IsNow s keeps (made_of (es ++ Value x ∷ [])) k.parts (at values (node_count es) v) w1 u) (sym (at_old values (node_count es) v m ne))
+          (subst (λ ws. HasNow (is_read k.parts.operator.op) s keeps (made_of (es ++ Value x ∷ [])) (head_of k.parts) ws w1 (values m)) (sym (operands_below k.parts.kids m (node_count es) values v (are_earlier es formed m k q) (omega (arith, l, c))))
+          (moves (is_read k.parts.operator.op) (head_of k.parts) (operands k.parts.kids values) (values m) (is_open.now m k q plain (λ r. mark r ∙ stretch_value es x)))))
+          (λ q.
+          let here : m ≡ node_count es = q.0 ∙ count_keys es in
+          let parts : x ≡ k.parts = ap (λ (z : Key). z.parts) q.1 in
+          subst (λ u. IsNow s keeps (made_of (es ++ Value x ∷ [])) k.parts (at values (node_count es) v) w1 u) (sym (ap (at values (node_count es) v) here ∙ at_new values (node_count es) v))
+          (subst (λ (z : Parts). IsNow s keeps (made_of (es ++ Value x ∷ [])) z (at values (node_count es) v) w1 v) parts
+          (subst (λ ws. HasNow (is_read x.operator.op) s keeps (made_of (es ++ Value x ∷ [])) (head_of x) ws w1 v) (sym (operands_below x.kids (node_count es) (node_count es) values v below (omega arith)))
+          (moves (is_read x.operator.op) (head_of x) (operands x.kids values) v (now (ap (λ (z : Parts). is_call z.operator.op) parts ∙ plain))))))
+          (last_get (keys_of es) (key_behind es x) m k (sym (ap (λ z. slice_get z m) (keys_value es x)) ∙ is));
     }
 
     -- a new node without a temporary

@@ -140,7 +140,6 @@ rooms_few (Made n x ∷ xs) reads t = by (is_wanted xs reads n x) (rooms_to (Mad
     by true u h = omega (arith, h)
 rooms_few (Acts x ∷ xs) reads t = rooms_few xs reads t
 
-
 count_one : (a : Act) (xs : List Act) → made_count (a ∷ xs) ≡ made_count (a ∷ []) + made_count xs
 count_one (Made n x) xs = omega arith
 count_one (Acts x) xs = omega arith

@@ -233,16 +233,16 @@ module _ (f : Room → Temporary) (kind : (r : Room) (s : Suffix) (t : Tree) →
   )
   both (Acts x ∷ as') = (
     (λ made uses reads t ts g same once used_ sized none holds. root_size x as' reads t ts g (all_map (λ m. IsUsable (uses m)) (λ m. g m ≡ nodes (ts m)) x.kids sized (kids_usable uses x.kids holds.0))
-    ((both as').0 made (λ m. faded (is_end x) (uses m)) reads t ts g same once used_ (λ m us. sized m (faded_usable (is_end x) (uses m) us)) none holds.1)),
+        ((both as').0 made (λ m. faded (is_end x) (uses m)) reads t ts g same once used_ (λ m us. sized m (faded_usable (is_end x) (uses m) us)) none holds.1)),
     acts_take x as' (both as').0,
   )
 
 pub split_has_size : (order : Order) (home : Home) (before : List Slot) (es : List Entry) → Split before es → sum_by nodes (split_trees order home before es []) + room_count es ≡ split_size es
 split_has_size order home before es split =
     let h : sum_by nodes (split_trees order home before es []) + room_count es ≡ 0 + (sum_uses (acts_of es) (λ m. 0) + split_size es) =
-        (both (temporary_of order home before)
-        (λ r s t e. subst (λ k. nodes (slot_store k (offset_below (lowest before) r.number) t) + 1 ≡ store_size s + nodes t) (sym e) (store_nodes s (offset_below (lowest before) r.number) t))
-        (λ r s e. read_nodes s (offset_below (lowest before) r.number) ∙ ap (λ k. nodes (slot_read k (offset_below (lowest before) r.number))) (sym e))
-        (room_of es) (acts_of es)).0 (λ m. false) (λ m. Lost) (λ m. false) 0 (λ m. no_tree) (λ m. 0) (λ m e. refl) (acts_are_once es) (are_used (in_turn es 0 [])) (λ m us. absurd us) (λ m e. refl) (split.holds order home) in
+    (both (temporary_of order home before)
+    (λ r s t e. subst (λ k. nodes (slot_store k (offset_below (lowest before) r.number) t) + 1 ≡ store_size s + nodes t) (sym e) (store_nodes s (offset_below (lowest before) r.number) t))
+    (λ r s e. read_nodes s (offset_below (lowest before) r.number) ∙ ap (λ k. nodes (slot_read k (offset_below (lowest before) r.number))) (sym e))
+    (room_of es) (acts_of es)).0 (λ m. false) (λ m. Lost) (λ m. false) 0 (λ m. no_tree) (λ m. 0) (λ m e. refl) (acts_are_once es) (are_used (in_turn es 0 [])) (λ m us. absurd us) (λ m e. refl) (split.holds order home) in
     let z = no_uses (acts_of es) in
     omega (arith, h, z)

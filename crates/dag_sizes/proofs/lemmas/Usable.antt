@@ -110,16 +110,16 @@ module _ (keeps : Keeps) where
   both [] = (λ made uses once used_ holds m l. absurd (let z : 0 < 0 = l in omega (arith, z)), λ n made uses once used_ holds m ne l. absurd holds)
   both (Made n x ∷ as') = (
     (λ made uses once used_ holds m l. ⊎_elim
-    (λ p. inl p)
-    (λ k. made_all n x as' (both as').0 (both as').1 made uses once.1 used_.1 (is_call x.operator.op) (keeps n) holds m k)
-    (one_of x.kids (counts as' m) m (λ a. IsUsable (uses a)) l (kids_usable uses x.kids (made_usable n x as' (both as').0 made uses once.1 used_.1 used_.0 (is_call x.operator.op) (keeps n) holds)))),
+        (λ p. inl p)
+        (λ k. made_all n x as' (both as').0 (both as').1 made uses once.1 used_.1 (is_call x.operator.op) (keeps n) holds m k)
+        (one_of x.kids (counts as' m) m (λ a. IsUsable (uses a)) l (kids_usable uses x.kids (made_usable n x as' (both as').0 made uses once.1 used_.1 used_.0 (is_call x.operator.op) (keeps n) holds)))),
     (λ k made uses once used_ holds m ne l. absurd holds),
   )
   both (Acts x ∷ as') = (
     (λ made uses once used_ holds m l. ⊎_elim
-    (λ p. inl p)
-    (λ k. ⊎_elim (λ us. inl (faded_usable (is_end x) (uses m) us)) (λ e. inr e) ((both as').0 made (λ k. faded (is_end x) (uses k)) once used_ holds.1 m k))
-    (one_of x.kids (counts as' m) m (λ a. IsUsable (uses a)) l (kids_usable uses x.kids holds.0))),
+        (λ p. inl p)
+        (λ k. ⊎_elim (λ us. inl (faded_usable (is_end x) (uses m) us)) (λ e. inr e) ((both as').0 made (λ k. faded (is_end x) (uses k)) once used_ holds.1 m k))
+        (one_of x.kids (counts as' m) m (λ a. IsUsable (uses a)) l (kids_usable uses x.kids holds.0))),
     acts_taken x as' (both as').0,
   )
 

@@ -1,5 +1,5 @@
 -- A block's size is no more than its weight: a node that is kept, and isn't heavy, has a heavy one at or below it that isn't kept.
-use Rattle.std.proofs.Common.{◌≡◌, ⊎_elim, ℕ, zero, suc, ◌+◌, ◌*◌, ◌<◌, ◌≤◌, Bool, true, false, true≢false, List, [], ◌∷◌, ◌++◌, inl, inr, refl, sym, ap, ◌∙◌, subst, arith}
+use Rattle.std.proofs.Common.{◌≡◌, ⊎_elim, ℕ, zero, suc, ◌+◌, ◌*◌, ◌<◌, ◌≤◌, Bool, true, false, true≢false, List, [], ◌∷◌, ◌++◌, inl, inr, refl, sym, ap, ◌∙◌, subst, arith, mul-le-mul_left}
 use Rattle.std.specs.Prelude.{◌⊎◌, ◌&&◌, ◌||◌, not, if◌then◌else◌}
 use Rattle.std.proofs.lemmas.Bool.{cases_eq, eqb-true}
 use Rattle.op_forest.specs.declared.op.Op.{Op}
@@ -99,7 +99,7 @@ sizes_of B = (refl, omega arith, omega arith)
 sizes_of V = (refl, omega arith, omega arith)
 
 grows : (r c c1 : ℕ) → c ≤ c1 → r * c ≤ r * c1
-grows r c c1 l = search (arith, mul-le-mul_left)
+grows r c c1 l = mul-le-mul_left r l
 
 abbrev size_by : Bool → ℕ → ℕ → ℕ → ℕ
 size_by true st rd c = 1 + st + rd * c
@@ -243,13 +243,13 @@ keep n x full xs part rest made reads heavy due once used_ paid none =
     let more = uses_at xs due n d (none n once.0) in
     let here = node_bound x (counts xs n) (counts full n) (sum_kids x.kids due) (late xs n) (late full n) (is_handed xs n) reads heavy used_.0 (counts_less full xs n part) (late_same full xs n part) (reads_paid x reads heavy due (node_uses xs) paid) in
     let later = rest (at made n true) (at reads n (not w && reads_by reads x)) (at heavy n (not v && reads_by heavy x)) (at due n d) once.1 used_.1
-        (λ m a b. ⊎_elim
-        (λ e. subst (λ z. (7 ≤ at due n d z) ⊎ (node_uses xs z ≡ 0)) (sym e) (subst (λ z. (7 ≤ z) ⊎ (node_uses xs n ≡ 0)) (sym (at_new due n d))
-        (own (sym (ap (at reads n (not w && reads_by reads x)) e ∙ at_new reads n (not w && reads_by reads x)) ∙ a) (sym (ap (at heavy n (not v && reads_by heavy x)) e ∙ at_new heavy n (not v && reads_by heavy x)) ∙ b) (is_call x.operator.op) refl)))
-        (λ ne. ⊎_elim (λ l. inl (subst (λ z. 7 ≤ z) (sym (at_old due n d m ne)) l)) (λ z. inr (let q : in_kids x.kids m + node_uses xs m ≡ 0 = z in omega (arith, q)))
-        (paid m (sym (at_old reads n (not w && reads_by reads x) m ne) ∙ a) (sym (at_old heavy n (not v && reads_by heavy x) m ne) ∙ b)))
-        (cases_eq m n))
-        (λ m un. at_old due n d m (unmade_other made n m un) ∙ none m (unmade made n m un)) in
+    (λ m a b. ⊎_elim
+    (λ e. subst (λ z. (7 ≤ at due n d z) ⊎ (node_uses xs z ≡ 0)) (sym e) (subst (λ z. (7 ≤ z) ⊎ (node_uses xs n ≡ 0)) (sym (at_new due n d))
+    (own (sym (ap (at reads n (not w && reads_by reads x)) e ∙ at_new reads n (not w && reads_by reads x)) ∙ a) (sym (ap (at heavy n (not v && reads_by heavy x)) e ∙ at_new heavy n (not v && reads_by heavy x)) ∙ b) (is_call x.operator.op) refl)))
+    (λ ne. ⊎_elim (λ l. inl (subst (λ z. 7 ≤ z) (sym (at_old due n d m ne)) l)) (λ z. inr (let q : in_kids x.kids m + node_uses xs m ≡ 0 = z in omega (arith, q)))
+    (paid m (sym (at_old reads n (not w && reads_by reads x) m ne) ∙ a) (sym (at_old heavy n (not v && reads_by heavy x) m ne) ∙ b)))
+    (cases_eq m n))
+    (λ m un. at_old due n d m (unmade_other made n m un) ∙ none m (unmade made n m un)) in
     omega (arith, more, here, later)
   where
     own : (not (is_wanted xs reads n x) && reads_by reads x) ≡ true → (not (is_heavy full heavy n x) && reads_by heavy x) ≡ false → (call : Bool) → is_call x.operator.op ≡ call
@@ -264,11 +264,11 @@ leave n x full xs unused rest made reads heavy due once used_ paid none =
     let b = not (is_heavy full heavy n x) && reads_by heavy x in
     let few = node_uses_few xs n in
     let later = rest made reads (at heavy n b) due once used_
-        (λ m a c. ⊎_elim
-        (λ e. inr (ap (node_uses xs) e ∙ (let z : node_uses xs n ≡ 0 = omega (arith, few, unused) in z)))
-        (λ ne. paid m a (sym (at_old heavy n b m ne) ∙ c))
-        (cases_eq m n))
-        none in
+    (λ m a c. ⊎_elim
+    (λ e. inr (ap (node_uses xs) e ∙ (let z : node_uses xs n ≡ 0 = omega (arith, few, unused) in z)))
+    (λ ne. paid m a (sym (at_old heavy n b m ne) ∙ c))
+    (cases_eq m n))
+    none in
     omega (arith, later)
 
 acts : (x : Parts) (full xs : List Act) → Weighed full xs → Weighed (Acts x ∷ full) (Acts x ∷ xs)

@@ -1,0 +1,37 @@
+-- y = x + x: 11 nodes in two trees, and one room.
+use Rattle.std.specs.Prelude.{◌≡◌, refl, ℕ, ◌+◌, pos, List, [], ◌∷◌}
+use Rattle.op_forest.specs.declared.op.Op.TheVariants as op
+use Rattle.op_forest.specs.declared.suffix.Suffix.TheVariants.{I, U}
+use Rattle.dag_forest.specs.declared.entry.Entry.{Entry}
+use Rattle.dag_forest.specs.declared.entry.Entry.TheVariants.{Value, Root}
+use Rattle.dag_forest.specs.declared.kids.Kids.TheVariants.{One, Two}
+use Rattle.dag_forest.specs.BlockExamples.{over, read, write, address, doubled, assigned}
+use Rattle.dag_sizes.specs.Sizes.{store_size, read_size, split_size}
+use Rattle.dag_sizes.specs.Weights.{weight}
+
+doubled_size : split_size (doubled (pos 0)) ≡ 12
+doubled_size = refl
+
+doubled_weight : weight (doubled (pos 0)) ≡ 12
+doubled_weight = refl
+
+-- an unsigned number takes a node more to store, and one more to read
+unsigned_sizes : store_size U + read_size U ≡ store_size I + read_size I + 2
+unsigned_sizes = refl
+
+-- x = f(): the call is handed, so it is one tree of 4 nodes; by its weight it has a room
+assigned_size : split_size assigned ≡ 4
+assigned_size = refl
+
+assigned_weight : weight assigned ≡ 9
+assigned_weight = refl
+
+-- a node that nothing uses counts for the weight alone
+abbrev unused : List Entry
+unused = Value (address 0 (pos 0)) ∷ Value (read 0) ∷ Value (address 1 (pos 0)) ∷ write 2 1 ∷ Value (over op.Neg I (One 1)) ∷ []
+
+unused_size : split_size unused ≡ 4
+unused_size = refl
+
+unused_weight : weight unused ≡ 12
+unused_weight = refl
