@@ -1,6 +1,6 @@
 -- y = x + x fits an empty frame.
-use Rattle.std.specs.Prelude.{◌≡◌, refl, ℕ, zero, suc, pos, false, Some, None, List, [], ◌∷◌, ◌++◌}
-use Rattle.std.proofs.Common.{inl, inr, arith, subst, ap, ◌∙◌}
+use Rattle.std.specs.Prelude.{◌≡◌, refl, zero, suc, pos, None, List, [], ◌∷◌, ◌++◌}
+use Rattle.std.proofs.Common.{inl, arith, subst, ap, ◌∙◌}
 use Rattle.op_forest.specs.declared.frame.Slot.{Slot}
 use Rattle.op_forest.specs.declared.op.Op.TheVariants as op
 use Rattle.op_forest.specs.declared.suffix.Suffix.TheVariants.{I, P, B, V}
@@ -14,7 +14,7 @@ use Rattle.dag_forest.specs.declared.kids.Kids.TheVariants.{Zero, One}
 use Rattle.dag_forest.specs.BlockExamples.{over, doubled}
 use Rattle.dag_forest.specs.Split.{split_frame}
 use Rattle.dag_forest.specs.Tally.{keys_of}
-use Rattle.dag_seam.specs.Fitting.{Gives, Fits, FitsNode, FitsBlock, KeepsNoBlock, IsOwnLabel}
+use Rattle.dag_seam.specs.Fitting.{Fits, FitsBlock, KeepsNoBlock, IsOwnLabel}
 
 abbrev slots : List Slot
 slots = split_frame [] (doubled (pos 0)) ++ []

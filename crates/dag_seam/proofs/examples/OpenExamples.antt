@@ -1,5 +1,5 @@
 -- A block of a constant is open where its node has the constant as its value.
-use Rattle.std.specs.Prelude.{◌≡◌, refl, ℕ, pos, false, Some, List, [], ◌∷◌}
+use Rattle.std.specs.Prelude.{◌≡◌, refl, ℕ, pos, [], ◌∷◌}
 use Rattle.objects.specs.declared.value.Value.TheVariants.{Number}
 use Rattle.forests.specs.Words.{Word, Plain}
 use Rattle.forests.specs.Worlds.{World, Next, Went}

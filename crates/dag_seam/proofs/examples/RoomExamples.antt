@@ -1,5 +1,5 @@
 -- Why x has a room in y = x + x.
-use Rattle.std.specs.Prelude.{◌≡◌, refl, pos, true, false, Some, List, [], ◌∷◌}
+use Rattle.std.specs.Prelude.{refl, pos, List, [], ◌∷◌}
 use Rattle.std.proofs.Common.{inl, inr, arith, true≢false, sym}
 use Rattle.op_forest.specs.declared.op.Op.TheVariants as op
 use Rattle.op_forest.specs.declared.suffix.Suffix.TheVariants.{I}

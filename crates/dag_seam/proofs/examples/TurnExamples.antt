@@ -1,11 +1,11 @@
 -- What waits behind small blocks, what they make, and how their runs end.
-use Rattle.std.specs.Prelude.{◌≡◌, refl, ℕ, pos, true, false, Some, None, List, [], ◌∷◌}
-use Rattle.std.proofs.Common.{inl, inr, arith}
+use Rattle.std.specs.Prelude.{◌≡◌, refl, ℕ, pos, true, false, None, List, [], ◌∷◌}
+use Rattle.std.proofs.Common.{inl, inr}
 use Rattle.op_forest.specs.declared.op.Op.TheVariants as op
 use Rattle.op_forest.specs.declared.suffix.Suffix.TheVariants.{I, V}
 use Rattle.op_forest.specs.declared.sym.Sym.TheVariants as sym
 use Rattle.op_forest.specs.Nodes.{Leaf}
-use Rattle.forests.specs.Words.{Word, unknown}
+use Rattle.forests.specs.Words.{Word}
 use Rattle.forests.specs.Worlds.{World, Point}
 use Rattle.dag_forest.specs.declared.act.Act.TheVariants.{Made, Acts}
 use Rattle.dag_forest.specs.declared.entry.Entry.{Entry}

@@ -1,5 +1,5 @@
 -- What holds of a block's entries holds of what it does.
-use Rattle.std.proofs.Common.{◌≡◌, ⊎_elim, ℕ, zero, suc, ◌+◌, ◌≤◌, Bool, true, false, Some, None, List, [], ◌∷◌, ◌++◌, length, slice_get, refl, sym, ap, ◌∙◌, subst, arith, length-append}
+use Rattle.std.proofs.Common.{◌≡◌, ℕ, zero, suc, ◌+◌, Bool, true, false, Some, List, [], ◌∷◌, ◌++◌, length, slice_get, refl, subst, arith, length-append}
 use Rattle.std.specs.Prelude.{if◌then◌else◌, fold}
 use Rattle.dag_forest.specs.declared.act.Act.{Act}
 use Rattle.dag_forest.specs.declared.act.Act.TheVariants.{Made, Acts}

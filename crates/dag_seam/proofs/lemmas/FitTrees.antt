@@ -1,5 +1,5 @@
 -- The trees of a block that fits are well formed.
-use Rattle.std.proofs.Common.{◌≡◌, ⊎_elim, ℕ, ◌≤◌, Bool, true, false, true≢false, Option, Some, None, List, [], ◌∷◌, ◌++◌, length, refl, sym, ap, ◌∙◌, subst, arith}
+use Rattle.std.proofs.Common.{◌≡◌, ⊎_elim, ℕ, ◌≤◌, Bool, true, false, Option, Some, None, List, [], ◌∷◌, length, refl, sym, ap, ◌∙◌, subst}
 use Rattle.std.specs.Prelude.{slice_get, IsTrue, IsSomeAnd}
 use Rattle.std.proofs.lemmas.Bool.{cases_eq}
 use Rattle.lcc_base.specs.declared.order.Order.{Order}
@@ -11,10 +11,9 @@ use Rattle.op_forest.specs.declared.suffix.Suffix.TheVariants as suffix
 use Rattle.op_forest.specs.EachNode.{AtEachNode}
 use Rattle.op_forest.specs.Frames.{lowest}
 use Rattle.op_forest.specs.Labels.{label_by}
-use Rattle.op_forest.specs.Nodes.{Head, Leaf}
+use Rattle.op_forest.specs.Nodes.{Head}
 use Rattle.op_forest.specs.Nodes.{head_of as tree_head, kids_of as tree_kids}
 use Rattle.op_forest.specs.Nodes.{Node as Tree}
-use Rattle.op_forest.specs.Nodes.{One as OneTree, Two as TwoTree}
 use Rattle.op_forest.specs.Operators.{number}
 use Rattle.op_forest.specs.Signature.{takes, gives_value}
 use Rattle.forests.specs.Addresses.{Home}
@@ -27,21 +26,20 @@ use Rattle.dag_forest.specs.declared.kids.Kids.{Kids}
 use Rattle.dag_forest.specs.declared.kids.Kids.TheVariants.{Zero, One, Two}
 use Rattle.dag_forest.specs.declared.parts.Parts.{Parts}
 use Rattle.dag_forest.specs.Choice.{Room, kind_of}
-use Rattle.dag_forest.specs.Emission.{tree_by, tree_at, emitted, emit, no_tree, Use, Lost, Now, Stable, IsUsable, fade, faded, least, kids_use, read_use, kept_use, IsMade, Takes, HoldsMade, HoldsBehind}
+use Rattle.dag_forest.specs.Emission.{tree_by, tree_at, emitted, emit, Use, Lost, Now, Stable, IsUsable, fade, faded, least, kids_use, read_use, kept_use, IsMade, Takes, HoldsMade, HoldsBehind}
 use Rattle.dag_forest.specs.Entries.{is_call, is_read}
 use Rattle.dag_forest.specs.Meaning.{is_end, is_handing, Temporary, Keeps}
 use Rattle.dag_forest.specs.NewSlots.{offset_below}
 use Rattle.dag_forest.specs.Slots.{slot_read, slot_store}
-use Rattle.dag_forest.specs.Schedules.{head_of, at, acts_of}
-use Rattle.dag_forest.specs.Split.{Split, split_frame, temporary_of, kept_by, keeps_of, room_of, room_count}
+use Rattle.dag_forest.specs.Schedules.{head_of, at}
+use Rattle.dag_forest.specs.Split.{temporary_of, kept_by, keeps_of, room_of}
 use Rattle.dag_forest.specs.Tally.{keys_of}
-use Rattle.dag_seam.specs.Fitting.{Gives, AreGiven, Fits, FitsNode, FitsBlock, KeepsNoBlock, IsFitTree, AreFitTrees, SplitIsFit, address_label, label_below, target_from, target_at}
-use Rattle.dag_seam.specs.Rooms.{AreActs, AreEntries}
-use Rattle.dag_seam.proofs.lemmas.Acts.{HasParts, IsAny, acts_are, acts_have_parts}
+use Rattle.dag_seam.specs.Fitting.{Gives, AreGiven, Fits, FitsNode, KeepsNoBlock, IsFitTree, AreFitTrees, address_label, label_below, target_from, target_at}
+use Rattle.dag_seam.specs.Rooms.{AreActs}
+use Rattle.dag_seam.proofs.lemmas.Acts.{HasParts}
 use Rattle.dag_seam.proofs.lemmas.Maps.{at_new, at_old}
-use Rattle.dag_seam.proofs.lemmas.NewSlots.{lies_in_new}
 use Rattle.dag_seam.proofs.lemmas.RoomCauses.{room_has_kind}
-use Rattle.dag_seam.proofs.lemmas.Rooms.{between, some_one}
+use Rattle.dag_seam.proofs.lemmas.Rooms.{some_one}
 use Rattle.dag_seam.proofs.lemmas.SlotTrees.{IsValueTree, no_void, read_fits, read_no_label, store_fits}
 
 -- ---- the head and the operands of a tree

@@ -1,20 +1,16 @@
 -- What the trees of a split block do, from what the trees of each block do.
-use Rattle.std.proofs.Common.{◌≡◌, ℕ, true, false, List, [], ◌++◌, refl, sym, ap, ◌∙◌}
-use Rattle.op_forest.specs.declared.frame.Slot.{Slot}
+use Rattle.std.proofs.Common.{◌≡◌, ℕ, true, false, List, ap, ◌∙◌}
 use Rattle.op_forest.specs.Nodes.{Node as Tree}
-use Rattle.forests.specs.Bodies.{Setting}
-use Rattle.forests.specs.Budgets.{with_left, with_calls}
-use Rattle.forests.specs.Functions.{Program}
+use Rattle.forests.specs.Budgets.{with_calls}
 use Rattle.forests.specs.Meaning.{call_of}
 use Rattle.forests.specs.OneRoot.{runs_in}
-use Rattle.forests.specs.Words.{unknown}
-use Rattle.forests.specs.Worlds.{World, Point, Outcome}
+use Rattle.forests.specs.Worlds.{Point, Outcome}
 use Rattle.dag_forest.specs.declared.entry.Entry.{Entry}
 use Rattle.dag_forest.specs.Emission.{Distinct, Holds, Lost, emit, no_tree}
-use Rattle.dag_forest.specs.Meaning.{Keeps, Ran, Through, Jumps, Ends, Exited, Out, Runs}
+use Rattle.dag_forest.specs.Meaning.{Keeps, Ran, Through, Jumps, Ends, Exited, Out}
 use Rattle.dag_forest.specs.Meant.{HaveMeaning, ended_by}
-use Rattle.dag_forest.specs.Schedules.{acts_of, in_turn}
-use Rattle.dag_forest.specs.Split.{Split, split_frame, split_trees, keeps_of}
+use Rattle.dag_forest.specs.Schedules.{acts_of}
+use Rattle.dag_forest.specs.Split.{keeps_of}
 use Rattle.dag_seam.specs.Ran.{IsOn}
 use Rattle.dag_seam.specs.SplitLaws.{SplitMeans, TurnsMean}
 use Rattle.dag_seam.specs.Turns.{made_behind}

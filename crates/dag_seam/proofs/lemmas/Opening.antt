@@ -1,6 +1,6 @@
 -- The values of an open block's nodes, as it grows.
-use Rattle.std.proofs.Common.{◌≡◌, ⊎_elim, ℕ, ◌+◌, ◌<◌, ◌≤◌, Bool, true, false, true≢false, Some, None, List, [], ◌∷◌, ◌++◌, length, slice_get, refl, sym, ap, ◌∙◌, subst, arith, append_assoc}
-use Rattle.std.specs.Prelude.{◌⊎◌, ◌||◌, if◌then◌else◌}
+use Rattle.std.proofs.Common.{◌≡◌, ⊎_elim, ℕ, ◌+◌, ◌<◌, ◌≤◌, Bool, true, false, true≢false, Some, List, [], ◌∷◌, ◌++◌, length, slice_get, refl, sym, ap, ◌∙◌, subst, arith, append_assoc}
+use Rattle.std.specs.Prelude.{◌||◌, if◌then◌else◌}
 use Rattle.op_forest.specs.Nodes.{Head}
 use Rattle.forests.specs.Words.{Word}
 use Rattle.forests.specs.Worlds.{World, Point, Move, Went}
@@ -15,13 +15,13 @@ use Rattle.dag_forest.specs.declared.kids.Kids.{Kids}
 use Rattle.dag_forest.specs.declared.kids.Kids.TheVariants.{Zero, One, Two}
 use Rattle.dag_forest.specs.declared.parts.Parts.{Parts}
 use Rattle.dag_forest.specs.Entries.{AreBelow, is_call, is_read, is_write}
-use Rattle.dag_forest.specs.Meaning.{is_end, Leaves, Temporary, Keeps, IsTemporary, SameBut, HasNow}
+use Rattle.dag_forest.specs.Meaning.{is_end, Leaves, Temporary, Keeps, IsTemporary, HasNow}
 use Rattle.dag_forest.specs.Schedules.{is_in, kids_list, head_of, operands, at}
 use Rattle.dag_forest.specs.Tally.{kids_call, tally, keys_of, key_behind, AreFormed, node_count, ends}
 use Rattle.dag_seam.specs.Turns.{made_of}
 use Rattle.dag_seam.specs.Open.{IsNow, Open}
 use Rattle.dag_seam.proofs.lemmas.Maps.{at_new, at_old}
-use Rattle.dag_seam.proofs.lemmas.Keys.{keys_value, keys_root, stretch_value, stretch_root, last_get, read_mark, AreMarked, are_marked, count_keys, are_earlier, within, call_ends}
+use Rattle.dag_seam.proofs.lemmas.Keys.{keys_value, keys_root, stretch_value, stretch_root, last_get, read_mark, are_marked, count_keys, are_earlier, within, call_ends}
 use Rattle.dag_seam.proofs.lemmas.MadeNodes.{next_unmade, made_more}
 
 -- the operands are other nodes than a later one

@@ -17,7 +17,7 @@ use Rattle.dag_forest.specs.Meaning.{Temporary}
 use Rattle.dag_forest.specs.Schedules.{acts_of}
 use Rattle.dag_forest.specs.Split.{room_of, temporary_of, kept_by, keeps_of}
 use Rattle.dag_forest.specs.Tally.{keys_of}
-use Rattle.dag_seam.specs.Rooms.{IsMade, IsNeeded, HasCause, AreActs}
+use Rattle.dag_seam.specs.Rooms.{IsMade, HasCause, AreActs}
 use Rattle.dag_seam.specs.Turns.{Makes}
 use Rattle.dag_seam.proofs.lemmas.Acts.{HasParts, acts_have_parts}
 use Rattle.dag_seam.proofs.lemmas.Once.{acts_are_once}

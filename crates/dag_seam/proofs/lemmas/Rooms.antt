@@ -1,25 +1,21 @@
 -- The rooms of a block's nodes.
-use Rattle.std.proofs.Common.{◌≡◌, ⊎_elim, ℕ, zero, suc, ◌+◌, ◌<◌, ◌≤◌, Bool, true, false, true≢false, Option, Some, None, List, [], ◌∷◌, ◌++◌, inl, inr, refl, sym, ap, ◌∙◌, subst, arith}
-use Rattle.std.specs.Prelude.{◌⊎◌, ◌&&◌, ◌||◌, not, if◌then◌else◌}
+use Rattle.std.proofs.Common.{◌≡◌, ⊎_elim, ℕ, suc, ◌+◌, ◌<◌, ◌≤◌, Bool, true, false, Option, Some, None, List, [], ◌∷◌, ◌++◌, inl, inr, refl, sym, ap, ◌∙◌, subst, arith}
+use Rattle.std.specs.Prelude.{◌⊎◌, ◌&&◌, not, if◌then◌else◌}
 use Rattle.std.proofs.lemmas.Bool.{cases_eq}
-use Rattle.op_forest.specs.declared.op.Op.{Op}
-use Rattle.op_forest.specs.declared.op.Op.TheVariants as op
 use Rattle.dag_forest.specs.declared.act.Act.{Act}
 use Rattle.dag_forest.specs.declared.act.Act.TheVariants.{Made, Acts}
 use Rattle.dag_forest.specs.declared.entry.Entry.{Entry}
 use Rattle.dag_forest.specs.declared.entry.Entry.TheVariants.{Value, Root}
-use Rattle.dag_forest.specs.declared.key.Key.{Key}
 use Rattle.dag_forest.specs.declared.parts.Parts.{Parts}
-use Rattle.dag_forest.specs.Choice.{Room, room_by, next_by, is_wanted, wants, is_computed, is_leaf, has_kids, is_needed, times_of, counts, late, is_handed, kind_of, reads_by, chosen, rooms_to}
+use Rattle.dag_forest.specs.Choice.{Room, room_by, next_by, is_wanted, wants, times_of, counts, late, is_handed, reads_by, chosen, rooms_to}
 use Rattle.dag_forest.specs.Emission.{AreOnce}
-use Rattle.dag_forest.specs.Entries.{is_call}
 use Rattle.dag_forest.specs.Schedules.{waits, is_in, parted, reversed, kids_list, kids_of, number_of, with_below, with_other, in_turn, all_uses, used, acts_of, at}
-use Rattle.dag_forest.specs.Split.{room_of, room_count}
+use Rattle.dag_forest.specs.Split.{room_count}
 use Rattle.dag_forest.specs.Tally.{node_count}
 use Rattle.dag_seam.specs.Turns.{Makes}
 use Rattle.dag_seam.specs.Rooms.{IsMade}
 use Rattle.dag_seam.proofs.lemmas.Maps.{at_new, at_old}
-use Rattle.dag_seam.proofs.lemmas.Once.{not_again, turns_are_once, later_made}
+use Rattle.dag_seam.proofs.lemmas.Once.{not_again}
 
 pub some_one : {A : Type 0} (u v : A) → Some u ≡ Some v → u ≡ v
 some_one u v e = cc

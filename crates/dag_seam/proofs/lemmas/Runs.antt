@@ -1,11 +1,10 @@
 -- A run of acts as one of other acts that begin alike.
-use Rattle.std.proofs.Common.{◌≡◌, ℕ, zero, suc, Bool, true, false, Option, Some, None, List, [], ◌∷◌, ◌++◌, refl, sym, ap, ◌∙◌, subst}
+use Rattle.std.proofs.Common.{◌≡◌, ℕ, zero, suc, Bool, true, false, Option, Some, None, List, [], ◌∷◌, ◌++◌, refl, sym, ap, subst}
 use Rattle.op_forest.specs.Nodes.{Head}
 use Rattle.forests.specs.Words.{Word, unknown}
 use Rattle.forests.specs.Worlds.{World, Point, at_world, Next, To, End, Effect, Went, Exits, Unfinished, Stuck}
 use Rattle.forests.specs.Bodies.{Setting, does}
 use Rattle.forests.specs.Budgets.{with_left}
-use Rattle.forests.specs.Alike.{AreAlike}
 use Rattle.dag_forest.specs.declared.entry.Entry.{Entry}
 use Rattle.dag_forest.specs.declared.parts.Parts.{Parts}
 use Rattle.dag_forest.specs.Entries.{is_call, is_read}

@@ -1,17 +1,16 @@
 -- Trees that store in slots and read them are well formed.
-use Rattle.std.proofs.Common.{◌≡◌, ℕ, ◌≤◌, ℤ, true, false, true≢false, Some, None, List, [], ◌∷◌, refl, sym, ap, ◌∙◌, arith}
+use Rattle.std.proofs.Common.{◌≡◌, ℕ, ◌≤◌, ℤ, true, true≢false, Some, None, List, refl, sym, arith}
 use Rattle.op_forest.specs.declared.frame.Slot.{Slot}
 use Rattle.op_forest.specs.declared.op.Op.{Op}
 use Rattle.op_forest.specs.declared.op.Op.TheVariants as op
 use Rattle.op_forest.specs.declared.suffix.Suffix.{Suffix}
 use Rattle.op_forest.specs.declared.suffix.Suffix.TheVariants.{C, S, I, U, P, B, V}
-use Rattle.op_forest.specs.Labels.{label_of}
-use Rattle.op_forest.specs.Nodes.{Head, Leaf, head_of}
+use Rattle.op_forest.specs.Nodes.{head_of}
 use Rattle.op_forest.specs.Nodes.{Node as Tree}
 use Rattle.op_forest.specs.Nodes.{One as OneTree, Two as TwoTree}
 use Rattle.op_forest.specs.Operators.{number}
 use Rattle.op_forest.specs.Signature.{gives_value}
-use Rattle.forests.specs.WellFormed.{op_of, HasArity, HasArities, HasKind, HasKinds, HasSlot, HasSlots, IsOperand, LiesInOne, target_of, label_by_address}
+use Rattle.forests.specs.WellFormed.{op_of, HasArity, HasArities, HasKind, HasKinds, HasSlot, HasSlots, IsOperand, LiesInOne, label_by_address}
 use Rattle.dag_forest.specs.Choice.{kind_of}
 use Rattle.dag_forest.specs.Slots.{head, slot_address, slot_read, slot_store}
 use Rattle.dag_seam.specs.Fitting.{IsFitTree}

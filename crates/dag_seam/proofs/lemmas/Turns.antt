@@ -1,5 +1,5 @@
 -- What a block does, one front of its entries behind the other.
-use Rattle.std.proofs.Common.{◌≡◌, ℕ, suc, ◌+◌, Bool, true, false, List, [], ◌∷◌, ◌++◌, refl, sym, ap, ◌∙◌, arith, append_assoc, append-nil}
+use Rattle.std.proofs.Common.{◌≡◌, ℕ, suc, ◌+◌, Bool, true, false, List, [], ◌∷◌, ◌++◌, refl, sym, ap, ◌∙◌, arith, append_assoc}
 use Rattle.std.specs.Prelude.{if◌then◌else◌, ◌||◌}
 use Rattle.dag_forest.specs.declared.entry.Entry.{Entry}
 use Rattle.dag_forest.specs.declared.entry.Entry.TheVariants.{Value, Root}
@@ -9,7 +9,7 @@ use Rattle.dag_forest.specs.declared.parts.Parts.{Parts}
 use Rattle.dag_forest.specs.Entries.{is_call}
 use Rattle.dag_forest.specs.declared.act.Act.{Act}
 use Rattle.dag_forest.specs.declared.act.Act.TheVariants.{Made, Acts}
-use Rattle.dag_forest.specs.Schedules.{Parted, at, waits, has_kid_in, is_in, parted, reversed, kids_list, kids_of, number_of, with_below, with_other, in_turn}
+use Rattle.dag_forest.specs.Schedules.{at, waits, has_kid_in, is_in, parted, reversed, kids_list, with_below, with_other, in_turn}
 use Rattle.dag_forest.specs.Tally.{node_count}
 use Rattle.dag_seam.specs.Turns.{waiting_behind, waiting, made_behind, made_of}
 use Rattle.dag_seam.specs.Laws.{GoesOn}

@@ -1,9 +1,9 @@
 -- A run in which unused nodes are made is one without them.
-use Rattle.std.proofs.Common.{◌≡◌, ⊎_elim, ℕ, Bool, true, false, true≢false, Option, Some, None, List, [], ◌∷◌, ◌++◌, inl, inr, refl, sym, ap, ◌∙◌, subst}
-use Rattle.std.specs.Prelude.{if◌then◌else◌, ◌⊎◌}
+use Rattle.std.proofs.Common.{◌≡◌, ⊎_elim, ℕ, Bool, true, false, true≢false, Option, Some, None, List, [], ◌∷◌, refl, sym, ap, ◌∙◌, subst}
+use Rattle.std.specs.Prelude.{if◌then◌else◌}
 use Rattle.std.proofs.lemmas.Bool.{cases_eq}
 use Rattle.forests.specs.Words.{Word, unknown}
-use Rattle.forests.specs.Worlds.{World, Point}
+use Rattle.forests.specs.Worlds.{World}
 use Rattle.forests.specs.Bodies.{Setting, does}
 use Rattle.forests.specs.Budgets.{with_left}
 use Rattle.dag_forest.specs.declared.act.Act.{Act}
@@ -19,7 +19,7 @@ use Rattle.dag_forest.specs.Schedules.{is_in, kids_list, head_of, operands, at, 
 use Rattle.dag_seam.specs.Ran.{IsOver, IsOn}
 use Rattle.dag_seam.specs.Turns.{made_behind, Makes}
 use Rattle.dag_seam.proofs.lemmas.Maps.{at_new, at_old, unmade}
-use Rattle.dag_seam.proofs.lemmas.Once.{turns_are_once, later_made, not_again, makes_used}
+use Rattle.dag_seam.proofs.lemmas.Once.{turns_are_once, not_again, makes_used}
 use Rattle.dag_seam.proofs.lemmas.Runs.{Passes, Some_ran, made_on, root_on}
 use Rattle.dag_seam.proofs.lemmas.UsedCalls.{CallsUsed, calls_used}
 use Rattle.dag_seam.proofs.lemmas.Within.{in_left, in_right, in_first, apart_in}

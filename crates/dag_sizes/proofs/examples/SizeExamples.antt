@@ -1,10 +1,10 @@
 -- y = x + x: 11 nodes in two trees, and one room.
-use Rattle.std.specs.Prelude.{◌≡◌, refl, ℕ, ◌+◌, pos, List, [], ◌∷◌}
+use Rattle.std.specs.Prelude.{◌≡◌, refl, ◌+◌, pos, List, [], ◌∷◌}
 use Rattle.op_forest.specs.declared.op.Op.TheVariants as op
 use Rattle.op_forest.specs.declared.suffix.Suffix.TheVariants.{I, U}
 use Rattle.dag_forest.specs.declared.entry.Entry.{Entry}
-use Rattle.dag_forest.specs.declared.entry.Entry.TheVariants.{Value, Root}
-use Rattle.dag_forest.specs.declared.kids.Kids.TheVariants.{One, Two}
+use Rattle.dag_forest.specs.declared.entry.Entry.TheVariants.{Value}
+use Rattle.dag_forest.specs.declared.kids.Kids.TheVariants.{One}
 use Rattle.dag_forest.specs.BlockExamples.{over, read, write, address, doubled, assigned}
 use Rattle.dag_sizes.specs.Sizes.{store_size, read_size, split_size}
 use Rattle.dag_sizes.specs.Weights.{weight}

@@ -1,14 +1,13 @@
 -- What a block does is a part of what it would do with all its nodes.
 use Rattle.std.proofs.Common.{◌≡◌, ⊎_elim, ℕ, suc, ◌+◌, ◌≤◌, Bool, true, false, true≢false, List, [], ◌∷◌, ◌++◌, inl, inr, refl, sym, ap, ◌∙◌, subst, arith}
-use Rattle.std.specs.Prelude.{◌⊎◌, ◌||◌, if◌then◌else◌}
+use Rattle.std.specs.Prelude.{◌⊎◌, if◌then◌else◌}
 use Rattle.dag_forest.specs.declared.act.Act.{Act}
 use Rattle.dag_forest.specs.declared.act.Act.TheVariants.{Made, Acts}
 use Rattle.dag_forest.specs.declared.entry.Entry.{Entry}
 use Rattle.dag_forest.specs.declared.entry.Entry.TheVariants.{Value, Root}
-use Rattle.dag_forest.specs.declared.parts.Parts.{Parts}
 use Rattle.dag_forest.specs.Choice.{counts, in_kids, late, is_above, ends_stretch}
 use Rattle.dag_forest.specs.Entries.{is_call}
-use Rattle.dag_forest.specs.Schedules.{waits, is_in, parted, reversed, kids_list, kids_of, number_of, with_below, with_other, in_turn, all_uses, used, acts_of}
+use Rattle.dag_forest.specs.Schedules.{waits, is_in, parted, reversed, kids_list, with_below, with_other, in_turn, all_uses, used, acts_of}
 use Rattle.dag_seam.specs.Turns.{waiting_behind, waiting}
 use Rattle.dag_seam.proofs.lemmas.UsedCalls.{CallsUsed, calls_used}
 use Rattle.dag_sizes.specs.Weights.{all_acts}

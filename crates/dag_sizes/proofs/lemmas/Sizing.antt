@@ -18,8 +18,8 @@ use Rattle.dag_forest.specs.declared.entry.Entry.{Entry}
 use Rattle.dag_forest.specs.declared.kids.Kids.{Kids}
 use Rattle.dag_forest.specs.declared.kids.Kids.TheVariants.{Zero, One, Two}
 use Rattle.dag_forest.specs.declared.parts.Parts.{Parts}
-use Rattle.dag_forest.specs.Choice.{Room, kind_of, counts, times_of, late, is_last, is_once, next_kids, is_handed, is_computed, is_leaf, has_kids, is_needed, is_wanted, wants, reads_by, room_by, next_by, chosen, rooms_to}
-use Rattle.dag_forest.specs.Emission.{AreOnce, tree_by, tree_at, emitted, emit, no_tree, Use, Lost, Now, Stable, IsUsable, fade, faded, kids_use, read_use, kept_use, IsMade, Takes, HoldsMade, HoldsBehind}
+use Rattle.dag_forest.specs.Choice.{Room, kind_of, counts, times_of, late, is_last, is_once, next_kids, is_handed, is_computed, is_leaf, has_kids, is_needed, is_wanted, reads_by, room_by, next_by, chosen, rooms_to}
+use Rattle.dag_forest.specs.Emission.{AreOnce, tree_by, tree_at, emitted, emit, no_tree, Use, Lost, Stable, IsUsable, fade, faded, kids_use, read_use, kept_use, IsMade, Takes, HoldsMade, HoldsBehind}
 use Rattle.dag_forest.specs.Entries.{is_call, is_read}
 use Rattle.dag_forest.specs.Meaning.{is_end, is_handing, Temporary, Keeps}
 use Rattle.dag_forest.specs.NewSlots.{offset_below}

@@ -1,5 +1,5 @@
 -- Each operand of what a split block does has its tree where it is used.
-use Rattle.std.proofs.Common.{◌≡◌, ⊎_elim, ℕ, ◌+◌, ◌<◌, Bool, true, false, true≢false, Option, Some, None, List, [], ◌∷◌, inl, inr, refl, sym, ap, ◌∙◌, subst, arith}
+use Rattle.std.proofs.Common.{◌≡◌, ⊎_elim, ℕ, ◌+◌, ◌<◌, Bool, true, false, Option, Some, None, List, [], ◌∷◌, inl, inr, sym, subst, arith}
 use Rattle.std.specs.Prelude.{◌⊎◌}
 use Rattle.std.proofs.lemmas.Bool.{cases_eq}
 use Rattle.dag_forest.specs.declared.act.Act.{Act}
@@ -7,7 +7,7 @@ use Rattle.dag_forest.specs.declared.act.Act.TheVariants.{Made, Acts}
 use Rattle.dag_forest.specs.declared.kids.Kids.{Kids}
 use Rattle.dag_forest.specs.declared.kids.Kids.TheVariants.{Zero, One, Two}
 use Rattle.dag_forest.specs.declared.parts.Parts.{Parts}
-use Rattle.dag_forest.specs.Choice.{hits, in_kids, counts}
+use Rattle.dag_forest.specs.Choice.{in_kids, counts}
 use Rattle.dag_forest.specs.Emission.{AreOnce, Use, Lost, Now, Stable, IsUsable, fade, faded, least, kids_use, read_use, kept_use, IsMade, Takes, HoldsMade, HoldsBehind}
 use Rattle.dag_forest.specs.Entries.{is_call, is_read}
 use Rattle.dag_forest.specs.Meaning.{is_end, is_handing, Temporary, Keeps}

@@ -1,5 +1,5 @@
 -- A block's size is no more than its weight: a node that is kept, and isn't heavy, has a heavy one at or below it that isn't kept.
-use Rattle.std.proofs.Common.{◌≡◌, ⊎_elim, ℕ, zero, suc, ◌+◌, ◌*◌, ◌<◌, ◌≤◌, Bool, true, false, true≢false, List, [], ◌∷◌, ◌++◌, inl, inr, refl, sym, ap, ◌∙◌, subst, arith, mul-le-mul_left}
+use Rattle.std.proofs.Common.{◌≡◌, ⊎_elim, ℕ, zero, suc, ◌+◌, ◌*◌, ◌<◌, ◌≤◌, Bool, true, false, true≢false, List, [], ◌∷◌, inl, inr, refl, sym, ap, ◌∙◌, subst, arith, mul-le-mul_left}
 use Rattle.std.specs.Prelude.{◌⊎◌, ◌&&◌, ◌||◌, not, if◌then◌else◌}
 use Rattle.std.proofs.lemmas.Bool.{cases_eq, eqb-true}
 use Rattle.op_forest.specs.declared.op.Op.{Op}
@@ -12,7 +12,7 @@ use Rattle.dag_forest.specs.declared.entry.Entry.{Entry}
 use Rattle.dag_forest.specs.declared.kids.Kids.{Kids}
 use Rattle.dag_forest.specs.declared.kids.Kids.TheVariants.{Zero, One, Two}
 use Rattle.dag_forest.specs.declared.parts.Parts.{Parts}
-use Rattle.dag_forest.specs.Choice.{hits, in_kids, counts, times_of, late, is_last, is_once, next_kids, is_handed, is_computed, is_leaf, has_kids, is_needed, is_wanted, reads_by, kids_read}
+use Rattle.dag_forest.specs.Choice.{in_kids, counts, times_of, late, is_last, is_once, is_handed, is_computed, is_leaf, has_kids, is_needed, is_wanted, reads_by, kids_read}
 use Rattle.dag_forest.specs.Emission.{AreOnce}
 use Rattle.dag_forest.specs.Entries.{is_call, is_read}
 use Rattle.dag_forest.specs.Schedules.{at, acts_of, in_turn}
