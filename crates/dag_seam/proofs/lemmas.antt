@@ -17,3 +17,4 @@ pub mod NewSlots
 pub mod SlotTrees
 pub mod FitTrees
 pub mod SplitFits
+pub mod Growing

@@ -120,3 +120,15 @@ SplitIsFit =
 -- the trees stand in front of what follows
 abbrev pub SplitAppends : Type 0
 SplitAppends = (order : Order) (home : Home) (before : List Slot) (es : List Entry) (rest : List Tree) → split_trees order home before es rest ≡ split_trees order home before es [] ++ rest
+
+-- ---- blocks that grow
+
+abbrev pub NodeFits : Type 0
+NodeFits = (slots : List Slot) (es : List Entry) (x : Parts) → FitsBlock slots es → FitsNode (keys_of es) slots x → FitsBlock slots (es ++ Value x ∷ [])
+
+abbrev pub RootFits : Type 0
+RootFits = (slots : List Slot) (es : List Entry) (x : Parts) → FitsBlock slots es → Fits (keys_of es) slots x → FitsBlock slots (es ++ Root x ∷ [])
+
+-- in a frame of more slots, too
+abbrev pub FrameFits : Type 0
+FrameFits = (slots more : List Slot) (es : List Entry) → FitsBlock slots es → FitsBlock (slots ++ more) es

@@ -1,5 +1,5 @@
 -- What holds of blocks as they grow: what they do, their runs, and the values of their nodes.
-use Rattle.std.specs.Prelude.{◌≡◌, ℕ, ◌+◌, Bool, true, false, Some, List, [], ◌∷◌, ◌++◌, slice_get}
+use Rattle.std.specs.Prelude.{◌≡◌, ℕ, ◌+◌, Bool, true, false, Some, List, [], ◌∷◌, ◌++◌, length, slice_get}
 use Rattle.forests.specs.Words.{Word, unknown}
 use Rattle.forests.specs.Worlds.{World, Point, Move, Went}
 use Rattle.forests.specs.Bodies.{Setting, does}
@@ -14,7 +14,7 @@ use Rattle.dag_forest.specs.Meaning.{is_end, Leaves, Keeps, Temporary, IsTempora
 use Rattle.dag_forest.specs.declared.act.Act.{Act}
 use Rattle.dag_forest.specs.declared.act.Act.TheVariants.{Made, Acts}
 use Rattle.dag_forest.specs.Schedules.{at, head_of, operands, is_in, kids_list, in_turn, acts_of}
-use Rattle.dag_forest.specs.Tally.{tally, keys_of, key_behind, AreFormed, node_count, ends}
+use Rattle.dag_forest.specs.Tally.{AreDistinct, tally, keys_of, key_behind, AreFormed, node_count, ends}
 use Rattle.dag_seam.specs.Ran.{IsOver, IsOn}
 use Rattle.dag_seam.specs.Turns.{waiting_behind, waiting, made_behind, made_of, Makes}
 use Rattle.dag_seam.specs.Open.{IsNow, Open}
@@ -43,6 +43,22 @@ abbrev pub CallGoesOn : Type 0
 CallGoesOn =
     (es : List Entry) (c a : Parts) → waiting es ≡ [] → is_call c.operator.op ≡ true → is_in (node_count es) (kids_list a.kids) ≡ true
     → GoesOn es (Value c ∷ Root a ∷ []) (Made (node_count es) c ∷ Acts a ∷ [])
+
+-- ---- nodes by their numbers
+
+abbrev pub KeysAreCounted : Type 0
+KeysAreCounted = (es : List Entry) → length (keys_of es) ≡ node_count es
+
+-- each operand is still an earlier node
+abbrev pub FormedGoesOn : Type 0
+FormedGoesOn = (es : List Entry) → AreFormed es 0 → (x : Parts) → AreBelow (node_count es) x.kids → AreFormed (es ++ Value x ∷ []) 0 × AreFormed (es ++ Root x ∷ []) 0
+
+-- a node that is added has the next number, where no two nodes are equal
+abbrev pub NewIsLast : Type 0
+NewIsLast = (es : List Entry) (x : Parts) (n : ℕ) → AreDistinct (keys_of (es ++ Value x ∷ [])) → slice_get (keys_of (es ++ Value x ∷ [])) n ≡ Some (key_behind es x) → n ≡ node_count es
+
+abbrev pub NextIsUnmade : Type 0
+NextIsUnmade = (es : List Entry) → made_of es (node_count es) ≡ false
 
 -- ---- runs
 

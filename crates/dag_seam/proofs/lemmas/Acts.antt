@@ -74,12 +74,12 @@ entries_zip P P1 P2 Q Q1 Q2 (Root x ∷ es) n f k h g = (k x h.0 g.0, entries_zi
 abbrev pub HasParts : List Key → ℕ → Parts → Type 0
 HasParts keys n x = (k : Key) × (slice_get keys n ≡ Some k) × (k.parts ≡ x)
 
-get_left : {X : Type 0} (xs ys : List X) (m : ℕ) (k : X) → slice_get xs m ≡ Some k → slice_get (xs ++ ys) m ≡ Some k
+pub get_left : {X : Type 0} (xs ys : List X) (m : ℕ) (k : X) → slice_get xs m ≡ Some k → slice_get (xs ++ ys) m ≡ Some k
 get_left [] ys m k e = let no : ⊥ = cc in absurd no
 get_left (x ∷ xs) ys zero k e = e
 get_left (x ∷ xs) ys (suc m) k e = get_left xs ys m k e
 
-get_last : {X : Type 0} (xs : List X) (y : X) → slice_get (xs ++ y ∷ []) (length xs) ≡ Some y
+pub get_last : {X : Type 0} (xs : List X) (y : X) → slice_get (xs ++ y ∷ []) (length xs) ≡ Some y
 get_last [] y = refl
 get_last (x ∷ xs) y = get_last xs y
 
