@@ -3,3 +3,4 @@ pub mod Usable
 pub mod Sizing
 pub mod Parts
 pub mod Weighing
+pub mod OneUse
