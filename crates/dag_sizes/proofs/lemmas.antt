@@ -4,3 +4,4 @@ pub mod Sizing
 pub mod Parts
 pub mod Weighing
 pub mod OneUse
+pub mod Fewer

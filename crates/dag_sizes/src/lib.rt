@@ -3,4 +3,4 @@
 
 mod laws;
 
-pub use laws::split_blocks_are_small;
+pub use laws::{split_blocks_are_small, weights_change_little};

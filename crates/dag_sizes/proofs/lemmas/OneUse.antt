@@ -40,7 +40,7 @@ reads_more x f g i h = ⊎_elim
     (or_true (is_call x.operator.op) (kids_read f x.kids) e)))
     (or_true (is_read x.operator.op) (is_call x.operator.op || kids_read f x.kids) h)
 
-abbrev heavy_by : Bool → Bool → Times → Bool → Bool → Bool
+abbrev pub heavy_by : Bool → Bool → Times → Bool → Bool → Bool
 heavy_by comp call t l r = comp && (call || is_needed t (l && r))
 
 heavy_more : (comp call : Bool) (t : Times) (l r r1 : Bool) → (r ≡ true → r1 ≡ true) → heavy_by comp call t l r ≡ true → heavy_by comp call t l r1 ≡ true

@@ -27,7 +27,7 @@ counts_less (Made n x ∷ full) xs m h = ⊎_elim
     h
 counts_less (Acts x ∷ full) xs m h = let e : counts xs m ≡ in_kids x.kids m + counts h.0 m = ap (λ z. counts z m) h.1 in let l = counts_less full h.0 m h.2 in omega (arith, e, l)
 
-not_ended : (b : Bool) (a l : Bool) → b ≡ false → (if b then a else l) ≡ l
+pub not_ended : (b : Bool) (a l : Bool) → b ≡ false → (if b then a else l) ≡ l
 not_ended true a l h = absurd (true≢false h)
 not_ended false a l h = refl
 

@@ -28,12 +28,12 @@ use Rattle.dag_sizes.proofs.lemmas.Uses.{hit, sum_kids, sum_uses, uses_at, no_us
 -- ---- uses by nodes
 
 -- how often a node is an operand of a node
-abbrev node_uses : List Act → ℕ → ℕ
+abbrev pub node_uses : List Act → ℕ → ℕ
 node_uses [] m = 0
 node_uses (Made n x ∷ as') m = in_kids x.kids m + node_uses as' m
 node_uses (Acts x ∷ as') m = node_uses as' m
 
-node_uses_few : (xs : List Act) (m : ℕ) → node_uses xs m ≤ counts xs m
+pub node_uses_few : (xs : List Act) (m : ℕ) → node_uses xs m ≤ counts xs m
 node_uses_few [] m = omega arith
 node_uses_few (Made n x ∷ xs) m = let l = node_uses_few xs m in omega (arith, l)
 node_uses_few (Acts x ∷ xs) m = let l = node_uses_few xs m in omega (arith, l)
@@ -43,7 +43,7 @@ last_in Zero n h = absurd (true≢false (sym h))
 last_in (One a) n h = let e = hit n a (eqb-true n a h) in omega (arith, e)
 last_in (Two a c) n h = let e = hit n c (eqb-true n c h) in omega (arith, e)
 
-and_first : (a b : Bool) → (a && b) ≡ true → a ≡ true
+pub and_first : (a b : Bool) → (a && b) ≡ true → a ≡ true
 and_first true b h = refl
 and_first false b h = h
 
@@ -60,14 +60,14 @@ handed_uses (Acts x ∷ xs) n h =
 -- ---- what is owed
 
 -- of a node that isn't kept and reads, where by its weight it doesn't
-abbrev owed : Bool → Bool → Bool → ℕ
+abbrev pub owed : Bool → Bool → Bool → ℕ
 owed true b d = 0
 owed false true false = 7
 owed false true true = 0
 owed false false d = 0
 
 -- each such node has its due, or no node uses it
-abbrev IsPaid : List Act → (ℕ → Bool) → (ℕ → Bool) → (ℕ → ℕ) → Type 0
+abbrev pub IsPaid : List Act → (ℕ → Bool) → (ℕ → Bool) → (ℕ → ℕ) → Type 0
 IsPaid xs reads heavy due = (m : ℕ) → reads m ≡ true → heavy m ≡ false → (7 ≤ due m) ⊎ (node_uses xs m ≡ 0)
 
 -- one operand has its due
@@ -81,7 +81,7 @@ kid_paid (Two a b) reads heavy due c paid h g =
     (λ e. ⊎_elim (λ l. omega (arith, l)) (λ z. absurd (let q = hit b b refl in omega (arith, z, q))) (paid b e o.1))
     (or_true (reads a) (reads b) h)
 
-reads_paid : (x : Parts) (reads heavy : ℕ → Bool) (due : ℕ → ℕ) (c : ℕ → ℕ) → ((m : ℕ) → reads m ≡ true → heavy m ≡ false → (7 ≤ due m) ⊎ (in_kids x.kids m + c m ≡ 0)) → reads_by reads x ≡ true → reads_by heavy x ≡ false → 7 ≤ sum_kids x.kids due
+pub reads_paid : (x : Parts) (reads heavy : ℕ → Bool) (due : ℕ → ℕ) (c : ℕ → ℕ) → ((m : ℕ) → reads m ≡ true → heavy m ≡ false → (7 ≤ due m) ⊎ (in_kids x.kids m + c m ≡ 0)) → reads_by reads x ≡ true → reads_by heavy x ≡ false → 7 ≤ sum_kids x.kids due
 reads_paid x reads heavy due c paid h g =
     let p = or_false (is_read x.operator.op) (is_call x.operator.op || kids_read heavy x.kids) g in
     let q = or_false (is_call x.operator.op) (kids_read heavy x.kids) p.1 in
@@ -89,7 +89,7 @@ reads_paid x reads heavy due c paid h g =
 
 -- ---- one node
 
-sizes_of : (s : Suffix) → (store_size s ≡ read_size s + 1) × (2 ≤ read_size s) × (read_size s ≤ 3)
+pub sizes_of : (s : Suffix) → (store_size s ≡ read_size s + 1) × (2 ≤ read_size s) × (read_size s ≤ 3)
 sizes_of C = (refl, omega arith, omega arith)
 sizes_of S = (refl, omega arith, omega arith)
 sizes_of I = (refl, omega arith, omega arith)
@@ -98,15 +98,15 @@ sizes_of P = (refl, omega arith, omega arith)
 sizes_of B = (refl, omega arith, omega arith)
 sizes_of V = (refl, omega arith, omega arith)
 
-grows : (r c c1 : ℕ) → c ≤ c1 → r * c ≤ r * c1
+pub grows : (r c c1 : ℕ) → c ≤ c1 → r * c ≤ r * c1
 grows r c c1 l = mul-le-mul_left r l
 
-abbrev size_by : Bool → ℕ → ℕ → ℕ → ℕ
+abbrev pub size_by : Bool → ℕ → ℕ → ℕ → ℕ
 size_by true st rd c = 1 + st + rd * c
 size_by false st rd c = 1
 
 -- a computed node that is no call: c uses, c1 in all; l whether late, r whether it reads, and r1 by its weight
-plain_bound : (st rd c c1 k : ℕ) (l l1 r r1 : Bool) → st ≡ rd + 1 → 2 ≤ rd → rd ≤ 3 → 0 < c → c ≤ c1 → (c ≡ c1 → l1 ≡ l) → (r ≡ true → r1 ≡ false → 7 ≤ k)
+pub plain_bound : (st rd c c1 k : ℕ) (l l1 r r1 : Bool) → st ≡ rd + 1 → 2 ≤ rd → rd ≤ 3 → 0 < c → c ≤ c1 → (c ≡ c1 → l1 ≡ l) → (r ≡ true → r1 ≡ false → 7 ≤ k)
     → size_by (is_needed (times_of c) (l && r)) st rd c + c * owed false (not (is_needed (times_of c) (l && r)) && r) (not (is_needed (times_of c1) (l1 && r1)) && r1) ≤ size_by (is_needed (times_of c1) (l1 && r1)) st rd c1 + k
 plain_bound st rd zero c1 k l l1 r r1 e low high above less same pay = absurd (omega (arith, above))
 plain_bound st rd (suc (suc c)) zero k l l1 r r1 e low high above less same pay = absurd (omega (arith, less))
@@ -144,15 +144,15 @@ plain_bound st rd (suc zero) (suc (suc c1)) k l l1 r r1 e low high above less sa
     by false true g d = let p = d.0 in omega (arith, g, p, e, low)
     by false false g d = omega arith
 
-abbrev sized : Bool → Bool → ℕ → ℕ → ℕ → ℕ
+abbrev pub sized : Bool → Bool → ℕ → ℕ → ℕ → ℕ
 sized true comp st rd c = 1 + st + rd * c
 sized false comp st rd c = if comp then 1 else c
 
-sized_is : (w : Bool) (x : Parts) (c : ℕ) → node_size w x c ≡ sized w (is_computed x) (store_size x.operator.suffix) (read_size x.operator.suffix) c
+pub sized_is : (w : Bool) (x : Parts) (c : ℕ) → node_size w x c ≡ sized w (is_computed x) (store_size x.operator.suffix) (read_size x.operator.suffix) c
 sized_is true x c = refl
 sized_is false x c = refl
 
-computed_size : (w : Bool) (st rd c : ℕ) → sized w true st rd c ≡ size_by w st rd c
+pub computed_size : (w : Bool) (st rd c : ℕ) → sized w true st rd c ≡ size_by w st rd c
 computed_size true st rd c = refl
 computed_size false st rd c = refl
 
@@ -173,7 +173,7 @@ no_kids (One a) reads h = absurd (true≢false h)
 no_kids (Two a c) reads h = absurd (true≢false h)
 
 -- an address or a constant reads nothing
-plain_reads : (x : Parts) (reads : ℕ → Bool) → is_computed x ≡ false → reads_by reads x ≡ false
+pub plain_reads : (x : Parts) (reads : ℕ → Bool) → is_computed x ≡ false → reads_by reads x ≡ false
 plain_reads x reads h =
     let o = or_false (has_kids x.kids) (not (is_leaf x.operator.op)) h in
     let l = leaf_reads x.operator.op (not_false (is_leaf x.operator.op) o.1) in
@@ -218,11 +218,11 @@ node_bound x c c1 k l l1 handed reads heavy above less same pay =
 abbrev Weighed : List Act → List Act → Type 0
 Weighed full xs = (made reads heavy : ℕ → Bool) (due : ℕ → ℕ) → AreOnce xs made → AreUsed xs → IsPaid xs reads heavy due → ((m : ℕ) → made m ≡ false → due m ≡ 0) → size_of xs reads ≤ weight_of full heavy + sum_uses xs due
 
-no_leaf : (o : Op) → is_call o ≡ true → is_leaf o ≡ false
+pub no_leaf : (o : Op) → is_call o ≡ true → is_leaf o ≡ false
 no_leaf op.Call h = refl
 no_leaf o h = absurd (true≢false (sym h))
 
-or_not : (a b : Bool) → b ≡ false → (a || not b) ≡ true
+pub or_not : (a b : Bool) → b ≡ false → (a || not b) ≡ true
 or_not true b h = refl
 or_not false b h = ap not h
 
@@ -231,7 +231,7 @@ unkept_call false call handed a c k h = absurd (true≢false (sym c))
 unkept_call true false handed a c k h = absurd (true≢false (sym k))
 unkept_call true true handed a c k h = not_false handed h
 
-not_true : (b : Bool) → not b ≡ true → b ≡ false
+pub not_true : (b : Bool) → not b ≡ true → b ≡ false
 not_true true h = absurd (true≢false (sym h))
 not_true false h = refl
 
