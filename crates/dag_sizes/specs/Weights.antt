@@ -42,3 +42,4 @@ abbrev pub IsFewer : List Act → List Act → Type 0
 IsFewer [] xs = xs ≡ []
 IsFewer (Made n x ∷ full) xs = ((rest : List Act) × (xs ≡ Made n x ∷ rest) × IsFewer full rest) ⊎ ((counts xs n ≡ 0) × (is_call x.operator.op ≡ false) × IsFewer full xs)
 IsFewer (Acts x ∷ full) xs = ((rest : List Act) × (xs ≡ Acts x ∷ rest) × IsFewer full rest) ⊎ ((ends_stretch (Acts x) ≡ false) × IsFewer full xs)
+

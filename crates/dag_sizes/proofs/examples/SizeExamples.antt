@@ -2,12 +2,15 @@
 use Rattle.std.specs.Prelude.{◌≡◌, refl, ◌+◌, pos, List, [], ◌∷◌}
 use Rattle.op_forest.specs.declared.op.Op.TheVariants as op
 use Rattle.op_forest.specs.declared.suffix.Suffix.TheVariants.{I, U}
+use Rattle.std.proofs.Common.{inl, inr, true≢false}
+use Rattle.dag_forest.specs.declared.act.Act.{Act}
+use Rattle.dag_forest.specs.declared.act.Act.TheVariants.{Made, Acts}
 use Rattle.dag_forest.specs.declared.entry.Entry.{Entry}
 use Rattle.dag_forest.specs.declared.entry.Entry.TheVariants.{Value}
-use Rattle.dag_forest.specs.declared.kids.Kids.TheVariants.{One}
+use Rattle.dag_forest.specs.declared.kids.Kids.TheVariants.{One, Two}
 use Rattle.dag_forest.specs.BlockExamples.{over, read, write, address, doubled, assigned}
 use Rattle.dag_sizes.specs.Sizes.{store_size, read_size, split_size}
-use Rattle.dag_sizes.specs.Weights.{weight}
+use Rattle.dag_sizes.specs.Weights.{IsFewer, use_size, weight}
 
 doubled_size : split_size (doubled (pos 0)) ≡ 12
 doubled_size = refl
@@ -35,3 +38,21 @@ unused_size = refl
 
 unused_weight : weight unused ≡ 12
 unused_weight = refl
+
+-- one use more of a read costs at most a room, its store and two reads
+use_of_read : use_size (read 0) ≡ 7
+use_of_read = refl
+
+-- a root that neither writes nor calls may be left out, and one that writes may not
+abbrev negated : List Act
+negated = Made 0 (address 0 (pos 0)) ∷ Acts (over op.Neg I (One 0)) ∷ []
+
+fewer : IsFewer negated (Made 0 (address 0 (pos 0)) ∷ [])
+fewer = inl ([], refl, inr (refl, refl))
+
+abbrev stored : List Act
+stored = Acts (over op.Asgn I (Two 0 0)) ∷ []
+
+not_fewer : IsFewer stored [] → ⊥
+not_fewer (inl h) = let e : [] ≡ Acts (over op.Asgn I (Two 0 0)) ∷ h.0 = h.1 in let no : ⊥ = cc in no
+not_fewer (inr h) = let e : true ≡ false = h.0 in true≢false e
