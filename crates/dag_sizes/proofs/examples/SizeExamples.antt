@@ -2,7 +2,7 @@
 use Rattle.std.specs.Prelude.{◌≡◌, refl, ◌+◌, pos, List, [], ◌∷◌}
 use Rattle.op_forest.specs.declared.op.Op.TheVariants as op
 use Rattle.op_forest.specs.declared.suffix.Suffix.TheVariants.{I, U}
-use Rattle.std.proofs.Common.{inl, inr, true≢false}
+use Rattle.std.proofs.Common.{inl, inr, true, false, true≢false}
 use Rattle.dag_forest.specs.declared.act.Act.{Act}
 use Rattle.dag_forest.specs.declared.act.Act.TheVariants.{Made, Acts}
 use Rattle.dag_forest.specs.declared.entry.Entry.{Entry}
