@@ -5,3 +5,4 @@ pub mod Parts
 pub mod Weighing
 pub mod OneUse
 pub mod Fewer
+pub mod Swap

@@ -15,7 +15,7 @@ use Rattle.dag_forest.specs.Emission.{AreOnce}
 use Rattle.dag_forest.specs.Split.{Split, split_trees, room_count}
 use Rattle.dag_seam.specs.Rooms.{AreActs}
 use Rattle.dag_sizes.specs.Sizes.{split_size}
-use Rattle.dag_sizes.specs.Weights.{IsFewer, root_count, use_size, weight, weight_of}
+use Rattle.dag_sizes.specs.Weights.{IsFewer, IsSwap, new_size, root_count, use_size, weight, weight_of}
 
 -- the nodes of the trees and the rooms together
 abbrev pub SplitHasSize : Type 0
@@ -33,3 +33,9 @@ UseHasBound =
 -- without some unused nodes and some roots the weight isn't larger
 abbrev pub FewerWeighLess : Type 0
 FewerWeighLess = (full xs : List Act) → AreOnce xs (λ m. false) → IsFewer full xs → weight_of xs (λ m. false) + root_count full ≤ weight_of full (λ m. false) + root_count xs
+
+-- a new node, in place of uses of its operands that are to come
+abbrev pub SwapHasBound : Type 0
+SwapHasBound =
+    (xs later sooner rest : List Act) (x : Parts) (n : ℕ) → AreOnce xs (λ m. false) → AreActs (λ m y. m ≡ n → ⊥) (λ y. Unit {0}) xs → IsSwap x n later sooner rest
+    → weight_of (xs ++ later) (λ m. false) + root_count sooner ≤ (weight_of (xs ++ sooner) (λ m. false) + root_count later) + new_size x

@@ -1,5 +1,5 @@
 -- Without some unused nodes and some roots a block isn't heavier.
-use Rattle.std.proofs.Common.{◌≡◌, ⊎_elim, ℕ, zero, suc, ◌+◌, ◌*◌, ◌<◌, ◌≤◌, Bool, true, false, true≢false, List, [], ◌∷◌, inl, inr, refl, sym, ap, ◌∙◌, subst, arith}
+use Rattle.std.proofs.Common.{◌≡◌, ⊎_elim, ℕ, zero, suc, ◌+◌, ◌*◌, ◌≤◌, Bool, true, false, true≢false, List, [], ◌∷◌, inl, inr, refl, sym, ap, ◌∙◌, subst, arith}
 use Rattle.std.specs.Prelude.{◌⊎◌, ◌&&◌, ◌||◌, not, if◌then◌else◌}
 use Rattle.std.proofs.lemmas.Bool.{cases_eq}
 use Rattle.dag_forest.specs.declared.act.Act.{Act}
@@ -115,13 +115,13 @@ keep n x full xs part rest made reads heavy due once paid none =
     let more = uses_at xs due n d (none n once.0) in
     let here = fewer_bound x (counts xs n) (counts full n) (sum_kids x.kids due) (late xs n) (late full n) reads heavy (fewer_counts full xs n part) (fewer_late full xs n part) (reads_paid x reads heavy due (node_uses xs) paid) in
     let later = rest (at made n true) (at reads n (not w && reads_by reads x)) (at heavy n (not v && reads_by heavy x)) (at due n d) once.1
-        (λ m a b. ⊎_elim
-        (λ e. subst (λ z. (7 ≤ at due n d z) ⊎ (node_uses xs z ≡ 0)) (sym e) (subst (λ z. (7 ≤ z) ⊎ (node_uses xs n ≡ 0)) (sym (at_new due n d))
-        (own (sym (ap (at reads n (not w && reads_by reads x)) e ∙ at_new reads n (not w && reads_by reads x)) ∙ a) (sym (ap (at heavy n (not v && reads_by heavy x)) e ∙ at_new heavy n (not v && reads_by heavy x)) ∙ b) (is_call x.operator.op) refl)))
-        (λ ne. ⊎_elim (λ l. inl (subst (λ z. 7 ≤ z) (sym (at_old due n d m ne)) l)) (λ z. inr (let q : in_kids x.kids m + node_uses xs m ≡ 0 = z in omega (arith, q)))
-        (paid m (sym (at_old reads n (not w && reads_by reads x) m ne) ∙ a) (sym (at_old heavy n (not v && reads_by heavy x) m ne) ∙ b)))
-        (cases_eq m n))
-        (λ m un. at_old due n d m (unmade_other made n m un) ∙ none m (unmade made n m un)) in
+    (λ m a b. ⊎_elim
+    (λ e. subst (λ z. (7 ≤ at due n d z) ⊎ (node_uses xs z ≡ 0)) (sym e) (subst (λ z. (7 ≤ z) ⊎ (node_uses xs n ≡ 0)) (sym (at_new due n d))
+    (own (sym (ap (at reads n (not w && reads_by reads x)) e ∙ at_new reads n (not w && reads_by reads x)) ∙ a) (sym (ap (at heavy n (not v && reads_by heavy x)) e ∙ at_new heavy n (not v && reads_by heavy x)) ∙ b) (is_call x.operator.op) refl)))
+    (λ ne. ⊎_elim (λ l. inl (subst (λ z. 7 ≤ z) (sym (at_old due n d m ne)) l)) (λ z. inr (let q : in_kids x.kids m + node_uses xs m ≡ 0 = z in omega (arith, q)))
+    (paid m (sym (at_old reads n (not w && reads_by reads x) m ne) ∙ a) (sym (at_old heavy n (not v && reads_by heavy x) m ne) ∙ b)))
+    (cases_eq m n))
+    (λ m un. at_old due n d m (unmade_other made n m un) ∙ none m (unmade made n m un)) in
     omega (arith, more, here, later)
   where
     own : (not (is_heavy xs reads n x) && reads_by reads x) ≡ true → (not (is_heavy full heavy n x) && reads_by heavy x) ≡ false → (call : Bool) → is_call x.operator.op ≡ call
@@ -134,11 +134,11 @@ leave n x full xs unused rest made reads heavy due once paid none =
     let b = not (is_heavy full heavy n x) && reads_by heavy x in
     let few = node_uses_few xs n in
     let later = rest made reads (at heavy n b) due once
-        (λ m a c. ⊎_elim
-        (λ e. inr (ap (node_uses xs) e ∙ (let z : node_uses xs n ≡ 0 = omega (arith, few, unused) in z)))
-        (λ ne. paid m a (sym (at_old heavy n b m ne) ∙ c))
-        (cases_eq m n))
-        none in
+    (λ m a c. ⊎_elim
+    (λ e. inr (ap (node_uses xs) e ∙ (let z : node_uses xs n ≡ 0 = omega (arith, few, unused) in z)))
+    (λ ne. paid m a (sym (at_old heavy n b m ne) ∙ c))
+    (cases_eq m n))
+    none in
     omega (arith, later)
 
 acts : (x : Parts) (full xs : List Act) → Weighed full xs → Weighed (Acts x ∷ full) (Acts x ∷ xs)

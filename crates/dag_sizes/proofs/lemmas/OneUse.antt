@@ -1,8 +1,7 @@
 -- What one use more of a node costs.
-use Rattle.std.proofs.Common.{◌≡◌, ⊎_elim, ℕ, zero, suc, ◌+◌, ◌*◌, ◌<◌, ◌≤◌, Bool, true, false, true≢false, List, [], ◌∷◌, ◌++◌, refl, sym, ap, ◌∙◌, subst, arith}
+use Rattle.std.proofs.Common.{◌≡◌, ⊎_elim, ℕ, zero, suc, ◌+◌, ◌*◌, ◌≤◌, Bool, true, false, true≢false, List, [], ◌∷◌, ◌++◌, refl, sym, ap, ◌∙◌, subst, arith}
 use Rattle.std.specs.Prelude.{◌&&◌, ◌||◌, not, cond, if◌then◌else◌}
 use Rattle.std.proofs.lemmas.Bool.{cases_eq}
-use Rattle.op_forest.specs.declared.suffix.Suffix.{Suffix}
 use Rattle.dag_forest.specs.declared.act.Act.{Act}
 use Rattle.dag_forest.specs.declared.act.Act.TheVariants.{Made, Acts}
 use Rattle.dag_forest.specs.declared.kids.Kids.{Kids}
@@ -179,12 +178,12 @@ module _ (zs : List Act) (u : Parts) (k b : ℕ) (uses : u.kids ≡ One k) (plai
         let c = counts_one xs n in
         let more : counts (xs ++ Acts u ∷ zs) n ≡ suc (counts (xs ++ zs) n) = omega (arith, c, one) in
         let here : node_size (heavy_by (is_computed x) (is_call x.operator.op) (times_of (counts (xs ++ Acts u ∷ zs) n)) (late (xs ++ Acts u ∷ zs) n) (reads_by f x)) x (counts (xs ++ Acts u ∷ zs) n)
-            ≤ node_size (heavy_by (is_computed x) (is_call x.operator.op) (times_of (counts (xs ++ zs) n)) (late (xs ++ zs) n) (reads_by g x)) x (counts (xs ++ zs) n) + use_size x =
-            subst (λ q. node_size (heavy_by (is_computed x) (is_call x.operator.op) (times_of q) (late (xs ++ Acts u ∷ zs) n) (reads_by f x)) x q ≤ node_size (heavy_by (is_computed x) (is_call x.operator.op) (times_of (counts (xs ++ zs) n)) (late (xs ++ zs) n) (reads_by g x)) x (counts (xs ++ zs) n) + use_size x) (sym more)
-            (own_bound x (counts (xs ++ zs) n) (times_of (suc (counts (xs ++ zs) n))) (late (xs ++ Acts u ∷ zs) n) (reads_by f x) (late (xs ++ zs) n) (reads_by g x)) in
+        ≤ node_size (heavy_by (is_computed x) (is_call x.operator.op) (times_of (counts (xs ++ zs) n)) (late (xs ++ zs) n) (reads_by g x)) x (counts (xs ++ zs) n) + use_size x =
+        subst (λ q. node_size (heavy_by (is_computed x) (is_call x.operator.op) (times_of q) (late (xs ++ Acts u ∷ zs) n) (reads_by f x)) x q ≤ node_size (heavy_by (is_computed x) (is_call x.operator.op) (times_of (counts (xs ++ zs) n)) (late (xs ++ zs) n) (reads_by g x)) x (counts (xs ++ zs) n) + use_size x) (sym more)
+        (own_bound x (counts (xs ++ zs) n) (times_of (suc (counts (xs ++ zs) n))) (late (xs ++ Acts u ∷ zs) n) (reads_by f x) (late (xs ++ zs) n) (reads_by g x)) in
         let light : (not (is_heavy (xs ++ Acts u ∷ zs) f n x) && reads_by f x) ≡ true → (not (is_heavy (xs ++ zs) g n x) && reads_by g x) ≡ true =
-            λ h. own_light (is_computed x) (is_call x.operator.op) (counts (xs ++ zs) n) (late (xs ++ Acts u ∷ zs) n) (late (xs ++ zs) n) (reads_by f x) (reads_by g x) (reads_more x f g i)
-            (sym (ap (λ q. not (heavy_by (is_computed x) (is_call x.operator.op) (times_of q) (late (xs ++ Acts u ∷ zs) n) (reads_by f x)) && reads_by f x) more) ∙ h) in
+        λ h. own_light (is_computed x) (is_call x.operator.op) (counts (xs ++ zs) n) (late (xs ++ Acts u ∷ zs) n) (late (xs ++ zs) n) (reads_by f x) (reads_by g x) (reads_more x f g i)
+        (sym (ap (λ q. not (heavy_by (is_computed x) (is_call x.operator.op) (times_of q) (late (xs ++ Acts u ∷ zs) n) (reads_by f x)) && reads_by f x) more) ∙ h) in
         let later = rest (at made n true) (at f n (not (is_heavy (xs ++ Acts u ∷ zs) f n x) && reads_by f x)) (at g n (not (is_heavy (xs ++ zs) g n x) && reads_by g x)) once.1 are.1 (at_more f g n (not (is_heavy (xs ++ Acts u ∷ zs) f n x) && reads_by f x) (not (is_heavy (xs ++ zs) g n x) && reads_by g x) i light) in
         let paid : Budget (at made n true) ≡ 0 = ap (λ q. cond q 0 b) (ap (at made n true) (sym e) ∙ at_new made n true) in
         let open_ : Budget made ≡ b = ap (λ q. cond q 0 b) (ap made (sym e) ∙ once.0) in
@@ -198,13 +197,13 @@ module _ (zs : List Act) (u : Parts) (k b : ℕ) (uses : u.kids ≡ One k) (plai
         let heavy : is_heavy (xs ++ Acts u ∷ zs) f n x ≡ heavy_by (is_computed x) (is_call x.operator.op) (times_of (counts (xs ++ zs) n)) (late (xs ++ zs) n) (reads_by f x) = λ j. heavy_by (is_computed x) (is_call x.operator.op) (times_of (c j)) (l j) (reads_by f x) in
         let r = reads_more x f g i in
         let here : node_size (is_heavy (xs ++ Acts u ∷ zs) f n x) x (counts (xs ++ Acts u ∷ zs) n) ≤ node_size (is_heavy (xs ++ zs) g n x) x (counts (xs ++ zs) n) =
-            subst (λ q. node_size (is_heavy (xs ++ Acts u ∷ zs) f n x) x q ≤ node_size (is_heavy (xs ++ zs) g n x) x (counts (xs ++ zs) n)) (sym c)
-            (subst (λ q. node_size q x (counts (xs ++ zs) n) ≤ node_size (is_heavy (xs ++ zs) g n x) x (counts (xs ++ zs) n)) (sym heavy)
-            (size_more x (heavy_by (is_computed x) (is_call x.operator.op) (times_of (counts (xs ++ zs) n)) (late (xs ++ zs) n) (reads_by f x)) (is_heavy (xs ++ zs) g n x) (counts (xs ++ zs) n)
-            (heavy_more (is_computed x) (is_call x.operator.op) (times_of (counts (xs ++ zs) n)) (late (xs ++ zs) n) (reads_by f x) (reads_by g x) r)
-            (heavy_computed (is_computed x) (is_call x.operator.op) (times_of (counts (xs ++ zs) n)) (late (xs ++ zs) n) (reads_by g x)))) in
+        subst (λ q. node_size (is_heavy (xs ++ Acts u ∷ zs) f n x) x q ≤ node_size (is_heavy (xs ++ zs) g n x) x (counts (xs ++ zs) n)) (sym c)
+        (subst (λ q. node_size q x (counts (xs ++ zs) n) ≤ node_size (is_heavy (xs ++ zs) g n x) x (counts (xs ++ zs) n)) (sym heavy)
+        (size_more x (heavy_by (is_computed x) (is_call x.operator.op) (times_of (counts (xs ++ zs) n)) (late (xs ++ zs) n) (reads_by f x)) (is_heavy (xs ++ zs) g n x) (counts (xs ++ zs) n)
+        (heavy_more (is_computed x) (is_call x.operator.op) (times_of (counts (xs ++ zs) n)) (late (xs ++ zs) n) (reads_by f x) (reads_by g x) r)
+        (heavy_computed (is_computed x) (is_call x.operator.op) (times_of (counts (xs ++ zs) n)) (late (xs ++ zs) n) (reads_by g x)))) in
         let light : (not (is_heavy (xs ++ Acts u ∷ zs) f n x) && reads_by f x) ≡ true → (not (is_heavy (xs ++ zs) g n x) && reads_by g x) ≡ true =
-            λ h. light_more (is_computed x) (is_call x.operator.op) (times_of (counts (xs ++ zs) n)) (late (xs ++ zs) n) (reads_by f x) (reads_by g x) r (sym (ap (λ q. not q && reads_by f x) heavy) ∙ h) in
+        λ h. light_more (is_computed x) (is_call x.operator.op) (times_of (counts (xs ++ zs) n)) (late (xs ++ zs) n) (reads_by f x) (reads_by g x) r (sym (ap (λ q. not q && reads_by f x) heavy) ∙ h) in
         let later = rest (at made n true) (at f n (not (is_heavy (xs ++ Acts u ∷ zs) f n x) && reads_by f x)) (at g n (not (is_heavy (xs ++ zs) g n x) && reads_by g x)) once.1 are.1 (at_more f g n (not (is_heavy (xs ++ Acts u ∷ zs) f n x) && reads_by f x) (not (is_heavy (xs ++ zs) g n x) && reads_by g x) i light) in
         let same : Budget (at made n true) ≡ Budget made = ap (λ q. cond q 0 b) (at_old made n true k (λ e. ne (sym e))) in
         omega (arith, here, later, same)

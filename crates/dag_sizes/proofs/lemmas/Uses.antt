@@ -37,7 +37,7 @@ one_at f n g a z = ⊎_elim
     (λ ne. let p = at_old f n g a ne in let h : hits n a * g ≡ 0 * g = ap (λ k. k * g) (miss n a (λ e. ne (sym e))) in omega (arith, p, h))
     (cases_eq a n)
 
-kids_at : (k : Kids) (f : ℕ → ℕ) (n g : ℕ) → f n ≡ 0 → sum_kids k (at f n g) ≡ sum_kids k f + in_kids k n * g
+pub kids_at : (k : Kids) (f : ℕ → ℕ) (n g : ℕ) → f n ≡ 0 → sum_kids k (at f n g) ≡ sum_kids k f + in_kids k n * g
 kids_at Zero f n g z = omega arith
 kids_at (One a) f n g z = one_at f n g a z
 kids_at (Two a c) f n g z =
