@@ -1,0 +1,4 @@
+mod TurnExamples
+mod OpenExamples
+mod RoomExamples
+mod FitExamples
