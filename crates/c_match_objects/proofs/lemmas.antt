@@ -1,3 +1,6 @@
 pub mod Reached
 pub mod Reads
 pub mod Stores
+pub mod Accesses
+pub mod StoredScalars
+pub mod Copied

@@ -1,4 +1,4 @@
-ghost use Rattle.c_match_objects.specs.Accesses.{AccessesGo, NumbersAreRead, StoresGo, WordsAreRead};
+ghost use Rattle.c_match_objects.specs.Accesses.{AccessesGo, CopiesGo, NumbersAreRead, NumbersAreStored, StoresGo, WordsAreRead, WordsAreStored};
 
 /// An access of C that nothing forbids isn't forbidden in forests; and what C reads as a scalar is what forests read.
 pub fn reads_go()
@@ -10,4 +10,7 @@ pub fn reads_go()
 /// A store of C that nothing forbids isn't forbidden in forests. Behind it all objects are held, and what holds nothing of C is as before.
 pub fn stores_go()
     ensures bytes { StoresGo }
+    ensures words { WordsAreStored }
+    ensures numbers { NumbersAreStored }
+    ensures copies { CopiesGo }
 {}

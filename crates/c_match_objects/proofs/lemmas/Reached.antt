@@ -1,5 +1,5 @@
 -- Where an access of C goes, and where the access of forests goes that stands for it.
-use Rattle.std.specs.Prelude.{◌≡◌, ◌≤◌, ◌⊎◌, ℕ, zero, suc, ◌+◌, ◌*◌, ◌%◌, ◌==◌, ◌&&◌, not, nat_lt, Bool, true, false, Option, Some, None, is_none, List, [], ◌∷◌, length, map, take, drop, slice_get, if◌then◌else◌}
+use Rattle.std.specs.Prelude.{◌≡◌, ◌≤◌, ◌⊎◌, ℕ, zero, suc, ◌+◌, ◌*◌, ◌%◌, ◌==◌, ◌&&◌, not, nat_lt, Bool, true, false, Option, Some, None, is_none, List, [], ◌∷◌, length, take, drop, slice_get, if◌then◌else◌}
 use Rattle.std.proofs.Common.{refl, ap, sym, subst, inl, inr, ◌∙◌, arith}
 use Rattle.std.proofs.lemmas.Bool.{eqb-true, eq-eqb, true≢false}
 use Rattle.std.proofs.lemmas.List.{length-map, length-take-le, length-drop}
@@ -130,6 +130,7 @@ pub record IsAccess (map : Map) (old : List Shape) (objects : List Object) (p : 
   pub aligned : not (reached.offset % alignment == 0) ≡ false
 
 pub access : (map : Map) (old : List Shape) (objects : List Object) (p : Value) (w : Word) (size alignment : ℕ) → AreHeld map old objects → IsValue map p w → read_cause old p size alignment ≡ None → IsAccess map old objects p w size alignment
+unfolding lives_reached
 access map old objects (Number n) w size alignment h v e = absurd (let never : true ≡ false = first_not true Outside ((false, Misaligned) ∷ (false, Dead) ∷ []) e in true≢false never)
 access map old objects (Function f) w size alignment h v e = absurd (let never : true ≡ false = first_not true Outside ((false, Misaligned) ∷ (false, Dead) ∷ []) e in true≢false never)
 access map old objects (Pointer name offset) w size alignment h v e =

@@ -1,5 +1,5 @@
 -- What C reads as a scalar is what forests read.
-use Rattle.std.specs.Prelude.{◌≡◌, ◌<◌, ℕ, ◌-◌, ◌%◌, ◌^◌, ◌==◌, ◌&&◌, not, Bool, true, false, Option, Some, None, is_none, Result, Ok, List, [], ◌∷◌, length, map, if◌then◌else◌}
+use Rattle.std.specs.Prelude.{◌≡◌, ◌<◌, ℕ, ◌-◌, ◌%◌, ◌^◌, ◌==◌, ◌&&◌, not, Bool, true, false, Option, Some, None, is_none, Result, Ok, List, [], ◌∷◌, length, map as mapped, if◌then◌else◌}
 use Rattle.std.proofs.Common.{refl, ap, sym, subst, inl, inr, ◌∙◌, arith}
 use Rattle.lcc_base.specs.declared.order.Order.{Order}
 use Rattle.lcc_base.specs.declared.order.Order.TheVariants.{Big, Little}
@@ -54,7 +54,7 @@ aligned_by_width Four = inr (inr refl)
 
 word_by : (map : Map) (old : List Old) (objects : List Object) (order : Order) (signed : Bool) (p v : Value) (w : Word) → AreHeld map old objects → AreSoundObjects objects → IsValue map p w → read order (record { width = Four; signed = signed }) old p ≡ Ok v → (u : Word) × (word_read order objects w ≡ Some u) × IsValue map v u
 word_by map old objects order signed p v w h sound is e =
-    let s = record { width = Four; signed = signed } in
+    let s : Scalar = record { width = Four; signed = signed } in
     let bs = c.bytes_through old p 4 in
     let none = if_none_none (read_cause old p 4 4) (scalar_of order s bs) v e in
     let it = if_none_same (read_cause old p 4 4) (scalar_of order s bs) v e in
@@ -102,22 +102,22 @@ few_whole order Two [] h e = absurd (let never : ⊥ = omega (arith, e) in never
 few_whole order Two (b ∷ []) h e = absurd (let never : ⊥ = omega (arith, e) in never)
 few_whole order Two (b ∷ d ∷ f ∷ bs) h e = absurd (let never : ⊥ = omega (arith, e) in never)
 
-known_unknown : {V : Type 0} (vs : List ℕ) → has_unknown_bits (known_bytes {V = V} vs) ≡ false
-known_unknown [] = refl
-known_unknown (v ∷ vs) = known_unknown vs
+known_unknown : (A : Type 0) (vs : List ℕ) → has_unknown_bits (known_bytes {V = A} vs) ≡ false
+known_unknown A [] = refl
+known_unknown A (v ∷ vs) = known_unknown A vs
 
-known_parts : {V : Type 0} (vs : List ℕ) → has_parts (known_bytes {V = V} vs) ≡ false
-known_parts [] = refl
-known_parts (v ∷ vs) = known_parts vs
+known_parts : (A : Type 0) (vs : List ℕ) → has_parts (known_bytes {V = A} vs) ≡ false
+known_parts A [] = refl
+known_parts A (v ∷ vs) = known_parts A vs
 
 known_cause : (vs : List ℕ) → number_cause (known_bytes vs) ≡ None
 known_cause vs =
-    ap (λ (b : Bool). first_cause ((b, Unknown) ∷ (has_parts (known_bytes {V = Word} vs), PointerBytes) ∷ [])) (known_unknown {V = Word} vs)
-    ∙ ap (λ (b : Bool). first_cause ((b, PointerBytes) ∷ [])) (known_parts {V = Word} vs)
+    ap (λ (b : Bool). first_cause ((b, Unknown) ∷ (has_parts (known_bytes {V = Word} vs), PointerBytes) ∷ [])) (known_unknown Word vs)
+    ∙ ap (λ (b : Bool). first_cause ((b, PointerBytes) ∷ [])) (known_parts Word vs)
 
-values_known : {V : Type 0} (vs : List ℕ) → map value_of (known_bytes {V = V} vs) ≡ vs
-values_known [] = refl
-values_known (v ∷ vs) = ap (λ xs. v ∷ xs) (values_known {V = V} vs)
+values_known : (A : Type 0) (vs : List ℕ) → mapped value_of (known_bytes {V = A} vs) ≡ vs
+values_known A [] = refl
+values_known A (v ∷ vs) = ap (λ xs. v ∷ xs) (values_known A vs)
 
 -- a number's low bits extended are it extended
 low_widened : (signed : Bool) (width : Width) (n : ℕ) → (width ≡ Four → ⊥) → widened signed (bits_in width) (narrow (bits_in width) n) ≡ Some (Plain (Number (extended signed (bits_in width) n)))
@@ -125,7 +125,7 @@ low_widened signed Four n h = absurd (h refl)
 low_widened signed One n h = ap (λ (m : ℕ). Some (Plain (Number (if signed then sign_extended 8 m else m)))) (let e : n % 2 ^ 8 % 2 ^ 8 % 2 ^ 8 ≡ n % 2 ^ 8 = omega arith in e)
 low_widened signed Two n h = ap (λ (m : ℕ). Some (Plain (Number (if signed then sign_extended 16 m else m)))) (let e : n % 2 ^ 16 % 2 ^ 16 % 2 ^ 16 ≡ n % 2 ^ 16 = omega arith in e)
 
-number_by : (map : Map) (old : List Old) (objects : List Object) (order : Order) (s : Scalar) (p v : Value) (w : Word) → AreHeld map old objects → AreSoundObjects objects → IsValue map p w → (s.width ≡ Four → ⊥) → read order s old p ≡ Ok v → (u x : Word) × (number_read order s.width objects w ≡ Some u) × (widened s.signed (bits_in s.width) u ≡ Some x) × IsValue map v x
+pub number_by : (map : Map) (old : List Old) (objects : List Object) (order : Order) (s : Scalar) (p v : Value) (w : Word) → AreHeld map old objects → AreSoundObjects objects → IsValue map p w → (s.width ≡ Four → ⊥) → read order s old p ≡ Ok v → (u x : Word) × (number_read order s.width objects w ≡ Some u) × (widened s.signed (bits_in s.width) u ≡ Some x) × IsValue map v x
 number_by map old objects order s p v w h sound is few e =
     let width = s.width in
     let size = bytes_in width in
@@ -145,8 +145,8 @@ number_by map old objects order s p v w h sound is few e =
     let both = known_both map bs cs (bytes_reached map old objects p w size a.reached) (bytes_through_sound objects (there a.reached) size sound) (long.0 ∙ sym long.1) unknown parts in
     let vs = both.0 in
     let n = number_in order vs in
-    let of_c : number_of_bytes order bs ≡ n = ap (λ (x : List (Byte Value)). number_of_bytes order x) both.1 ∙ ap (number_in order) (values_known {V = Value} vs) in
-    let of_f : number_of_bytes order cs ≡ n = ap (λ (x : List (Byte Word)). number_of_bytes order x) both.2 ∙ ap (number_in order) (values_known {V = Word} vs) in
+    let of_c : number_of_bytes order bs ≡ n = ap (λ (x : List (Byte Value)). number_of_bytes order x) both.1 ∙ ap (number_in order) (values_known Value vs) in
+    let of_f : number_of_bytes order cs ≡ n = ap (λ (x : List (Byte Word)). number_of_bytes order x) both.2 ∙ ap (number_in order) (values_known Word vs) in
     let scalar : as_type s (scalar_value order bs) ≡ Number (as_scalar s n) = ap (λ (o : Option Value). as_type s (whole_or o (number_of_bytes order bs))) whole ∙ ap (λ (x : ℕ). Number (as_scalar s x)) of_c in
     let reads : number_read order width objects w ≡ Some (narrow bits n) =
     ap (λ (x : Word). number_read order width objects x) a.reached.word
