@@ -4,3 +4,5 @@ pub mod Stores
 pub mod Accesses
 pub mod StoredScalars
 pub mod Copied
+pub mod Pointers
+pub mod Compared

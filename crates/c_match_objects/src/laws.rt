@@ -1,4 +1,5 @@
 ghost use Rattle.c_match_objects.specs.Accesses.{AccessesGo, CopiesGo, NumbersAreRead, NumbersAreStored, StoresGo, WordsAreRead, WordsAreStored};
+ghost use Rattle.c_match_objects.specs.Pointers.{PointersAreCompared, PointersAreOrdered, PointersAreSubtracted, PointersAreTested, PointersMove, PointersMoveBack, PointersMoveOn};
 
 /// An access of C that nothing forbids isn't forbidden in forests; and what C reads as a scalar is what forests read.
 pub fn reads_go()
@@ -13,4 +14,16 @@ pub fn stores_go()
     ensures words { WordsAreStored }
     ensures numbers { NumbersAreStored }
     ensures copies { CopiesGo }
+{}
+
+/// A pointer of C that is moved stands as one that forests move; and two that are ordered, subtracted or compared, and one that is
+/// tested, tell the same in forests.
+pub fn pointers_go()
+    ensures moved { PointersMove }
+    ensures on { PointersMoveOn }
+    ensures back { PointersMoveBack }
+    ensures ordered { PointersAreOrdered }
+    ensures subtracted { PointersAreSubtracted }
+    ensures compared { PointersAreCompared }
+    ensures tested { PointersAreTested }
 {}
