@@ -6,3 +6,4 @@ pub mod StoredScalars
 pub mod Copied
 pub mod Pointers
 pub mod Compared
+pub mod Lifetimes

@@ -1,4 +1,5 @@
 ghost use Rattle.c_match_objects.specs.Accesses.{AccessesGo, CopiesGo, NumbersAreRead, NumbersAreStored, StoresGo, WordsAreRead, WordsAreStored};
+ghost use Rattle.c_match_objects.specs.Lifetimes.{FlagsStay, HeldBySameHomes, HomesBegin, LeavingGoesOn, ObjectsBegin, ObjectsEnd, PrivateIsApart, SlotsHold};
 ghost use Rattle.c_match_objects.specs.Pointers.{PointersAreCompared, PointersAreOrdered, PointersAreSubtracted, PointersAreTested, PointersMove, PointersMoveBack, PointersMoveOn};
 
 /// An access of C that nothing forbids isn't forbidden in forests; and what C reads as a scalar is what forests read.
@@ -26,4 +27,17 @@ pub fn pointers_go()
     ensures subtracted { PointersAreSubtracted }
     ensures compared { PointersAreCompared }
     ensures tested { PointersAreTested }
+{}
+
+/// Objects of C are held on where objects of forests that hold nothing of C begin or change, where further objects of C
+/// begin in homes that have room, and where the last objects of both end.
+pub fn lifetimes_go()
+    ensures homes { HeldBySameHomes }
+    ensures further { HomesBegin }
+    ensures left { LeavingGoesOn }
+    ensures begun { ObjectsBegin }
+    ensures private { PrivateIsApart }
+    ensures slots { SlotsHold }
+    ensures flags { FlagsStay }
+    ensures ended { ObjectsEnd }
 {}
