@@ -7,3 +7,5 @@ pub mod Copied
 pub mod Pointers
 pub mod Compared
 pub mod Lifetimes
+pub mod FieldBits
+pub mod UnitWords

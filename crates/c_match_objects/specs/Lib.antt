@@ -1,3 +1,4 @@
 pub mod Accesses
 pub mod Pointers
 pub mod Lifetimes
+pub mod Fields
