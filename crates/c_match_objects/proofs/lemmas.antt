@@ -9,3 +9,4 @@ pub mod Compared
 pub mod Lifetimes
 pub mod FieldBits
 pub mod UnitWords
+pub mod SetFields
