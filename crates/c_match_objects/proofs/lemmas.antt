@@ -10,3 +10,4 @@ pub mod Lifetimes
 pub mod FieldBits
 pub mod UnitWords
 pub mod SetFields
+pub mod FieldStores

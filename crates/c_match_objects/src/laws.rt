@@ -1,4 +1,5 @@
 ghost use Rattle.c_match_objects.specs.Accesses.{AccessesGo, CopiesGo, NumbersAreRead, NumbersAreStored, StoresGo, WordsAreRead, WordsAreStored};
+ghost use Rattle.c_match_objects.specs.Fields.{FieldsAreStored};
 ghost use Rattle.c_match_objects.specs.Lifetimes.{FlagsStay, HeldBySameHomes, HomesBegin, LeavingGoesOn, ObjectsBegin, ObjectsEnd, PrivateIsApart, SlotsHold};
 ghost use Rattle.c_match_objects.specs.Pointers.{PointersAreCompared, PointersAreOrdered, PointersAreSubtracted, PointersAreTested, PointersMove, PointersMoveBack, PointersMoveOn};
 
@@ -40,4 +41,10 @@ pub fn lifetimes_go()
     ensures slots { SlotsHold }
     ensures flags { FlagsStay }
     ensures ended { ObjectsEnd }
+{}
+
+/// Where C writes a bit-field, forests may read its unit, clear the field's bits, set the new ones and write the unit, whatever of it
+/// is known.
+pub fn fields_go()
+    ensures stored { FieldsAreStored }
 {}
