@@ -23,7 +23,7 @@ use Rattle.c_match.specs.Ranges.{Map}
 use Rattle.c_match.specs.Values.{IsValue}
 use Rattle.c_match.specs.Bytes.{AreBytesOf}
 use Rattle.c_match.specs.Held.{AreHeld, IsOpenTo, IsAlignment}
-use Rattle.c_match.specs.Left.{IsLeft}
+use Rattle.c_match.specs.Left.{IsPrivate, IsLeft}
 
 -- ---- reads
 
@@ -50,10 +50,12 @@ NumbersAreRead =
 
 -- ---- stores
 
--- What a store of C's becomes in forests: it isn't refused there, the objects are held as before, and what holds nothing of C stays.
+-- Behind a store of C's, and the one of forests that stands for it: the objects are held as before, and what held nothing of C is as
+-- it was, and holds nothing still.
 pub record IsKept (map : Map) (old new : List Old) (objects after : List Object) : Type 0 where
   pub held : AreHeld map new after
   pub left : IsLeft map old objects after
+  pub private : (place : ℕ) → IsPrivate map old place → IsPrivate map new place
 
 -- bytes of any number
 abbrev pub StoresGo : Type 0

@@ -150,6 +150,11 @@ module _ (map : Map) (old : List Old) (objects : List Object) (p : Value) (w : W
   pub store_leaves : IsLeft map old objects after
   store_leaves place within private = stored_elsewhere objects r.range.object.place (r.range.start + r.offset) other place (λ e. private r.name.place r.it r.range r.lives r.is (sym e))
 
+  pub store_hides : (place : ℕ) → IsPrivate map old place → IsPrivate map new place
+  store_hides place private q x s e i same =
+      let u = was_there old r.name.place r.offset bytes q x e in
+      private q u.before s u.there (sym (ap map u.made) ∙ i) same
+
 -- ---- whether it is refused
 
 four_false : (a b c d : Bool) (x y z u : Cause) → first_cause ((a, x) ∷ (b, y) ∷ (c, z) ∷ []) ≡ None → d ≡ false → first_cause ((a, x) ∷ (b, y) ∷ (c, z) ∷ (d, u) ∷ []) ≡ None
@@ -194,5 +199,5 @@ store_goes map old objects purpose p w size alignment bytes other h is ok may ar
     let i = a.inside in
     let inside : r.offset + length other ≤ r.name.size = omega (arith, i, lo) in
     let kept : IsKept map old (stored old r.name.place r.offset bytes) objects (stored_through objects (there r) other) =
-    record { held = store_holds map old objects p w bytes other r h are (lb ∙ sym lo) inside; left = store_leaves map old objects p w bytes other r h are (lb ∙ sym lo) inside } in
+    record { held = store_holds map old objects p w bytes other r h are (lb ∙ sym lo) inside; left = store_leaves map old objects p w bytes other r h are (lb ∙ sym lo) inside; private = store_hides map old objects p w bytes other r h are (lb ∙ sym lo) inside } in
     (there r, r.word, writes_there map old objects purpose p w size alignment ok may e a, subst (λ (os : List Old). IsKept map old os objects (stored_through objects (there r) other)) (sym (ap (λ q. c.stored_through old q bytes) r.points)) kept)

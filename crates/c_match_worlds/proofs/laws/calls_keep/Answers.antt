@@ -1,0 +1,17 @@
+use Rattle.c_match_worlds.proofs.lemmas.Calling.{call_opens, local_begins, other_begins, copy_passed, call_closes}
+use Rattle.c_match_worlds.proofs.laws.calls_keep.Goals as goal
+
+pub returns-clause-opened : goal.returns-clause-opened
+returns-clause-opened c = call_opens
+
+pub returns-clause-locals : goal.returns-clause-locals
+returns-clause-locals c = local_begins
+
+pub returns-clause-others : goal.returns-clause-others
+returns-clause-others c = other_begins
+
+pub returns-clause-passed : goal.returns-clause-passed
+returns-clause-passed c = copy_passed
+
+pub returns-clause-closed : goal.returns-clause-closed
+returns-clause-closed c = call_closes

@@ -1,0 +1,8 @@
+use Rattle.c_match_worlds.proofs.lemmas.Keeping.{store_keeps, private_keeps}
+use Rattle.c_match_worlds.proofs.laws.stores_keep.Goals as goal
+
+pub returns-clause-objects : goal.returns-clause-objects
+returns-clause-objects c = store_keeps
+
+pub returns-clause-private : goal.returns-clause-private
+returns-clause-private c = private_keeps

@@ -1,0 +1,96 @@
+-- What keeps worlds of forests standing for those of C: accesses, events, and the objects of calls.
+use Rattle.std.specs.Prelude.{◌≡◌, ◌≤◌, ◌<◌, ℕ, Bool, false, Some, List, [], ◌∷◌, ◌++◌, length, slice_get}
+use Rattle.lcc_base.specs.Traces.{Event, Opened, Closed}
+use Rattle.lcc_base.specs.declared.order.Order.{Order}
+use Rattle.objects.specs.declared.byte.Byte.{Byte}
+use Rattle.objects.specs.declared.value.ObjectName.{ObjectName}
+use Rattle.objects.specs.declared.value.Value.{Value}
+use Rattle.objects.specs.declared.value.Value.TheVariants.{Pointer}
+use Rattle.objects.specs.Objects.{Object as Old}
+use Rattle.op_forest.specs.declared.lowered.LoweredObject.{LoweredObject}
+use Rattle.op_forest.specs.Callees.{Body}
+use Rattle.op_forest.specs.Lowered.{LoweredUnit}
+use Rattle.forests.specs.Functions.{entered, left_behind}
+use Rattle.forests.specs.Objects.{Object}
+use Rattle.forests.specs.Sound.{AreSoundObjects, AreInput, IsSound}
+use Rattle.forests.specs.Worlds.{World, with_arguments, with_event, with_input, with_objects}
+use Rattle.c_runs.specs.Soundness.{outlines}
+use Rattle.c_runs.specs.Worlds as c
+use Rattle.c_match.specs.Ranges.{Range, Map, Grown, AreApart, with_range}
+use Rattle.c_match.specs.Held.{IsHeldIn}
+use Rattle.c_match.specs.Left.{IsPrivate, IsLeft}
+use Rattle.c_match_objects.specs.Accesses.{IsKept}
+use Rattle.c_match_worlds.specs.Matches.{Matches}
+
+-- ---- accesses and events
+
+-- a store
+abbrev pub StoresKeep : Type 0
+StoresKeep =
+    (u : LoweredUnit) (own : ℕ) (map : Map) (old : c.World) (w : World) (new : List Old) (after : List Object)
+    → Matches u own map old w → IsKept map (c.objects old) new w.objects after → AreSoundObjects after
+    → Matches u own map (c.with_objects old new) (with_objects w after)
+
+-- what changes private objects alone, and argument words, as the lowering's own temporaries do
+abbrev pub PrivateStoresKeep : Type 0
+PrivateStoresKeep =
+    (u : LoweredUnit) (own : ℕ) (map : Map) (old : c.World) (w new : World)
+    → Matches u own map old w → IsSound new → new.input ≡ w.input → new.trace ≡ w.trace
+    → ((place : ℕ) → (IsPrivate map (c.objects old) place → ⊥) → slice_get new.objects place ≡ slice_get w.objects place)
+    → ((t : ℕ) (o : LoweredObject) → own ≤ t → slice_get u.objects t ≡ Some o → slice_get new.objects t ≡ slice_get w.objects t)
+    → Matches u own map old new
+
+-- something is seen, and input is read
+abbrev pub EventsKeep : Type 0
+EventsKeep = (u : LoweredUnit) (own : ℕ) (map : Map) (old : c.World) (w : World) (e : Event) → Matches u own map old w → Matches u own map (c.with_event old e) (with_event w e)
+
+abbrev pub InputKeeps : Type 0
+InputKeeps = (u : LoweredUnit) (own : ℕ) (map : Map) (old : c.World) (w : World) (rest : List ℕ) → Matches u own map old w → AreInput rest → Matches u own map (c.with_input old rest) (with_input w rest)
+
+-- ---- calls
+
+-- A call is open in both: of the objects that forests make for it none holds anything of C yet.
+abbrev pub CallsOpen : Type 0
+CallsOpen =
+    (u : LoweredUnit) (own : ℕ) (map : Map) (old : c.World) (w : World) (order : Order) (name : ℕ) (f : Body)
+    → Matches u own map old w → IsSound (entered order name f w)
+    → Matches u own map (c.entered (Opened name) old) (entered order name f w)
+    × IsLeft map (c.objects old) w.objects (entered order name f w).objects
+    × ((place : ℕ) → length w.objects ≤ place → IsPrivate map (c.objects old) place)
+
+-- An object of the running call, or another one, begins where a home holds its bytes, apart from all others and from the tables.
+pub record MayBegin (u : LoweredUnit) (own : ℕ) (map : Map) (old : c.World) (w : World) (x : Old) (range : Range) : Type 0 where
+  pub home : IsHeldIn map x w.objects range
+  pub apart : (p : ℕ) (y : Old) (r : Range) → slice_get (c.objects old) p ≡ Some y → map y.made ≡ Some r → AreApart range (length x.bytes) r (length y.bytes)
+  pub no_table : (t : ℕ) (o : LoweredObject) → own ≤ t → slice_get u.objects t ≡ Some o → range.object.place ≡ t → ⊥
+
+abbrev pub object_made : c.World → Bool → List (Byte Value) → Old
+object_made old constant bytes = record { made = old.storage.made; constant = constant; bytes = bytes }
+
+abbrev pub LocalsBegin : Type 0
+LocalsBegin =
+    (u : LoweredUnit) (own : ℕ) (map : Map) (old : c.World) (w : World) (constant : Bool) (bytes : List (Byte Value)) (range : Range)
+    → Matches u own map old w → MayBegin u own map old w (object_made old constant bytes) range
+    → Matches u own (with_range old.storage.made range map) (c.with_local constant bytes old) w × Grown map (with_range old.storage.made range map)
+
+abbrev pub OthersBegin : Type 0
+OthersBegin =
+    (u : LoweredUnit) (own : ℕ) (map : Map) (old : c.World) (w : World) (constant : Bool) (bytes : List (Byte Value)) (range : Range)
+    → Matches u own map old w → MayBegin u own map old w (object_made old constant bytes) range
+    → Matches u own (with_range old.storage.made range map) (c.made constant bytes old) w × Grown map (with_range old.storage.made range map)
+
+-- a structure that was passed is a parameter, const or not
+abbrev pub CopiesArePassed : Type 0
+CopiesArePassed =
+    (u : LoweredUnit) (own : ℕ) (map : Map) (old : c.World) (w : World) (constant : Bool) (name : ObjectName) (offset : ℕ)
+    → Matches u own map old w
+    → ((x : Old) (r : Range) (home : Object) → slice_get (c.objects old) name.place ≡ Some x → map x.made ≡ Some r → slice_get w.objects r.object.place ≡ Some home → home.constant ≡ false)
+    → Matches u own map (c.with_passed constant (Pointer name offset) old) w
+
+-- The call is over: the worlds in which it was made matched, and what lived in C's then lives still, under its names.
+abbrev pub CallsClose : Type 0
+CallsClose =
+    (u : LoweredUnit) (own : ℕ) (map more : Map) (before old : c.World) (first w : World)
+    → Matches u own map before first → Matches u own more old w → Grown map more
+    → ((p : ℕ) → p < length (c.objects before) → slice_get (outlines (c.objects old)) p ≡ slice_get (outlines (c.objects before)) p)
+    → Matches u own more (c.left_behind Closed before old) (left_behind first w)
