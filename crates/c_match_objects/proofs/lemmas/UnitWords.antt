@@ -40,7 +40,7 @@ pub record CoversByte (b : Byte Value) (c : Byte Word) : Type 0 where
   pub all : bit_and (known_of b) (known_of c) ≡ known_of b
   pub same : bit_and (value_of c) (known_of b) ≡ value_of b
 
-byte_covers : (map : Map) (b : Byte Value) (c : Byte Word) → IsByteOf map b c → CoversByte b c
+pub byte_covers : (map : Map) (b : Byte Value) (c : Byte Word) → IsByteOf map b c → CoversByte b c
 byte_covers map (Bits known value) (Bits mask bits) h = record { all = h.0; same = h.1 }
 byte_covers map (Bits known value) (Part w place) h = record { all = and_zero_r known ∙ sym h.0; same = and_zero_l known ∙ sym h.1 }
 byte_covers map (Part v place) (Part w k) h = record { all = refl; same = refl }
@@ -50,7 +50,7 @@ pub record IsSmallByte (c : Byte Word) : Type 0 where
   pub known : known_of c < 256
   pub value : value_of c < 256
 
-small_byte : (c : Byte Word) → IsSoundByte c → IsSmallByte c
+pub small_byte : (c : Byte Word) → IsSoundByte c → IsSmallByte c
 small_byte (Bits known value) h = record { known = h.0; value = (let a = and_le_r value known in let k = h.0 in let e = h.1 in omega (arith, a, k, e)) }
 small_byte (Part w place) h = record { known = omega arith; value = omega arith }
 
@@ -62,7 +62,7 @@ same_end d h =
     let f : h * 1 + 0 ≡ h = omega arith in
     ap (λ (x : ℕ). bit_and x (h * 1 + 0)) e ∙ ap (λ (x : ℕ). bit_and d x) f ∙ (let g : bit_and d h ≡ bit_and d h * 1 + 0 = omega arith in g)
 
-and_four : (a b c d e f g h : ℕ) → b < 256 → c < 256 → d < 256 → f < 256 → g < 256 → h < 256 → bit_and (number_of (a ∷ b ∷ c ∷ d ∷ [])) (number_of (e ∷ f ∷ g ∷ h ∷ [])) ≡ number_of (bit_and a e ∷ bit_and b f ∷ bit_and c g ∷ bit_and d h ∷ [])
+pub and_four : (a b c d e f g h : ℕ) → b < 256 → c < 256 → d < 256 → f < 256 → g < 256 → h < 256 → bit_and (number_of (a ∷ b ∷ c ∷ d ∷ [])) (number_of (e ∷ f ∷ g ∷ h ∷ [])) ≡ number_of (bit_and a e ∷ bit_and b f ∷ bit_and c g ∷ bit_and d h ∷ [])
 and_four a b c d e f g h lb lc ld lf lg lh =
     and_parts 24 a (b * 2 ^ 16 + (c * 2 ^ 8 + (d * 1 + 0))) e (f * 2 ^ 16 + (g * 2 ^ 8 + (h * 1 + 0))) (omega arith) (omega arith)
     ∙ ap (λ (x : ℕ). bit_and a e * 2 ^ 24 + x) (and_parts 16 b (c * 2 ^ 8 + (d * 1 + 0)) f (g * 2 ^ 8 + (h * 1 + 0)) (omega arith) (omega arith))
@@ -72,7 +72,7 @@ and_four a b c d e f g h lb lc ld lf lg lh =
 list_is : (a b c d e f g h : ℕ) → a ≡ e → b ≡ f → c ≡ g → d ≡ h → a ∷ b ∷ c ∷ d ∷ [] ≡ e ∷ f ∷ g ∷ h ∷ []
 list_is a b c d e f g h p q r s = cc
 
-less : (b : Byte Value) (c : Byte Word) → CoversByte b c → IsSmallByte c → known_of b < 256
+pub less : (b : Byte Value) (c : Byte Word) → CoversByte b c → IsSmallByte c → known_of b < 256
 less b c h s = let a = and_le_r (known_of b) (known_of c) in let e = h.all in let k = s.known in omega (arith, a, e, k)
 
 -- four bytes from the one that weighs most
