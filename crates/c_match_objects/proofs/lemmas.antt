@@ -7,9 +7,3 @@ pub mod Copied
 pub mod Pointers
 pub mod Compared
 pub mod Lifetimes
-pub mod FieldBits
-pub mod UnitWords
-pub mod SetFields
-pub mod FieldStores
-pub mod RaisedBits
-pub mod KnownFields

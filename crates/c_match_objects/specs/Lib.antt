@@ -1,5 +1,3 @@
 pub mod Accesses
 pub mod Pointers
 pub mod Lifetimes
-pub mod Fields
-pub mod FieldReads

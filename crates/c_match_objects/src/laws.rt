@@ -1,6 +1,4 @@
 ghost use Rattle.c_match_objects.specs.Accesses.{AccessesGo, CopiesGo, NumbersAreRead, NumbersAreStored, StoresGo, WordsAreRead, WordsAreStored};
-ghost use Rattle.c_match_objects.specs.FieldReads.{FieldsAreRead};
-ghost use Rattle.c_match_objects.specs.Fields.{FieldsAreStored};
 ghost use Rattle.c_match_objects.specs.Lifetimes.{FlagsStay, HeldBySameHomes, HomesBegin, LeavingGoesOn, ObjectsBegin, ObjectsEnd, PrivateIsApart, SlotsHold};
 ghost use Rattle.c_match_objects.specs.Pointers.{PointersAreCompared, PointersAreOrdered, PointersAreSubtracted, PointersAreTested, PointersMove, PointersMoveBack, PointersMoveOn};
 
@@ -42,11 +40,4 @@ pub fn lifetimes_go()
     ensures slots { SlotsHold }
     ensures flags { FlagsStay }
     ensures ended { ObjectsEnd }
-{}
-
-/// Where C reads a bit-field, forests have its number by two shifts of its unit; and where C writes one, they may read the unit,
-/// whatever of it is known, clear the field's bits, set the new ones and write it.
-pub fn fields_go()
-    ensures read { FieldsAreRead }
-    ensures stored { FieldsAreStored }
 {}

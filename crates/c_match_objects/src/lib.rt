@@ -3,4 +3,4 @@
 
 mod laws;
 
-pub use laws::{fields_go, lifetimes_go, pointers_go, reads_go, stores_go};
+pub use laws::{lifetimes_go, pointers_go, reads_go, stores_go};

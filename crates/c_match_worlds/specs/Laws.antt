@@ -1,5 +1,5 @@
 -- What keeps worlds of forests standing for those of C: accesses, events, and the objects of calls.
-use Rattle.std.specs.Prelude.{◌≡◌, ◌≤◌, ◌<◌, ℕ, Bool, false, Some, List, [], ◌∷◌, ◌++◌, length, slice_get}
+use Rattle.std.specs.Prelude.{◌≡◌, ◌≤◌, ℕ, ◌+◌, Bool, false, Some, List, [], ◌∷◌, ◌++◌, length, slice_get}
 use Rattle.lcc_base.specs.Traces.{Event, Opened, Closed}
 use Rattle.lcc_base.specs.declared.order.Order.{Order}
 use Rattle.objects.specs.declared.byte.Byte.{Byte}
@@ -10,13 +10,15 @@ use Rattle.objects.specs.Objects.{Object as Old}
 use Rattle.op_forest.specs.declared.lowered.LoweredObject.{LoweredObject}
 use Rattle.op_forest.specs.Callees.{Body}
 use Rattle.op_forest.specs.Lowered.{LoweredUnit}
-use Rattle.forests.specs.Functions.{entered, left_behind}
+use Rattle.forests.specs.Functions.{own_bytes, entered, left_behind}
 use Rattle.forests.specs.Objects.{Object}
 use Rattle.forests.specs.Sound.{AreSoundObjects, AreInput, IsSound}
-use Rattle.forests.specs.Worlds.{World, with_arguments, with_event, with_input, with_objects}
+use Rattle.forests.specs.Words.{Word}
+use Rattle.forests.specs.Worlds.{World, with_event, with_input, with_objects}
 use Rattle.c_runs.specs.Soundness.{outlines}
 use Rattle.c_runs.specs.Worlds as c
 use Rattle.c_match.specs.Ranges.{Range, Map, Grown, AreApart, with_range}
+use Rattle.c_match.specs.Bytes.{AreBytesOf}
 use Rattle.c_match.specs.Held.{IsHeldIn}
 use Rattle.c_match.specs.Left.{IsPrivate, IsLeft}
 use Rattle.c_match_objects.specs.Accesses.{IsKept}
@@ -53,10 +55,16 @@ InputKeeps = (u : LoweredUnit) (own : ℕ) (map : Map) (old : c.World) (w : Worl
 abbrev pub CallsOpen : Type 0
 CallsOpen =
     (u : LoweredUnit) (own : ℕ) (map : Map) (old : c.World) (w : World) (order : Order) (name : ℕ) (f : Body)
-    → Matches u own map old w → IsSound (entered order name f w)
+    → Matches u own map old w
     → Matches u own map (c.entered (Opened name) old) (entered order name f w)
     × IsLeft map (c.objects old) w.objects (entered order name f w).objects
     × ((place : ℕ) → length w.objects ≤ place → IsPrivate map (c.objects old) place)
+
+-- They are its slots, of unknown bytes, and its argument words.
+abbrev pub CallsMakeHomes : Type 0
+CallsMakeHomes =
+    (w : World) (order : Order) (name : ℕ) (f : Body) (i : ℕ) (bytes : List (Byte Word)) → slice_get (own_bytes order f w.arguments) i ≡ Some bytes
+    → slice_get (entered order name f w).objects (length w.objects + i) ≡ Some (record { made = w.made + i; constant = false; bytes = bytes })
 
 -- An object of the running call, or another one, begins where a home holds its bytes, apart from all others and from the tables.
 pub record MayBegin (u : LoweredUnit) (own : ℕ) (map : Map) (old : c.World) (w : World) (x : Old) (range : Range) : Type 0 where
@@ -66,6 +74,17 @@ pub record MayBegin (u : LoweredUnit) (own : ℕ) (map : Map) (old : c.World) (w
 
 abbrev pub object_made : c.World → Bool → List (Byte Value) → Old
 object_made old constant bytes = record { made = old.storage.made; constant = constant; bytes = bytes }
+
+-- so in a private object behind the unit's that may be written, from its start on
+abbrev pub whole_of : ℕ → Object → Range
+whole_of place home = record { object = record { place = place; made = home.made; size = length home.bytes }; start = 0 }
+
+abbrev pub HomesMayHold : Type 0
+HomesMayHold =
+    (u : LoweredUnit) (own : ℕ) (map : Map) (old : c.World) (w : World) (constant : Bool) (bytes : List (Byte Value)) (place : ℕ) (home : Object)
+    → slice_get w.objects place ≡ Some home → home.constant ≡ false → IsPrivate map (c.objects old) place → length u.objects ≤ place
+    → AreBytesOf map bytes home.bytes → length bytes ≤ length home.bytes
+    → MayBegin u own map old w (object_made old constant bytes) (whole_of place home)
 
 abbrev pub LocalsBegin : Type 0
 LocalsBegin =

@@ -1,5 +1,5 @@
 -- Calls: how they are opened, how their objects begin, and how they are over.
-use Rattle.std.specs.Prelude.{◌≡◌, ◌≤◌, ◌<◌, ◌⊎◌, ℕ, zero, suc, ◌+◌, ◌==◌, Bool, true, false, Option, Some, None, List, [], ◌∷◌, ◌++◌, length, take, slice_get, if◌then◌else◌}
+use Rattle.std.specs.Prelude.{◌≡◌, ◌≤◌, ◌<◌, ◌⊎◌, ℕ, zero, suc, ◌+◌, ◌==◌, Bool, true, false, Option, Some, None, List, [], ◌∷◌, ◌++◌, length, map as mapped, take, slice_get, if◌then◌else◌}
 use Rattle.std.specs.Option.{option_map}
 use Rattle.std.proofs.Common.{refl, ap, sym, subst, inl, inr, ◌∙◌, arith}
 use Rattle.std.proofs.lemmas.Bool.{eqb-true}
@@ -10,25 +10,30 @@ use Rattle.objects.specs.declared.byte.Byte.{Byte}
 use Rattle.objects.specs.declared.value.ObjectName.{ObjectName}
 use Rattle.objects.specs.declared.value.Value.{Value}
 use Rattle.objects.specs.declared.value.Value.TheVariants.{Pointer}
+use Rattle.objects.specs.Bytes.{unknown_byte}
 use Rattle.objects.specs.Objects.{flagged}
 use Rattle.objects.specs.Objects.{Object as Old}
+use Rattle.op_forest.specs.declared.frame.Slot.{Slot}
 use Rattle.op_forest.specs.declared.lowered.LoweredObject.{LoweredObject}
 use Rattle.op_forest.specs.Callees.{Body}
 use Rattle.op_forest.specs.Lowered.{LoweredUnit}
-use Rattle.forests.specs.Functions.{entered, left_behind, own_bytes}
+use Rattle.forests.specs.Functions.{slot_bytes, entered, left_behind, own_bytes}
 use Rattle.forests.specs.Objects.{Object, objects_from}
-use Rattle.forests.specs.Sound.{AreSoundObjects, IsSound}
-use Rattle.forests.specs.SoundBytes.{objects_take}
+use Rattle.forests.specs.Sound.{AreSoundBytes, AreSoundObjects, AreWords, IsSound}
+use Rattle.forests.specs.SoundBytes.{bytes_replicate, objects_append, objects_take, word_bytes_sound}
+use Rattle.forests.specs.WordBytes.{word_bytes}
+use Rattle.forests.specs.Words.{Word}
 use Rattle.forests.specs.Worlds.{World}
 use Rattle.c_runs.specs.Soundness.{Outline, outline, outlines}
 use Rattle.c_runs.specs.Worlds as c
 use Rattle.c_match.specs.Ranges.{Range, Map, Grown, with_range}
+use Rattle.c_match.specs.Bytes.{AreBytesOf}
 use Rattle.c_match.specs.Held.{AreHeld}
 use Rattle.c_match.specs.Left.{IsPrivate, IsLeft}
 use Rattle.c_match.proofs.lemmas.Growing.{range_is, range_elsewhere}
-use Rattle.c_match_objects.proofs.lemmas.Lifetimes.{homes_begin, object_begins, flags_stay, objects_end}
+use Rattle.c_match_objects.proofs.lemmas.Lifetimes.{homes_begin, private_is_apart, object_begins, flags_stay, objects_end}
 use Rattle.c_match_worlds.specs.Matches.{Matches, object_in}
-use Rattle.c_match_worlds.specs.Laws.{MayBegin, object_made}
+use Rattle.c_match_worlds.specs.Laws.{MayBegin, object_made, whole_of}
 
 before : {A : Type 0} (xs ys : List A) (n : ℕ) → n < length xs → slice_get (xs ++ ys) n ≡ slice_get xs n
 before [] ys n h = absurd (let never : ⊥ = omega arith in never)
@@ -37,8 +42,53 @@ before (x ∷ xs) ys (suc n) h = before xs ys n (omega arith)
 
 -- ---- opened
 
-pub call_opens : (u : LoweredUnit) (own : ℕ) (map : Map) (old : c.World) (w : World) (order : Order) (name : ℕ) (f : Body) → Matches u own map old w → IsSound (entered order name f w) → Matches u own map (c.entered (Opened name) old) (entered order name f w) × IsLeft map (c.objects old) w.objects (entered order name f w).objects × ((place : ℕ) → length w.objects ≤ place → IsPrivate map (c.objects old) place)
-call_opens u own map old w order name f m sound =
+abbrev AreSoundLists : List (List (Byte Word)) → Type 0
+AreSoundLists [] = Unit {0}
+AreSoundLists (b ∷ bs) = AreSoundBytes b × AreSoundLists bs
+
+made_sound : (made : ℕ) (bytes : List (List (Byte Word))) → AreSoundLists bytes → AreSoundObjects (objects_from made bytes)
+made_sound made [] h = tt
+made_sound made (b ∷ bs) h = (h.0, made_sound (suc made) bs h.1)
+
+lists_append : (xs ys : List (List (Byte Word))) → AreSoundLists xs → AreSoundLists ys → AreSoundLists (xs ++ ys)
+lists_append [] ys h k = k
+lists_append (x ∷ xs) ys h k = (h.0, lists_append xs ys h.1 k)
+
+slots_sound : (slots : List Slot) → AreSoundLists (mapped slot_bytes slots)
+slots_sound [] = tt
+slots_sound (s ∷ ss) = (bytes_replicate s.size unknown_byte (omega arith, refl), slots_sound ss)
+
+arguments_sound : (order : Order) (ws : List Word) → AreWords ws → AreSoundLists (mapped (word_bytes order) ws)
+arguments_sound order [] h = tt
+arguments_sound order (w ∷ ws) h = (word_bytes_sound order w h.0, arguments_sound order ws h.1)
+
+entered_sound : (order : Order) (name : ℕ) (f : Body) (w : World) → IsSound w → IsSound (entered order name f w)
+entered_sound order name f w k = record {
+  objects = objects_append w.objects _ k.objects (made_sound w.made (own_bytes order f w.arguments) (lists_append (mapped slot_bytes f.slots) _ (slots_sound f.slots) (arguments_sound order w.arguments k.arguments)));
+  arguments = tt;
+  input = k.input;
+}
+
+behind : {A : Type 0} (xs ys : List A) (i m : ℕ) → m ≡ length xs + i → slice_get (xs ++ ys) m ≡ slice_get ys i
+behind [] ys i m e = let same : m ≡ i = omega arith in ap (λ (k : ℕ). slice_get ys k) same
+behind (x ∷ xs) ys i zero e = absurd (let never : ⊥ = omega arith in never)
+behind (x ∷ xs) ys i (suc m) e = behind xs ys i m (omega arith)
+
+made_at : (made : ℕ) (bs : List (List (Byte Word))) (i m : ℕ) (b : List (Byte Word)) → m ≡ made + i → slice_get bs i ≡ Some b → slice_get (objects_from made bs) i ≡ Some (record { made = m; constant = false; bytes = b })
+made_at made [] i m b e f = absurd (let never : ⊥ = cc in never)
+made_at made (x ∷ xs) zero m b e f =
+    let same : x ≡ b = cc in
+    let at : made ≡ m = omega arith in
+    ap (λ (k : ℕ). Some (record { made = k; constant = false; bytes = x })) at ∙ ap (λ (y : List (Byte Word)). Some (record { made = m; constant = false; bytes = y })) same
+made_at made (x ∷ xs) (suc i) m b e f = made_at (suc made) xs i m b (omega arith) f
+
+pub homes_made : (w : World) (order : Order) (name : ℕ) (f : Body) (i : ℕ) (bytes : List (Byte Word)) → slice_get (own_bytes order f w.arguments) i ≡ Some bytes → slice_get (entered order name f w).objects (length w.objects + i) ≡ Some (record { made = w.made + i; constant = false; bytes = bytes })
+homes_made w order name f i bytes e =
+    behind w.objects (objects_from w.made (own_bytes order f w.arguments)) i (length w.objects + i) refl
+    ∙ made_at w.made (own_bytes order f w.arguments) i (w.made + i) bytes refl e
+
+pub call_opens : (u : LoweredUnit) (own : ℕ) (map : Map) (old : c.World) (w : World) (order : Order) (name : ℕ) (f : Body) → Matches u own map old w → Matches u own map (c.entered (Opened name) old) (entered order name f w) × IsLeft map (c.objects old) w.objects (entered order name f w).objects × ((place : ℕ) → length w.objects ≤ place → IsPrivate map (c.objects old) place)
+call_opens u own map old w order name f m =
     let more = objects_from w.made (own_bytes order f w.arguments) in
     let h = homes_begin map (c.objects old) w.objects more m.held in
     (record {
@@ -48,12 +98,29 @@ call_opens u own map old w order name f m sound =
       tables = λ t o le e. (before w.objects more t (slice_get_within w.objects t (object_in u t o) (m.tables t o le e).0) ∙ (m.tables t o le e).0, (m.tables t o le e).1);
       input = m.input;
       trace = ap (λ (es : List Event). es ++ Opened name ∷ []) m.trace;
-      sound = sound;
+      sound = entered_sound order name f w m.sound;
     }, h.1, h.2)
 
 -- ---- objects begin
 
--- none was made yet has a range
+pub home_holds : (u : LoweredUnit) (own : ℕ) (map : Map) (old : c.World) (w : World) (constant : Bool) (bytes : List (Byte Value)) (place : ℕ) (home : Object) → slice_get w.objects place ≡ Some home → home.constant ≡ false → IsPrivate map (c.objects old) place → length u.objects ≤ place → AreBytesOf map bytes home.bytes → length bytes ≤ length home.bytes → MayBegin u own map old w (object_made old constant bytes) (whole_of place home)
+home_holds u own map old w constant bytes place home there open_home private past are room = record {
+  home = record {
+    home = home;
+    there = there;
+    made = refl;
+    size = refl;
+    words = 0;
+    start = refl;
+    inside = omega (arith, room);
+    bytes = are;
+    writable = λ e. open_home;
+  };
+  apart = private_is_apart map (c.objects old) (whole_of place home) (length bytes) private;
+  no_table = λ t o le e same. (let within = slice_get_within u.objects t o e in let never : ⊥ = omega (arith, within, past, same) in never);
+}
+
+-- what wasn't made yet has no range
 fresh_by : (map : Map) (m : ℕ) (o : Option Range) → map m ≡ o → ((r : Range) → map m ≡ Some r → ⊥) → map m ≡ None
 fresh_by map m None e h = e
 fresh_by map m (Some r) e h = absurd (h r e)

@@ -1,8 +1,14 @@
-use Rattle.c_match_worlds.proofs.lemmas.Calling.{call_opens, local_begins, other_begins, copy_passed, call_closes}
+use Rattle.c_match_worlds.proofs.lemmas.Calling.{call_opens, homes_made, home_holds, local_begins, other_begins, copy_passed, call_closes}
 use Rattle.c_match_worlds.proofs.laws.calls_keep.Goals as goal
 
 pub returns-clause-opened : goal.returns-clause-opened
 returns-clause-opened c = call_opens
+
+pub returns-clause-homes : goal.returns-clause-homes
+returns-clause-homes c = homes_made
+
+pub returns-clause-hold : goal.returns-clause-hold
+returns-clause-hold c = home_holds
 
 pub returns-clause-locals : goal.returns-clause-locals
 returns-clause-locals c = local_begins

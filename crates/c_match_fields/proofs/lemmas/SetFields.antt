@@ -24,8 +24,8 @@ use Rattle.forests.specs.WordBytes.{word_bytes}
 use Rattle.forests.specs.Words.{Word, Plain, Label, Partly, known_word}
 use Rattle.c_match.specs.Ranges.{Map}
 use Rattle.c_match.specs.Bytes.{IsNoLabel, IsByteOf, AreBytesOf}
-use Rattle.c_match_objects.proofs.lemmas.FieldBits.{IsOuter, IsInner, each_bit}
-use Rattle.c_match_objects.proofs.lemmas.UnitWords.{Covers, bits_known}
+use Rattle.c_match_fields.proofs.lemmas.FieldBits.{IsOuter, IsInner, each_bit}
+use Rattle.c_match_fields.proofs.lemmas.UnitWords.{Covers, bits_known}
 
 -- ---- bits
 

@@ -29,13 +29,13 @@ use Rattle.c_match.specs.Ranges.{Map}
 use Rattle.c_match.specs.Values.{IsValue}
 use Rattle.c_match.specs.Held.{AreHeld, IsOpenTo}
 use Rattle.c_match_objects.specs.Accesses.{IsKept}
-use Rattle.c_match_objects.specs.Fields.{placed, IsFieldWritten}
+use Rattle.c_match_fields.specs.Fields.{placed, IsFieldWritten}
 use Rattle.c_match_objects.proofs.lemmas.Reached.{there, access, goes_there, bytes_reached, length_reached}
 use Rattle.c_match_objects.proofs.lemmas.Reads.{if_none_none, if_none_same}
-use Rattle.c_match_objects.proofs.lemmas.SetFields.{clears, sets, unit_bytes}
+use Rattle.c_match_fields.proofs.lemmas.SetFields.{clears, sets, unit_bytes}
 use Rattle.c_match_objects.proofs.lemmas.StoredScalars.{word_count}
 use Rattle.c_match_objects.proofs.lemmas.Stores.{store_goes}
-use Rattle.c_match_objects.proofs.lemmas.UnitWords.{unit_word, unit_small}
+use Rattle.c_match_fields.proofs.lemmas.UnitWords.{unit_word, unit_small}
 
 in_unit : (order : Order) (f : Field) → f.first + f.width ≤ 32 → shift_of order f + f.width ≤ 32
 in_unit Big f h = omega arith

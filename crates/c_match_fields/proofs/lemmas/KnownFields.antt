@@ -34,11 +34,11 @@ use Rattle.c_match.specs.Ranges.{Map}
 use Rattle.c_match.specs.Values.{IsValue}
 use Rattle.c_match.specs.Bytes.{AreBytesOf}
 use Rattle.c_match.specs.Held.{AreHeld}
-use Rattle.c_match_objects.specs.FieldReads.{above_of, IsFieldRead}
-use Rattle.c_match_objects.proofs.lemmas.RaisedBits.{raises, lowers, lowered_number}
+use Rattle.c_match_fields.specs.FieldReads.{above_of, IsFieldRead}
+use Rattle.c_match_fields.proofs.lemmas.RaisedBits.{raises, lowers, lowered_number}
 use Rattle.c_match_objects.proofs.lemmas.Reached.{there, access, goes_there, bytes_reached, length_reached}
 use Rattle.c_match_objects.proofs.lemmas.Reads.{if_none_none, if_none_same}
-use Rattle.c_match_objects.proofs.lemmas.UnitWords.{byte_covers, small_byte, and_four, less, unit_word}
+use Rattle.c_match_fields.proofs.lemmas.UnitWords.{byte_covers, small_byte, and_four, less, unit_word}
 
 -- ---- one byte: its bits are known, or a pointer's, or neither
 

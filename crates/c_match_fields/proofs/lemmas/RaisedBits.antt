@@ -22,9 +22,9 @@ use Rattle.objects.specs.Conversions.{sign_extended, extended}
 use Rattle.forests.specs.BitLaws.{signed_low, signed_high, word_low, word_high}
 use Rattle.forests.specs.Bits.{KnownBits, bits_of, bits_left, bits_right, bits_right_signed, shifted}
 use Rattle.forests.specs.Words.{Word, Plain, Label, Partly, known_word}
-use Rattle.c_match_objects.specs.FieldReads.{right_bits}
+use Rattle.c_match_fields.specs.FieldReads.{right_bits}
 use Rattle.c_match_objects.proofs.lemmas.Reached.{not_before}
-use Rattle.c_match_objects.proofs.lemmas.UnitWords.{Covers}
+use Rattle.c_match_fields.proofs.lemmas.UnitWords.{Covers}
 
 -- ---- numbers
 
