@@ -6,8 +6,10 @@ use Rattle.lcc_base.specs.declared.order.Order.TheVariants.{Big, Little}
 use Rattle.lcc_base.specs.declared.cause.Cause.{Cause}
 use Rattle.lcc_base.specs.declared.cause.Cause.TheVariants.{PointerNumber}
 use Rattle.lcc_base.specs.NumberIn.{number_in}
+use Rattle.objects.specs.declared.byte.Byte.{Byte}
 use Rattle.objects.specs.declared.field.Field.{Field}
 use Rattle.objects.specs.declared.purpose.Purpose.{Purpose}
+use Rattle.objects.specs.declared.purpose.Purpose.TheVariants.{Assignment}
 use Rattle.objects.specs.declared.value.Value.{Value}
 use Rattle.objects.specs.AccessLaws.{unless_none, unless_same}
 use Rattle.objects.specs.Accesses.{write_cause, field_written, number_or_zero}
@@ -20,18 +22,18 @@ use Rattle.objects.specs.Fields.{shift_of, with_bits, with_field}
 use Rattle.objects.specs.Fields.{bits_of as bytes_of}
 use Rattle.objects.specs.Objects.{Object as Old}
 use Rattle.forests.specs.Accesses.{defined, bytes_written, word_read}
-use Rattle.forests.specs.Objects.{Object, bytes_through, stored_through}
+use Rattle.forests.specs.Objects.{Object, shapes, bytes_through, stored_through}
 use Rattle.forests.specs.Sound.{AreSoundObjects}
 use Rattle.forests.specs.SoundBytes.{bytes_through_sound}
 use Rattle.forests.specs.WordBytes.{word_bytes, word_in}
-use Rattle.forests.specs.Words.{Word, known_word}
+use Rattle.forests.specs.Words.{Word, Plain, known_word}
 use Rattle.c_match.specs.Ranges.{Map}
 use Rattle.c_match.specs.Values.{IsValue}
 use Rattle.c_match.specs.Held.{AreHeld, IsOpenTo}
 use Rattle.c_match_objects.specs.Accesses.{IsKept}
 use Rattle.c_match_fields.specs.Fields.{placed, IsFieldWritten}
 use Rattle.c_match_objects.proofs.lemmas.Reached.{there, access, goes_there, bytes_reached, length_reached}
-use Rattle.c_match_objects.proofs.lemmas.Reads.{if_none_none, if_none_same}
+use Rattle.c_match_objects.proofs.lemmas.Reads.{if_none_none, if_none_same, word_there}
 use Rattle.c_match_fields.proofs.lemmas.SetFields.{clears, sets, unit_bytes}
 use Rattle.c_match_objects.proofs.lemmas.StoredScalars.{word_count}
 use Rattle.c_match_objects.proofs.lemmas.Stores.{store_goes}
@@ -44,6 +46,12 @@ in_unit Little f h = h
 four_long : (order : Order) (k v : ℕ) → length (bytes_of (number_bytes order 4 k) (number_bytes order 4 v)) ≡ 4
 four_long Big k v = refl
 four_long Little k v = refl
+
+written_there : (objects : List Object) (other : List (Byte Word)) (q : Value) (w : Word) → w ≡ Plain q → write_cause Assignment (shapes objects) q 4 4 ≡ None → bytes_written 4 other objects w ≡ Some (stored_through objects q other)
+written_there objects other q w e none =
+    let first : bytes_written 4 other objects w ≡ bytes_written 4 other objects (Plain q) = ap (λ (x : Word). bytes_written 4 other objects x) e in
+    let second : bytes_written 4 other objects (Plain q) ≡ Some (stored_through objects q other) = ap (λ (x : Option Cause). defined (unless x (stored_through objects q other))) none in
+    first ∙ second
 
 pub field_stored : (map : Map) (old new : List Old) (objects : List Object) (order : Order) (purpose : Purpose) (f : Field) (p v : Value) (w : Word) → AreHeld map old objects → AreSoundObjects objects → IsValue map p w → IsOpenTo purpose map objects p → f.first + f.width ≤ 32 → field_written purpose order f v old p ≡ Ok new → IsFieldWritten map old new objects order f (number_or_zero v) w
 field_stored map old new objects order purpose f p v w h sound is may within e =
@@ -77,9 +85,9 @@ field_stored map old new objects order purpose f p v w h sound is may within e =
       cleared = known_word cleared.mask cleared.bits;
       set = done.set;
       after = after;
-      reads = ap (λ (x : Word). word_read order objects x) a.reached.word ∙ ap (λ (x : Option Cause). defined (unless x (word_in order cs))) (goes_there map old objects p w 4 4 (inr (inr refl)) a);
+      reads = word_there map old objects order p w a;
       clears = cleared.is;
       sets = done.is;
-      writes = ap (λ (x : Word). bytes_written 4 other objects x) stored.1 ∙ ap (λ (x : Option Cause). defined (unless x after)) stored.2;
+      writes = written_there objects other stored.0 w stored.1 stored.2;
       kept = subst (λ (os : List Old). IsKept map old os objects after) same stored.3;
     }

@@ -37,7 +37,7 @@ use Rattle.c_match.specs.Held.{AreHeld}
 use Rattle.c_match_fields.specs.FieldReads.{above_of, IsFieldRead}
 use Rattle.c_match_fields.proofs.lemmas.RaisedBits.{raises, lowers, lowered_number}
 use Rattle.c_match_objects.proofs.lemmas.Reached.{there, access, goes_there, bytes_reached, length_reached}
-use Rattle.c_match_objects.proofs.lemmas.Reads.{if_none_none, if_none_same}
+use Rattle.c_match_objects.proofs.lemmas.Reads.{if_none_none, if_none_same, word_there}
 use Rattle.c_match_fields.proofs.lemmas.UnitWords.{byte_covers, small_byte, and_four, less, unit_word}
 
 -- ---- one byte: its bits are known, or a pointer's, or neither
@@ -131,7 +131,7 @@ field_reads map old objects order f p v w h sound is some within e =
     record {
       unit = word_in order cs;
       raised = known_word raised.mask (raised.bits * up % 2 ^ 32);
-      reads = ap (λ (x : Word). word_read order objects x) a.reached.word ∙ ap (λ (x : Option Cause). defined (unless x (word_in order cs))) (goes_there map old objects p w 4 4 (inr (inr refl)) a);
+      reads = word_there map old objects order p w a;
       raises = raised.is;
       lowers =
           lowers f.signed f.width raised.mask (raised.bits * up % 2 ^ 32) some narrow raised.top

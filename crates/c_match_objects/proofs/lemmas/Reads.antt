@@ -52,6 +52,14 @@ aligned_by_width Four = inr (inr refl)
 
 -- ---- words
 
+-- the word there
+pub word_there : (map : Map) (old : List Old) (objects : List Object) (order : Order) (p : Value) (w : Word) → (a : IsAccess map old objects p w 4 4) → word_read order objects w ≡ Some (word_in order (bytes_through objects (there a.reached) 4))
+word_there map old objects order p w a =
+    let word = word_in order (bytes_through objects (there a.reached) 4) in
+    let first : word_read order objects w ≡ word_read order objects (Plain (there a.reached)) = ap (λ (x : Word). word_read order objects x) a.reached.word in
+    let second : word_read order objects (Plain (there a.reached)) ≡ Some word = ap (λ (x : Option Cause). defined (unless x word)) (goes_there map old objects p w 4 4 (inr (inr refl)) a) in
+    first ∙ second
+
 word_by : (map : Map) (old : List Old) (objects : List Object) (order : Order) (signed : Bool) (p v : Value) (w : Word) → AreHeld map old objects → AreSoundObjects objects → IsValue map p w → read order (record { width = Four; signed = signed }) old p ≡ Ok v → (u : Word) × (word_read order objects w ≡ Some u) × IsValue map v u
 word_by map old objects order signed p v w h sound is e =
     let s : Scalar = record { width = Four; signed = signed } in
@@ -64,7 +72,7 @@ word_by map old objects order signed p v w h sound is e =
     let known = unless_none (scalar_cause order bs) (as_type s (scalar_value order bs)) v it in
     let value = unless_same (scalar_cause order bs) (as_type s (scalar_value order bs)) v it in
     let stands = word_is_read map order s bs cs (bytes_reached map old objects p w 4 a.reached) (bytes_through_sound objects (there a.reached) 4 sound) long.0 long.1 refl known in
-    (word_in order cs, ap (λ (x : Word). word_read order objects x) a.reached.word ∙ ap (λ (x : Option Cause). defined (unless x (word_in order cs))) (goes_there map old objects p w 4 4 (aligned_by_width Four) a), subst (λ (x : Value). IsValue map x (word_in order cs)) value stands)
+    (word_in order cs, word_there map old objects order p w a, subst (λ (x : Value). IsValue map x (word_in order cs)) value stands)
 
 pub word_reads : (map : Map) (old : List Old) (objects : List Object) (order : Order) (s : Scalar) (p v : Value) (w : Word) → AreHeld map old objects → AreSoundObjects objects → IsValue map p w → s.width ≡ Four → read order s old p ≡ Ok v → (u : Word) × (word_read order objects w ≡ Some u) × IsValue map v u
 word_reads map old objects order s p v w h sound is wide e = word_by map old objects order s.signed p v w h sound is (subst (λ (width : Width). read order (record { width = width; signed = s.signed }) old p ≡ Ok v) wide e)
