@@ -1,6 +1,6 @@
 -- Which bytes of forests' objects stand for bytes of C's. What C doesn't know may be anything but a byte of a label: a bit operation
 -- on a label has no meaning, while C defines the store of a bit-field in a unit of which nothing is known.
-use Rattle.std.specs.Prelude.{◌≡◌, ℕ, bit_and, List, [], ◌∷◌}
+use Rattle.std.specs.Prelude.{◌≡◌, bit_and, List, [], ◌∷◌}
 use Rattle.objects.specs.declared.byte.Byte.{Byte}
 use Rattle.objects.specs.declared.byte.Byte.TheVariants.{Bits, Part}
 use Rattle.objects.specs.declared.value.Value.{Value}

@@ -1,5 +1,5 @@
 -- When the objects of a run of forests hold those of a run of C.
-use Rattle.std.specs.Prelude.{◌≡◌, ◌≤◌, ◌⊎◌, ℕ, ◌+◌, ◌*◌, Bool, false, Some, List, length, drop, slice_get}
+use Rattle.std.specs.Prelude.{◌≡◌, ◌≤◌, ◌⊎◌, ℕ, ◌+◌, ◌*◌, false, Some, List, length, drop, slice_get}
 use Rattle.objects.specs.declared.purpose.Purpose.{Purpose}
 use Rattle.objects.specs.declared.purpose.Purpose.TheVariants.{Assignment, Initialisation}
 use Rattle.objects.specs.declared.value.Value.{Value}

@@ -1,19 +1,15 @@
 -- What holds of words and bytes that stand for those of C.
-use Rattle.std.specs.Prelude.{◌≡◌, ℕ, List, length, None, Some}
+use Rattle.std.specs.Prelude.{◌≡◌, List, length, None}
 use Rattle.lcc_base.specs.declared.order.Order.{Order}
 use Rattle.objects.specs.declared.byte.Byte.{Byte}
 use Rattle.objects.specs.declared.value.Value.{Value}
 use Rattle.objects.specs.declared.width.Scalar.{Scalar}
-use Rattle.objects.specs.declared.width.Width.{Width}
 use Rattle.objects.specs.declared.width.Width.TheVariants.{Four}
-use Rattle.objects.specs.Bytes.{number_of_bytes}
 use Rattle.objects.specs.Conversions.{as_type}
 use Rattle.objects.specs.Scalars.{scalar_bytes, scalar_cause, scalar_value}
-use Rattle.objects.specs.Values.{bytes_in}
-use Rattle.forests.specs.Accesses.{number_cause}
 use Rattle.forests.specs.Sound.{AreSoundBytes}
 use Rattle.forests.specs.WordBytes.{word_bytes, word_in}
-use Rattle.forests.specs.Words.{Word, IsWord}
+use Rattle.forests.specs.Words.{Word}
 use Rattle.c_match.specs.Ranges.{Map, Grown}
 use Rattle.c_match.specs.Values.{IsValue}
 use Rattle.c_match.specs.Bytes.{AreBytesOf}

@@ -1,6 +1,5 @@
 -- Which words stand for a value of C.
-use Rattle.std.specs.Prelude.{◌≡◌, ◌≤◌, ℕ, ◌+◌, Option, Some, None}
-use Rattle.objects.specs.declared.value.ObjectName.{ObjectName}
+use Rattle.std.specs.Prelude.{◌≡◌, ◌≤◌, ◌+◌, Option, Some, None}
 use Rattle.objects.specs.declared.value.Value.{Value}
 use Rattle.objects.specs.declared.value.Value.TheVariants.{Number, Pointer, Function}
 use Rattle.forests.specs.Words.{Word, Plain}

@@ -1,5 +1,5 @@
 -- What accesses of forests do where those of C that they stand for are defined.
-use Rattle.std.specs.Prelude.{◌≡◌, ℕ, ◌%◌, ◌^◌, Bool, Some, None, Ok, List, length}
+use Rattle.std.specs.Prelude.{◌≡◌, ℕ, ◌%◌, ◌^◌, Some, None, Ok, List, length}
 use Rattle.lcc_base.specs.declared.order.Order.{Order}
 use Rattle.objects.specs.declared.byte.Byte.{Byte}
 use Rattle.objects.specs.declared.purpose.Purpose.{Purpose}
@@ -8,11 +8,11 @@ use Rattle.objects.specs.declared.value.Value.{Value}
 use Rattle.objects.specs.declared.value.Value.TheVariants.{Number}
 use Rattle.objects.specs.declared.width.Scalar.{Scalar}
 use Rattle.objects.specs.declared.width.Width.{Width}
-use Rattle.objects.specs.declared.width.Width.TheVariants.{One, Two, Four}
+use Rattle.objects.specs.declared.width.Width.TheVariants.{Four}
 use Rattle.objects.specs.Accesses.{read_cause, write_cause, read, written}
 use Rattle.objects.specs.Accesses as c
 use Rattle.objects.specs.Copies.{copied}
-use Rattle.objects.specs.Values.{bytes_in, bits_in}
+use Rattle.objects.specs.Values.{bits_in}
 use Rattle.objects.specs.Objects.{Object as Old}
 use Rattle.forests.specs.Accesses.{word_read, number_read, word_written, number_written, block_copied}
 use Rattle.forests.specs.Numbers.{widened}

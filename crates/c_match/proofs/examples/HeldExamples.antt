@@ -1,12 +1,12 @@
 -- Worlds that hold objects of C, and ones that don't.
-use Rattle.std.specs.Prelude.{◌≡◌, ◌⊎◌, ℕ, zero, suc, ◌+◌, Bool, true, false, Option, Some, List, [], ◌∷◌, ◌++◌, slice_get}
+use Rattle.std.specs.Prelude.{◌≡◌, ℕ, zero, suc, ◌+◌, true, false, Some, List, [], ◌∷◌, slice_get}
 use Rattle.std.proofs.Common.{refl, ap, sym, subst, inl, inr, ◌∙◌, arith}
 use Rattle.lcc_base.specs.declared.order.Order.TheVariants.{Big}
 use Rattle.objects.specs.declared.byte.Byte.{Byte}
 use Rattle.objects.specs.declared.byte.Byte.TheVariants.{Bits, Part}
 use Rattle.objects.specs.declared.value.ObjectName.{ObjectName}
 use Rattle.objects.specs.declared.value.Value.{Value}
-use Rattle.objects.specs.declared.value.Value.TheVariants.{Number, Pointer, Function}
+use Rattle.objects.specs.declared.value.Value.TheVariants.{Pointer, Function}
 use Rattle.objects.specs.Bytes.{known_bytes, part_bytes, unknown_byte}
 use Rattle.objects.specs.Objects as c
 use Rattle.forests.specs.Objects.{Object}

@@ -1,5 +1,5 @@
 -- What is read of bytes that stand for a scalar of C.
-use Rattle.std.specs.Prelude.{◌≡◌, ◌≤◌, ◌<◌, ℕ, zero, suc, ◌+◌, ◌-◌, ◌%◌, ◌^◌, ◌==◌, ◌&&◌, ◌||◌, not, nat_lt, bit_and, Bool, true, false, Option, Some, None, is_none, List, [], ◌∷◌, length, map, if◌then◌else◌}
+use Rattle.std.specs.Prelude.{◌≡◌, ◌<◌, ℕ, ◌+◌, ◌-◌, ◌%◌, ◌^◌, ◌==◌, ◌&&◌, ◌||◌, not, nat_lt, bit_and, Bool, true, false, Option, Some, None, is_none, List, [], ◌∷◌, length, map, if◌then◌else◌}
 use Rattle.std.proofs.Common.{refl, ap, sym, subst, cond, ◌∙◌, arith}
 use Rattle.std.proofs.lemmas.Bool.{eqb-true}
 use Rattle.std.proofs.lemmas.List.{length-map}
@@ -7,7 +7,6 @@ use Rattle.std.proofs.lemmas.Nat.{and_le_r}
 use Rattle.lcc_base.specs.declared.order.Order.{Order}
 use Rattle.lcc_base.specs.declared.order.Order.TheVariants.{Big, Little}
 use Rattle.lcc_base.specs.declared.cause.Cause.TheVariants.{Unknown, PointerBytes}
-use Rattle.lcc_base.specs.NumberIn.{number_in}
 use Rattle.objects.specs.declared.byte.Byte.{Byte}
 use Rattle.objects.specs.declared.byte.Byte.TheVariants.{Bits, Part}
 use Rattle.objects.specs.declared.value.ObjectName.{ObjectName}
@@ -17,7 +16,7 @@ use Rattle.objects.specs.declared.width.Width.{Width}
 use Rattle.objects.specs.declared.width.Width.TheVariants.{Four}
 use Rattle.objects.specs.declared.width.Scalar.{Scalar}
 use Rattle.objects.specs.Values.{bits_in, same_object, same_whole}
-use Rattle.objects.specs.Bytes.{known_bytes, known_of, value_of, settled_of, is_part, has_unknown_bits, has_parts, part_bytes, by_weight, is_part_of, are_rest_of, whole_of, number_of_bytes}
+use Rattle.objects.specs.Bytes.{known_bytes, settled_of, is_part, has_unknown_bits, has_parts, part_bytes, by_weight, is_part_of, are_rest_of, whole_of, number_of_bytes}
 use Rattle.objects.specs.Causes.{breaks_whole}
 use Rattle.objects.specs.Conversions.{sign_extended, extended, as_scalar, as_type}
 use Rattle.objects.specs.Scalars.{scalar_cause, scalar_value, whole_or}

@@ -1,6 +1,6 @@
 -- The bytes of words that stand for values of C stand for the values' bytes.
 use Rattle.std.specs.Prelude.{◌≡◌, ℕ, ◌+◌, ◌%◌, ◌^◌, List, [], ◌∷◌}
-use Rattle.std.proofs.Common.{refl, ap, sym, subst, ◌∙◌, arith}
+use Rattle.std.proofs.Common.{refl, sym, subst, arith}
 use Rattle.lcc_base.specs.declared.order.Order.{Order}
 use Rattle.lcc_base.specs.declared.order.Order.TheVariants.{Big, Little}
 use Rattle.objects.specs.declared.value.Value.{Value}

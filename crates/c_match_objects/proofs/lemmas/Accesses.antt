@@ -1,5 +1,5 @@
 -- The laws of accesses.
-use Rattle.std.specs.Prelude.{◌≡◌, ℕ, ◌%◌, ◌^◌, Some, None, Ok, List}
+use Rattle.std.specs.Prelude.{◌≡◌, ℕ, None, List}
 use Rattle.objects.specs.declared.value.Value.{Value}
 use Rattle.objects.specs.Accesses.{read_cause}
 use Rattle.objects.specs.Accesses as c

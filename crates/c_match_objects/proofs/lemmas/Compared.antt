@@ -1,5 +1,5 @@
 -- Two pointers ordered, subtracted and compared.
-use Rattle.std.proofs.Common.{◌≡◌, ◌≤◌, ◌<◌, ◌⊎◌, ℕ, zero, suc, ◌+◌, ℤ, pos, ◌-ℤ◌, ◌==◌, ◌&&◌, ◌||◌, not, nat_lt, Bool, true, false, cond, Option, Some, None, Result, Ok, List, [], ◌∷◌, length, refl, ap, sym, subst, inl, inr, ◌∙◌, arith}
+use Rattle.std.proofs.Common.{◌≡◌, ◌≤◌, ◌<◌, ℕ, ◌+◌, ℤ, pos, ◌-ℤ◌, ◌==◌, ◌&&◌, ◌||◌, not, nat_lt, Bool, true, false, cond, Some, Result, Ok, List, [], ◌∷◌, length, refl, ap, sym, inl, inr, ◌∙◌, arith}
 use Rattle.std.specs.Prelude.{int_div}
 use Rattle.std.specs.Int.{cast_unsigned, w32, int_wrap}
 use Rattle.std.specs.Ordering.{nat_cmp}
@@ -12,10 +12,10 @@ use Rattle.lcc_base.specs.declared.cause.Cause.TheVariants.{Dead, PointerOrder, 
 use Rattle.objects.specs.declared.value.ObjectName.{ObjectName}
 use Rattle.objects.specs.declared.value.Value.{Value}
 use Rattle.objects.specs.declared.value.Value.TheVariants.{Number, Pointer, Function}
-use Rattle.objects.specs.AccessLaws.{first_not, first_rest, size_of, unless_none, unless_same}
+use Rattle.objects.specs.AccessLaws.{first_not, size_of, unless_none, unless_same}
 use Rattle.objects.specs.Causes.{first_cause, unless, is_dead, has_no_order, is_no_multiple, has_no_equality, is_one_past}
 use Rattle.objects.specs.Objects.{Object as Old}
-use Rattle.objects.specs.Pointers.{position_of, ordered, bytes_between, subtracted, same, compared, tested, is_not_null}
+use Rattle.objects.specs.Pointers.{ordered, bytes_between, subtracted, same, compared, tested}
 use Rattle.objects.specs.Values.{same_object}
 use Rattle.forests.specs.Accesses.{defined}
 use Rattle.forests.specs.Numbers.{equal}
@@ -198,11 +198,16 @@ pointers_subtracted map old objects element (Pointer a x) (Pointer b y) d v w h 
     let at = first_there map old objects a b x y v w k in
     let to = second_there map old objects a b x y v w k made in
     let live : (is_dead (shapes objects) s || is_dead (shapes objects) t) ≡ false = sym (ap (λ z. is_dead (shapes objects) z || is_dead (shapes objects) (there k.second)) at ∙ ap (λ z. is_dead (shapes objects) s || is_dead (shapes objects) z) to) ∙ both_live map old objects a b x y v w k in
-    let one : not (same_object r.object r.object) ≡ false = ap (λ (z : Bool). not z) (same_name r.object) in
-    (s, t, k.first.word ∙ ap (λ (z : Value). Plain z) at, k.second.word ∙ ap (λ (z : Value). Plain z) to, ap (λ (z : Bool). by_tests z (not (same_object r.object r.object)) (pos (r.start + x) -ℤ pos (r.start + y)) element) (live ∙ sym g.0)
-    ∙ ap (λ (z : Bool). by_tests dead z (pos (r.start + x) -ℤ pos (r.start + y)) element) (one ∙ sym g.1)
-    ∙ ap (λ (z : ℤ). by_tests dead (not (same_object a b)) z element) (same_between r.start x y)
-    ∙ e)
+    let one : not (same_object r.object r.object) ≡ false = ap (λ (z : Bool). not z) (same_name r.object) in (
+      s,
+      t,
+      k.first.word ∙ ap (λ (z : Value). Plain z) at,
+      k.second.word ∙ ap (λ (z : Value). Plain z) to,
+      ap (λ (z : Bool). by_tests z (not (same_object r.object r.object)) (pos (r.start + x) -ℤ pos (r.start + y)) element) (live ∙ sym g.0)
+          ∙ ap (λ (z : Bool). by_tests dead z (pos (r.start + x) -ℤ pos (r.start + y)) element) (one ∙ sym g.1)
+          ∙ ap (λ (z : ℤ). by_tests dead (not (same_object a b)) z element) (same_between r.start x y)
+          ∙ e,
+    )
 pointers_subtracted map old objects element (Number x) (Pointer b y) d v w h i j e = absurd (true≢false (two_pass (false || is_dead old (Pointer b y)) true (bytes_between (Number x) (Pointer b y)) element d e).1)
 pointers_subtracted map old objects element (Number x) (Function g) d v w h i j e = absurd (true≢false (two_pass false true (bytes_between (Number x) (Function g)) element d e).1)
 pointers_subtracted map old objects element (Pointer a x) (Number y) d v w h i j e = absurd (true≢false (two_pass (is_dead old (Pointer a x) || false) true (bytes_between (Pointer a x) (Number y)) element d e).1)
@@ -235,11 +240,13 @@ names_of_one map old objects a b x y v w h e =
 
 -- places that differ, neither one past its object
 not_same : (c d : ObjectName) (m n : ℕ) → (c.place ≡ d.place → m ≡ n → ⊥) → (m ≡ c.size → ⊥) → (n ≡ d.size → ⊥) → (has_no_equality (Pointer c m) (Pointer d n) ≡ false) × (same (Pointer c m) (Pointer d n) ≡ false)
-not_same c d m n differ first second =
-    (and_none (not (same_object c d)) (is_one_past c m || is_one_past d n) (both_false (is_one_past c m) (is_one_past d n) (ne_eqb m c.size first) (ne_eqb n d.size second)), elim (same_object c d) as (λ t. same_object c d ≡ t → same (Pointer c m) (Pointer d n) ≡ false) [
-      | true ↦ (λ t. and_none (same_object c d) (m == n) (ne_eqb m n (differ (ap (λ (z : ObjectName). z.place) (object_is c d t)))))
-      | false ↦ (λ t. first_none (same_object c d) (m == n) t)
-    ] refl)
+not_same c d m n differ first second = (
+  and_none (not (same_object c d)) (is_one_past c m || is_one_past d n) (both_false (is_one_past c m) (is_one_past d n) (ne_eqb m c.size first) (ne_eqb n d.size second)),
+  elim (same_object c d) as (λ t. same_object c d ≡ t → same (Pointer c m) (Pointer d n) ≡ false) [
+    | true ↦ (λ t. and_none (same_object c d) (m == n) (ne_eqb m n (differ (ap (λ (z : ObjectName). z.place) (object_is c d t)))))
+    | false ↦ (λ t. first_none (same_object c d) (m == n) t)
+  ] refl,
+)
 
 not_past : (offset size : ℕ) → (offset == size) ≡ false → offset ≤ size → offset < size
 not_past offset size e h = let ne = eqb-false offset size e in omega (arith, ne, h)

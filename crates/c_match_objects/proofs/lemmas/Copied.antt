@@ -26,8 +26,8 @@ use Rattle.c_match.specs.Ranges.{Range, Map}
 use Rattle.c_match.specs.Values.{IsValue}
 use Rattle.c_match.specs.Held.{AreHeld, IsOpenTo, IsAlignment}
 use Rattle.c_match_objects.specs.Accesses.{IsKept}
-use Rattle.c_match_objects.proofs.lemmas.Reached.{IsReached, IsAccess, there, access, goes_there, bytes_reached, length_reached, not_before}
-use Rattle.c_match_objects.proofs.lemmas.Stores.{store_goes, writes_there, store_holds, store_leaves}
+use Rattle.c_match_objects.proofs.lemmas.Reached.{IsAccess, there, access, goes_there, bytes_reached, length_reached, not_before}
+use Rattle.c_match_objects.proofs.lemmas.Stores.{store_goes, writes_there}
 
 or_first : (a b : Option Cause) → or_cause a b ≡ None → a ≡ None
 or_first None b e = refl

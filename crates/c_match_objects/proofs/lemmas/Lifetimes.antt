@@ -52,10 +52,11 @@ home_within map old objects p x r h e f =
     subst (λ (s : Range). s.object.place < length objects) same (slice_get_within objects g.range.object.place g.held.home g.held.there)
 
 pub homes_begin : (map : Map) (old : List Old) (objects more : List Object) → AreHeld map old objects → AreHeld map old (objects ++ more) × IsLeft map old objects (objects ++ more) × ((place : ℕ) → length objects ≤ place → IsPrivate map old place)
-homes_begin map old objects more h =
-    (held_by_same_homes map old objects (objects ++ more) h (λ p x r e f. before objects more r.object.place (home_within map old objects p x r h e f)),
-      λ place within private. before objects more place within,
-      λ place past p x r e f same. let within = home_within map old objects p x r h e f in let never : ⊥ = omega (arith, within, past, same) in never)
+homes_begin map old objects more h = (
+  held_by_same_homes map old objects (objects ++ more) h (λ p x r e f. before objects more r.object.place (home_within map old objects p x r h e f)),
+  λ place within private. before objects more place within,
+  λ place past p x r e f same. let within = home_within map old objects p x r h e f in let never : ⊥ = omega (arith, within, past, same) in never,
+)
 
 pub leaving_goes_on : (map more : Map) (old later : List Old) (first second third : List Object) → IsLeft map old first second → IsLeft more later second third → length first ≤ length second → ((place : ℕ) → place < length first → IsPrivate map old place → IsPrivate more later place) → IsLeft map old first third
 leaving_goes_on map more old later first second third a b le stays place within private = b place (omega (arith, within, le)) (stays place within private) ∙ a place within private

@@ -1,31 +1,26 @@
 -- Pointers that are moved, ordered, subtracted, compared and tested.
-use Rattle.std.proofs.Common.{◌≡◌, ◌≤◌, ◌⊎◌, ℕ, zero, suc, ◌+◌, ℤ, pos, negsuc, ◌+ℤ◌, ◌-ℤ◌, neg_ℤ, ◌==◌, ◌&&◌, ◌||◌, not, nat_lt, Bool, true, false, Option, Some, None, Result, Ok, List, [], ◌∷◌, length, slice_get, refl, ap, sym, subst, inl, inr, ◌∙◌, arith}
-use Rattle.std.specs.Prelude.{int_le, int_div}
-use Rattle.std.specs.Int.{cast_signed, cast_unsigned, w32, int_wrap}
+use Rattle.std.proofs.Common.{◌≡◌, ◌≤◌, ℕ, ◌+◌, ℤ, pos, negsuc, ◌+ℤ◌, neg_ℤ, ◌&&◌, not, Bool, true, false, Option, Some, None, Result, Ok, List, [], ◌∷◌, length, refl, ap, sym, subst, ◌∙◌, arith}
+use Rattle.std.specs.Prelude.{int_le}
 use Rattle.std.specs.Int.RustNames.{unsigned_abs}
-use Rattle.std.specs.Ordering.{nat_cmp}
-use Rattle.std.specs.declared.cmp.Ordering.{Ordering}
-use Rattle.std.proofs.lemmas.Bool.{eqb-true, eqb-false, eq-eqb, leb-true, le-leb}
+use Rattle.std.proofs.lemmas.Bool.{leb-true, le-leb}
 use Rattle.std.proofs.lemmas.Int.{ints}
 use Rattle.lcc_base.specs.declared.cause.Cause.{Cause}
-use Rattle.lcc_base.specs.declared.cause.Cause.TheVariants.{Dead, PointerRange, PointerOrder, PointerEqual}
+use Rattle.lcc_base.specs.declared.cause.Cause.TheVariants.{Dead, PointerRange}
 use Rattle.objects.specs.declared.value.ObjectName.{ObjectName}
 use Rattle.objects.specs.declared.value.Value.{Value}
 use Rattle.objects.specs.declared.value.Value.TheVariants.{Number, Pointer, Function}
 use Rattle.objects.specs.AccessLaws.{first_not, first_rest, size_of, unless_none, unless_same}
 use Rattle.objects.specs.Arithmetic.{signed_of}
-use Rattle.objects.specs.Causes.{first_cause, unless, is_dead, leaves_object, has_no_order, is_no_multiple, has_no_equality, is_one_past}
-use Rattle.objects.specs.Objects.{is_named}
+use Rattle.objects.specs.Causes.{first_cause, unless, is_dead, leaves_object}
 use Rattle.objects.specs.Objects.{Object as Old}
-use Rattle.objects.specs.Pointers.{place_after, moved_if, moved, position_of, ordered_if, ordered, bytes_between, subtracted_if, subtracted, same, compared_if, compared, tested_if, tested, is_not_null}
-use Rattle.objects.specs.Values.{same_object}
+use Rattle.objects.specs.Pointers.{place_after, moved_if, moved}
 use Rattle.forests.specs.Accesses.{defined}
 use Rattle.forests.specs.Addresses.{plain, moved_from}
-use Rattle.forests.specs.Numbers.{moved_on, moved_back, equal}
+use Rattle.forests.specs.Numbers.{moved_on, moved_back}
 use Rattle.forests.specs.Objects.{Object, shapes}
 use Rattle.forests.specs.Words.{Word, Plain}
-use Rattle.c_match.specs.Ranges.{Range, Map}
-use Rattle.c_match.specs.Values.{IsValue, StaysInside}
+use Rattle.c_match.specs.Ranges.{Map}
+use Rattle.c_match.specs.Values.{IsValue}
 use Rattle.c_match.specs.Held.{AreHeld}
 use Rattle.c_match_objects.proofs.lemmas.Reached.{IsReached, there, lives_reached, not_dead, made_of}
 

@@ -1,5 +1,5 @@
 -- Where an access of C goes, and where the access of forests goes that stands for it.
-use Rattle.std.specs.Prelude.{◌≡◌, ◌≤◌, ◌⊎◌, ℕ, zero, suc, ◌+◌, ◌*◌, ◌%◌, ◌==◌, ◌&&◌, not, nat_lt, Bool, true, false, Option, Some, None, is_none, List, [], ◌∷◌, length, take, drop, slice_get, if◌then◌else◌}
+use Rattle.std.specs.Prelude.{◌≡◌, ◌≤◌, ℕ, zero, suc, ◌+◌, ◌*◌, ◌%◌, ◌==◌, ◌&&◌, not, nat_lt, Bool, true, false, Some, None, is_none, List, [], ◌∷◌, length, take, drop, slice_get, if◌then◌else◌}
 use Rattle.std.proofs.Common.{refl, ap, sym, subst, inl, inr, ◌∙◌, arith}
 use Rattle.std.proofs.lemmas.Bool.{eqb-true, eq-eqb, true≢false}
 use Rattle.std.proofs.lemmas.List.{length-map, length-take-le, length-drop}
@@ -181,7 +181,9 @@ length_reached map old objects p w size alignment a =
     let fits = room_for r.name r.it r.range.start r.offset size r.range.object.size r.named a.inside h.inside in
     let all = size_of r.name r.it r.named in
     let inside = a.inside in
-    let whole = h.size in
-    (ap (λ q. length (c.bytes_through old q size)) r.points
-    ∙ ap (λ o. length (take size (drop r.offset (held_bytes o)))) (found r.name old r.it r.lives r.named)
-    ∙ long_enough size r.offset r.it.bytes (omega (arith, all, inside)), ap (λ o. length (take size (drop (r.range.start + r.offset) (contents o)))) h.there ∙ long_enough size (r.range.start + r.offset) h.home.bytes (omega (arith, whole, fits)))
+    let whole = h.size in (
+      ap (λ q. length (c.bytes_through old q size)) r.points
+          ∙ ap (λ o. length (take size (drop r.offset (held_bytes o)))) (found r.name old r.it r.lives r.named)
+          ∙ long_enough size r.offset r.it.bytes (omega (arith, all, inside)),
+      ap (λ o. length (take size (drop (r.range.start + r.offset) (contents o)))) h.there ∙ long_enough size (r.range.start + r.offset) h.home.bytes (omega (arith, whole, fits)),
+    )

@@ -1,5 +1,5 @@
 -- What C reads as a scalar is what forests read.
-use Rattle.std.specs.Prelude.{◌≡◌, ◌<◌, ℕ, ◌-◌, ◌%◌, ◌^◌, ◌==◌, ◌&&◌, not, Bool, true, false, Option, Some, None, is_none, Result, Ok, List, [], ◌∷◌, length, map as mapped, if◌then◌else◌}
+use Rattle.std.specs.Prelude.{◌≡◌, ℕ, ◌%◌, ◌^◌, ◌&&◌, Bool, true, false, Option, Some, None, is_none, Result, Ok, List, [], ◌∷◌, length, map as mapped, if◌then◌else◌}
 use Rattle.std.proofs.Common.{refl, ap, sym, subst, inl, inr, ◌∙◌, arith}
 use Rattle.lcc_base.specs.declared.order.Order.{Order}
 use Rattle.lcc_base.specs.declared.order.Order.TheVariants.{Big, Little}
@@ -25,17 +25,16 @@ use Rattle.objects.specs.Accesses as c
 use Rattle.objects.specs.Objects.{Object as Old}
 use Rattle.forests.specs.Accesses.{defined, word_read, number_cause, number_read}
 use Rattle.forests.specs.Numbers.{widened}
-use Rattle.forests.specs.Objects.{Object, shapes, bytes_through}
-use Rattle.forests.specs.Sound.{AreSoundBytes, AreSoundObjects}
+use Rattle.forests.specs.Objects.{Object, bytes_through}
+use Rattle.forests.specs.Sound.{AreSoundObjects}
 use Rattle.forests.specs.SoundBytes.{bytes_through_sound}
 use Rattle.forests.specs.WordBytes.{word_in}
 use Rattle.forests.specs.Words.{Word, Plain, narrow}
 use Rattle.c_match.specs.Ranges.{Map}
 use Rattle.c_match.specs.Values.{IsValue}
-use Rattle.c_match.specs.Bytes.{AreBytesOf}
 use Rattle.c_match.specs.Held.{AreHeld, IsAlignment}
 use Rattle.c_match.proofs.lemmas.Scalars.{known_both, word_is_read}
-use Rattle.c_match_objects.proofs.lemmas.Reached.{IsReached, IsAccess, there, access, goes_there, bytes_reached, length_reached}
+use Rattle.c_match_objects.proofs.lemmas.Reached.{IsAccess, there, access, goes_there, bytes_reached, length_reached}
 
 pub if_none_none : {A : Type 0} → (c : Option Cause) (r : Result A Cause) (b : A) → if_none c r ≡ Ok b → c ≡ None
 if_none_none None r b e = refl

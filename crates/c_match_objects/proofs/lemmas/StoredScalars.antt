@@ -1,13 +1,12 @@
 -- Scalars that are stored.
-use Rattle.std.specs.Prelude.{◌≡◌, ℕ, ◌%◌, ◌^◌, Option, Some, None, Ok, List, [], ◌∷◌, length}
-use Rattle.std.proofs.Common.{refl, ap, sym, subst, ◌∙◌}
+use Rattle.std.specs.Prelude.{◌≡◌, ℕ, ◌%◌, ◌^◌, Option, Some, Ok, List, [], ◌∷◌, length}
+use Rattle.std.proofs.Common.{refl, ap, subst, ◌∙◌}
 use Rattle.lcc_base.specs.declared.order.Order.{Order}
 use Rattle.lcc_base.specs.declared.order.Order.TheVariants.{Big, Little}
 use Rattle.lcc_base.specs.declared.cause.Cause.{Cause}
 use Rattle.lcc_base.specs.declared.cause.Cause.TheVariants.{PointerNumber}
 use Rattle.objects.specs.declared.byte.Byte.{Byte}
 use Rattle.objects.specs.declared.purpose.Purpose.{Purpose}
-use Rattle.objects.specs.declared.purpose.Purpose.TheVariants.{Assignment}
 use Rattle.objects.specs.declared.value.Value.{Value}
 use Rattle.objects.specs.declared.value.Value.TheVariants.{Number, Pointer, Function}
 use Rattle.objects.specs.declared.width.Width.{Width}
@@ -21,13 +20,13 @@ use Rattle.objects.specs.Accesses.{write_cause, written}
 use Rattle.objects.specs.Accesses as c
 use Rattle.objects.specs.Objects.{Object as Old}
 use Rattle.forests.specs.Accesses.{defined, bytes_written, word_written, number_written_by, number_written}
-use Rattle.forests.specs.Objects.{Object, shapes, stored_through}
+use Rattle.forests.specs.Objects.{Object, stored_through}
 use Rattle.forests.specs.WordBytes.{word_bytes}
 use Rattle.forests.specs.Words.{Word, Plain, Label, Partly, low_number}
 use Rattle.c_match.specs.Ranges.{Map}
 use Rattle.c_match.specs.Values.{IsValue}
 use Rattle.c_match.specs.Bytes.{AreBytesOf}
-use Rattle.c_match.specs.Held.{AreHeld, IsOpenTo, IsAlignment}
+use Rattle.c_match.specs.Held.{AreHeld, IsOpenTo}
 use Rattle.c_match.proofs.lemmas.Words.{word_has_bytes, number_has_bytes}
 use Rattle.c_match_objects.specs.Accesses.{IsKept}
 use Rattle.c_match_objects.proofs.lemmas.Reads.{if_none_none, if_none_same, aligned_by_width}

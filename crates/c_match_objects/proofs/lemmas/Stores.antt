@@ -1,5 +1,5 @@
 -- A store of C's, and the store of forests that stands for it.
-use Rattle.std.specs.Prelude.{◌≡◌, ◌≤◌, ◌⊎◌, ℕ, zero, suc, ◌+◌, ◌==◌, Bool, true, false, Option, Some, None, List, [], ◌∷◌, length, drop, slice_get, if◌then◌else◌}
+use Rattle.std.specs.Prelude.{◌≡◌, ◌≤◌, ◌⊎◌, ℕ, zero, suc, ◌+◌, ◌==◌, Bool, true, false, Some, None, List, [], ◌∷◌, length, slice_get, if◌then◌else◌}
 use Rattle.std.proofs.Common.{refl, ap, sym, subst, inl, inr, ◌∙◌, arith}
 use Rattle.std.proofs.lemmas.Bool.{eqb-true, eqb-false}
 use Rattle.lcc_base.specs.declared.cause.Cause.{Cause}
@@ -9,7 +9,6 @@ use Rattle.objects.specs.declared.purpose.Purpose.{Purpose}
 use Rattle.objects.specs.declared.purpose.Purpose.TheVariants.{Assignment, Initialisation}
 use Rattle.objects.specs.declared.value.ObjectName.{ObjectName}
 use Rattle.objects.specs.declared.value.Value.{Value}
-use Rattle.objects.specs.declared.value.Value.TheVariants.{Pointer}
 use Rattle.objects.specs.AccessLaws.{first_not, first_rest, size_of}
 use Rattle.objects.specs.AccessLaws.{stored_at as old_at, stored_elsewhere as old_elsewhere}
 use Rattle.objects.specs.Accesses.{write_cause}
@@ -17,7 +16,7 @@ use Rattle.objects.specs.Accesses as c
 use Rattle.objects.specs.ByteLaws.{length-overwritten}
 use Rattle.objects.specs.Causes.{first_cause, is_outside, is_misaligned, is_dead, is_refused}
 use Rattle.objects.specs.CopyLaws.{readable}
-use Rattle.objects.specs.Objects.{is_named, if_named, object_of, is_constant, overwritten, stored, with_bytes}
+use Rattle.objects.specs.Objects.{is_named, if_named, object_of, is_constant, stored, with_bytes}
 use Rattle.objects.specs.Objects.{Object as Old}
 use Rattle.forests.specs.Objects.{Object, shapes, stored_through}
 use Rattle.forests.specs.Objects.{stored as put, with_bytes as with_words}
@@ -30,7 +29,7 @@ use Rattle.c_match.specs.Held.{IsHeldIn, IsHeld, AreHeld, IsOpenTo, IsAlignment}
 use Rattle.c_match.specs.Left.{IsPrivate, IsLeft}
 use Rattle.c_match.proofs.lemmas.Lists.{bytes_over, bytes_before, bytes_behind}
 use Rattle.c_match_objects.specs.Accesses.{IsKept}
-use Rattle.c_match_objects.proofs.lemmas.Reached.{IsReached, IsAccess, there, access, goes_there, home_lives, made_of, not_before, stays_aligned, not_dead, room_for}
+use Rattle.c_match_objects.proofs.lemmas.Reached.{IsReached, IsAccess, there, access, goes_there, home_lives, made_of}
 
 -- ---- an object of C that was stored to is the one before, with other bytes
 
