@@ -13,11 +13,14 @@ use Rattle.op_forest.specs.Lowered.{LoweredUnit}
 use Rattle.forests.specs.Functions.{own_bytes, entered, left_behind}
 use Rattle.forests.specs.Objects.{Object}
 use Rattle.forests.specs.Sound.{AreSoundObjects, AreInput, IsSound}
-use Rattle.forests.specs.Words.{Word}
+use Rattle.forests.specs.Units.{pointer_to}
+use Rattle.forests.specs.Words.{Word, Plain}
 use Rattle.forests.specs.Worlds.{World, with_event, with_input, with_objects}
+use Rattle.c_runs.specs.Places.{static_place}
 use Rattle.c_runs.specs.Soundness.{outlines}
 use Rattle.c_runs.specs.Worlds as c
 use Rattle.c_match.specs.Ranges.{Range, Map, Grown, AreApart, with_range}
+use Rattle.c_match.specs.Values.{IsValue}
 use Rattle.c_match.specs.Bytes.{AreBytesOf}
 use Rattle.c_match.specs.Held.{IsHeldIn}
 use Rattle.c_match.specs.Left.{IsPrivate, IsLeft}
@@ -48,6 +51,12 @@ EventsKeep = (u : LoweredUnit) (own : ℕ) (map : Map) (old : c.World) (w : Worl
 
 abbrev pub InputKeeps : Type 0
 InputKeeps = (u : LoweredUnit) (own : ℕ) (map : Map) (old : c.World) (w : World) (rest : List ℕ) → Matches u own map old w → AreInput rest → Matches u own map (c.with_input old rest) (with_input w rest)
+
+-- the address of one of the unit's own objects or texts is that of the unit's object in its place
+abbrev pub OwnObjectsStand : Type 0
+OwnObjectsStand =
+    (u : LoweredUnit) (own : ℕ) (map : Map) (old : c.World) (w : World) (p size : ℕ)
+    → Matches u own map old w → p < own → IsValue map (static_place p size) (Plain (pointer_to u p))
 
 -- ---- calls
 
@@ -92,6 +101,13 @@ LocalsBegin =
     → Matches u own map old w → MayBegin u own map old w (object_made old constant bytes) range
     → Matches u own (with_range old.storage.made range map) (c.with_local constant bytes old) w × Grown map (with_range old.storage.made range map)
 
+-- what held nothing of C holds nothing still, but for the home
+abbrev pub BeginningHides : Type 0
+BeginningHides =
+    (u : LoweredUnit) (own : ℕ) (map : Map) (old : c.World) (w : World) (constant : Bool) (bytes : List (Byte Value)) (range : Range) (place : ℕ)
+    → Matches u own map old w → IsPrivate map (c.objects old) place → (range.object.place ≡ place → ⊥)
+    → IsPrivate (with_range old.storage.made range map) (c.objects (c.with_local constant bytes old)) place
+
 abbrev pub OthersBegin : Type 0
 OthersBegin =
     (u : LoweredUnit) (own : ℕ) (map : Map) (old : c.World) (w : World) (constant : Bool) (bytes : List (Byte Value)) (range : Range)
@@ -113,3 +129,11 @@ CallsClose =
     → Matches u own map before first → Matches u own more old w → Grown map more
     → ((p : ℕ) → p < length (c.objects before) → slice_get (outlines (c.objects old)) p ≡ slice_get (outlines (c.objects before)) p)
     → Matches u own more (c.left_behind Closed before old) (left_behind first w)
+
+-- What held nothing of C when the call was made is as it was, where the body leaves what holds nothing of C when it starts.
+abbrev pub CallsLeave : Type 0
+CallsLeave =
+    (map more : Map) (before started : c.World) (first w : World) (order : Order) (name : ℕ) (f : Body)
+    → IsLeft more (c.objects started) (entered order name f first).objects w.objects
+    → ((place : ℕ) → place < length first.objects → IsPrivate map (c.objects before) place → IsPrivate more (c.objects started) place)
+    → IsLeft map (c.objects before) first.objects (left_behind first w).objects

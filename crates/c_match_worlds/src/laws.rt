@@ -1,9 +1,11 @@
-ghost use Rattle.c_match_worlds.specs.Laws.{CallsClose, CallsMakeHomes, CallsOpen, CopiesArePassed, EventsKeep, HomesMayHold, InputKeeps, LocalsBegin, OthersBegin, PrivateStoresKeep, StoresKeep};
+ghost use Rattle.c_match_worlds.specs.Laws.{BeginningHides, CallsClose, CallsLeave, CallsMakeHomes, CallsOpen, CopiesArePassed, EventsKeep, HomesMayHold, InputKeeps, LocalsBegin, OthersBegin, OwnObjectsStand, PrivateStoresKeep, StoresKeep};
 
-/// A world of forests that stands for one of C does so still behind stores of C, and behind changes of what holds nothing of C.
+/// A world of forests that stands for one of C does so still behind stores of C, and behind changes of what holds nothing of C; and the
+/// addresses of the unit's own objects stand for C's.
 pub fn stores_keep()
     ensures objects { StoresKeep }
     ensures private { PrivateStoresKeep }
+    ensures own { OwnObjectsStand }
 {}
 
 /// And where something is seen, or input is read.
@@ -19,6 +21,8 @@ pub fn calls_keep()
     ensures hold { HomesMayHold }
     ensures locals { LocalsBegin }
     ensures others { OthersBegin }
+    ensures hidden { BeginningHides }
     ensures passed { CopiesArePassed }
     ensures closed { CallsClose }
+    ensures left { CallsLeave }
 {}

@@ -1,7 +1,7 @@
 -- Calls: how they are opened, how their objects begin, and how they are over.
 use Rattle.std.specs.Prelude.{◌≡◌, ◌≤◌, ◌<◌, ◌⊎◌, ℕ, zero, suc, ◌+◌, ◌==◌, Bool, true, false, Option, Some, None, List, [], ◌∷◌, ◌++◌, length, map as mapped, take, slice_get, if◌then◌else◌}
 use Rattle.std.specs.Option.{option_map}
-use Rattle.std.proofs.Common.{refl, ap, sym, subst, inl, inr, ◌∙◌, arith}
+use Rattle.std.proofs.Common.{length-append, refl, ap, sym, subst, inl, inr, ◌∙◌, arith}
 use Rattle.std.proofs.lemmas.Bool.{eqb-true}
 use Rattle.std.proofs.lemmas.Option.{slice_get_within, slice_get-map}
 use Rattle.lcc_base.specs.Traces.{Event, Opened, Closed}
@@ -163,6 +163,12 @@ still_private u own map old w constant bytes range m b t o le e p y r f g same =
   | inr one ↦ b.no_table t o le e (sym (ap (λ (s : Range). s.object.place) (its_range map old.storage.made range r constant bytes y one g)) ∙ same)
 ]
 
+pub beginning_hides : (u : LoweredUnit) (own : ℕ) (map : Map) (old : c.World) (w : World) (constant : Bool) (bytes : List (Byte Value)) (range : Range) (place : ℕ) → Matches u own map old w → IsPrivate map (c.objects old) place → (range.object.place ≡ place → ⊥) → IsPrivate (with_range old.storage.made range map) (c.objects (c.with_local constant bytes old)) place
+beginning_hides u own map old w constant bytes range place m private other p y r f g same = elim (get_more (c.objects old) (object_made old constant bytes) p y f) [
+  | inl there ↦ private p y r there (range_before u own map old w range m p y r there g) same
+  | inr one ↦ other (sym (ap (λ (s : Range). s.object.place) (its_range map old.storage.made range r constant bytes y one g)) ∙ same)
+]
+
 pub local_begins : (u : LoweredUnit) (own : ℕ) (map : Map) (old : c.World) (w : World) (constant : Bool) (bytes : List (Byte Value)) (range : Range) → Matches u own map old w → MayBegin u own map old w (object_made old constant bytes) range → Matches u own (with_range old.storage.made range map) (c.with_local constant bytes old) w × Grown map (with_range old.storage.made range map)
 local_begins u own map old w constant bytes range m b =
     let h = begun u own map old w constant bytes range m b in
@@ -258,3 +264,10 @@ call_closes u own map more first_world old first w m n g same =
       trace = ap (λ (es : List Event). es ++ Closed ∷ []) n.trace;
       sound = record { objects = objects_take homes w.objects n.sound.objects; arguments = tt; input = n.sound.input };
     }
+
+pub call_leaves : (map more : Map) (first_world started : c.World) (first w : World) (order : Order) (name : ℕ) (f : Body) → IsLeft more (c.objects started) (entered order name f first).objects w.objects → ((place : ℕ) → place < length first.objects → IsPrivate map (c.objects first_world) place → IsPrivate more (c.objects started) place) → IsLeft map (c.objects first_world) first.objects (left_behind first w).objects
+call_leaves map more first_world started first w order name f left stays place within private =
+    let own = objects_from first.made (own_bytes order f first.arguments) in
+    let all = length-append first.objects own in
+    let there : place < length (first.objects ++ own) = omega (arith, all, within) in
+    kept (length first.objects) w.objects place within ∙ left place there (stays place within private) ∙ before first.objects own place within

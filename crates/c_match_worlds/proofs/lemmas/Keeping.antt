@@ -1,20 +1,26 @@
 -- Stores, events and input.
-use Rattle.std.specs.Prelude.{◌≡◌, ◌≤◌, ◌<◌, ℕ, Some, List, [], ◌∷◌, ◌++◌, length, slice_get}
+use Rattle.std.specs.Prelude.{◌≡◌, ◌≤◌, ◌<◌, ℕ, ◌+◌, Some, List, [], ◌∷◌, ◌++◌, length, slice_get}
 use Rattle.std.proofs.Common.{refl, ap, sym, ◌∙◌}
 use Rattle.std.proofs.lemmas.Option.{slice_get_within}
 use Rattle.lcc_base.specs.Traces.{Event}
+use Rattle.objects.specs.declared.value.ObjectName.{ObjectName}
+use Rattle.objects.specs.declared.value.Value.TheVariants.{Pointer}
 use Rattle.objects.specs.Objects.{Object as Old}
 use Rattle.op_forest.specs.declared.lowered.LoweredObject.{LoweredObject}
 use Rattle.op_forest.specs.Lowered.{LoweredUnit}
 use Rattle.forests.specs.Objects.{Object}
 use Rattle.forests.specs.Sound.{AreSoundObjects, AreInput, IsSound}
+use Rattle.forests.specs.Units.{pointer_to}
+use Rattle.forests.specs.Words.{Plain}
 use Rattle.forests.specs.Worlds.{World, with_event, with_input, with_objects}
+use Rattle.c_runs.specs.Places.{static_place}
 use Rattle.c_runs.specs.Worlds as c
 use Rattle.c_match.specs.Ranges.{Range, Map}
+use Rattle.c_match.specs.Values.{IsValue}
 use Rattle.c_match.specs.Left.{IsPrivate}
 use Rattle.c_match_objects.specs.Accesses.{IsKept}
 use Rattle.c_match_objects.proofs.lemmas.Lifetimes.{held_by_same_homes}
-use Rattle.c_match_worlds.specs.Matches.{Matches, object_in}
+use Rattle.c_match_worlds.specs.Matches.{Matches, name_in, object_in}
 
 pub store_keeps : (u : LoweredUnit) (own : ℕ) (map : Map) (old : c.World) (w : World) (new : List Old) (after : List Object) → Matches u own map old w → IsKept map (c.objects old) new w.objects after → AreSoundObjects after → Matches u own map (c.with_objects old new) (with_objects w after)
 store_keeps u own map old w new after m k sound = record {
@@ -61,3 +67,9 @@ input_keeps u own map old w rest m h = record {
   trace = m.trace;
   sound = record { objects = m.sound.objects; arguments = m.sound.arguments; input = h };
 }
+
+from_start : (object : ObjectName) → Plain (Pointer object 0) ≡ Plain (Pointer object (0 + 0))
+from_start object = refl
+
+pub own_stands : (u : LoweredUnit) (own : ℕ) (map : Map) (old : c.World) (w : World) (p size : ℕ) → Matches u own map old w → p < own → IsValue map (static_place p size) (Plain (pointer_to u p))
+own_stands u own map old w p size m lt = (record { object = name_in u p; start = 0 }, m.whole p lt, from_start (name_in u p))

@@ -1,4 +1,4 @@
-use Rattle.c_match_worlds.proofs.lemmas.Calling.{call_opens, homes_made, home_holds, local_begins, other_begins, copy_passed, call_closes}
+use Rattle.c_match_worlds.proofs.lemmas.Calling.{call_opens, homes_made, home_holds, local_begins, other_begins, beginning_hides, copy_passed, call_closes, call_leaves}
 use Rattle.c_match_worlds.proofs.laws.calls_keep.Goals as goal
 
 pub returns-clause-opened : goal.returns-clause-opened
@@ -21,3 +21,9 @@ returns-clause-passed c = copy_passed
 
 pub returns-clause-closed : goal.returns-clause-closed
 returns-clause-closed c = call_closes
+
+pub returns-clause-hidden : goal.returns-clause-hidden
+returns-clause-hidden c = beginning_hides
+
+pub returns-clause-left : goal.returns-clause-left
+returns-clause-left c = call_leaves
