@@ -1,12 +1,12 @@
 -- A field in a unit of which nothing is known, as forests set and read it; and why a unit has no label.
-use Rattle.std.specs.Prelude.{◌≡◌, Some, None, true, false}
+use Rattle.std.specs.Prelude.{◌≡◌, Some, None, true}
 use Rattle.std.proofs.Common.{refl}
 use Rattle.lcc_base.specs.declared.order.Order.TheVariants.{Big, Little}
 use Rattle.objects.specs.declared.field.Field.{Field}
 use Rattle.objects.specs.declared.operators.Binary.TheVariants as binary
 use Rattle.objects.specs.declared.value.Value.TheVariants.{Number}
 use Rattle.forests.specs.Bits.{bits_and, bits_or, bits_left, bitwise, shifted}
-use Rattle.forests.specs.Words.{Word, Plain, Label, Partly, unknown}
+use Rattle.forests.specs.Words.{Plain, Label, Partly, unknown}
 use Rattle.c_match_fields.specs.Fields.{other_bits, placed}
 use Rattle.c_match_fields.specs.FieldReads.{above_of, right_bits}
 

@@ -1,6 +1,6 @@
 -- A bit-field that is written.
-use Rattle.std.specs.Prelude.{◌≡◌, ◌≤◌, ◌<◌, ℕ, ◌+◌, ◌-◌, ◌*◌, ◌%◌, ◌^◌, Option, Some, None, Ok, List, [], ◌∷◌, length, map as mapped}
-use Rattle.std.proofs.Common.{refl, sym, ap, subst, inl, inr, ◌∙◌, arith}
+use Rattle.std.specs.Prelude.{◌≡◌, ◌≤◌, ℕ, ◌+◌, ◌-◌, ◌^◌, Option, Some, None, Ok, List, [], ◌∷◌, length, map as mapped}
+use Rattle.std.proofs.Common.{refl, ap, subst, inr, ◌∙◌, arith}
 use Rattle.lcc_base.specs.declared.order.Order.{Order}
 use Rattle.lcc_base.specs.declared.order.Order.TheVariants.{Big, Little}
 use Rattle.lcc_base.specs.declared.cause.Cause.{Cause}
@@ -21,7 +21,7 @@ use Rattle.objects.specs.CopyLaws.{readable}
 use Rattle.objects.specs.Fields.{shift_of, with_bits, with_field}
 use Rattle.objects.specs.Fields.{bits_of as bytes_of}
 use Rattle.objects.specs.Objects.{Object as Old}
-use Rattle.forests.specs.Accesses.{defined, bytes_written, word_read}
+use Rattle.forests.specs.Accesses.{defined, bytes_written}
 use Rattle.forests.specs.Objects.{Object, shapes, bytes_through, stored_through}
 use Rattle.forests.specs.Sound.{AreSoundObjects}
 use Rattle.forests.specs.SoundBytes.{bytes_through_sound}
@@ -32,8 +32,8 @@ use Rattle.c_match.specs.Values.{IsValue}
 use Rattle.c_match.specs.Held.{AreHeld, IsOpenTo}
 use Rattle.c_match_objects.specs.Accesses.{IsKept}
 use Rattle.c_match_fields.specs.Fields.{placed, IsFieldWritten}
-use Rattle.c_match_objects.proofs.lemmas.Reached.{there, access, goes_there, bytes_reached, length_reached}
-use Rattle.c_match_objects.proofs.lemmas.Reads.{if_none_none, if_none_same, word_there}
+use Rattle.c_match_objects.proofs.lemmas.Reached.{there, access, bytes_reached, length_reached}
+use Rattle.c_match_objects.proofs.lemmas.Reads.{if_none_same, word_there}
 use Rattle.c_match_fields.proofs.lemmas.SetFields.{clears, sets, unit_bytes}
 use Rattle.c_match_objects.proofs.lemmas.StoredScalars.{word_count}
 use Rattle.c_match_objects.proofs.lemmas.Stores.{store_goes}

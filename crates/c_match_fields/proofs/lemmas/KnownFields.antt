@@ -1,12 +1,11 @@
 -- A bit-field that is read: C knows its bits, and none of them is a pointer's or function's.
-use Rattle.std.specs.Prelude.{◌≡◌, ◌≤◌, ◌<◌, ℕ, ◌+◌, ◌-◌, ◌*◌, ◌/◌, ◌%◌, ◌^◌, ◌==◌, not, bit_and, bit_or, Bool, true, false, Option, Some, None, Ok, List, [], ◌∷◌, length, map as mapped}
+use Rattle.std.specs.Prelude.{◌≡◌, ◌≤◌, ◌<◌, ℕ, ◌+◌, ◌-◌, ◌*◌, ◌/◌, ◌%◌, ◌^◌, ◌==◌, not, bit_and, bit_or, Bool, true, false, Option, Some, Ok, List, [], ◌∷◌, length, map as mapped}
 use Rattle.std.specs.Int.Bits.{and_zero_l, and_zero_r}
-use Rattle.std.proofs.Common.{refl, sym, ap, subst, inl, inr, ◌∙◌, arith}
+use Rattle.std.proofs.Common.{refl, sym, ap, ◌∙◌, arith}
 use Rattle.std.proofs.lemmas.Bool.{eqb-true}
 use Rattle.std.proofs.lemmas.Nat.{or_shr, or_mod, or_disjoint}
 use Rattle.lcc_base.specs.declared.order.Order.{Order}
 use Rattle.lcc_base.specs.declared.order.Order.TheVariants.{Big, Little}
-use Rattle.lcc_base.specs.declared.cause.Cause.{Cause}
 use Rattle.lcc_base.specs.declared.cause.Cause.TheVariants.{Unknown, PointerBytes}
 use Rattle.lcc_base.specs.NumberIn.{number_of, number_in}
 use Rattle.objects.specs.declared.byte.Byte.{Byte}
@@ -20,11 +19,11 @@ use Rattle.objects.specs.Accesses.{read_cause, field_read}
 use Rattle.objects.specs.Accesses as c
 use Rattle.objects.specs.Arithmetic.{binary_word}
 use Rattle.objects.specs.Bytes.{known_of, value_of, settled_of, part_bits_of, number_of_bytes}
-use Rattle.objects.specs.Causes.{unless, bits_from, is_unknown_field, is_in_part}
+use Rattle.objects.specs.Causes.{bits_from, is_unknown_field, is_in_part}
 use Rattle.objects.specs.Conversions.{extended}
 use Rattle.objects.specs.Fields.{shift_of, field_cause, field_in}
 use Rattle.objects.specs.Objects.{Object as Old}
-use Rattle.forests.specs.Accesses.{defined, word_read}
+use Rattle.forests.specs.Bits.{shifted}
 use Rattle.forests.specs.Objects.{Object, bytes_through}
 use Rattle.forests.specs.Sound.{AreSoundBytes, AreSoundObjects}
 use Rattle.forests.specs.SoundBytes.{bytes_through_sound}
@@ -34,9 +33,9 @@ use Rattle.c_match.specs.Ranges.{Map}
 use Rattle.c_match.specs.Values.{IsValue}
 use Rattle.c_match.specs.Bytes.{AreBytesOf}
 use Rattle.c_match.specs.Held.{AreHeld}
-use Rattle.c_match_fields.specs.FieldReads.{above_of, IsFieldRead}
+use Rattle.c_match_fields.specs.FieldReads.{right_bits, above_of, IsFieldRead}
 use Rattle.c_match_fields.proofs.lemmas.RaisedBits.{raises, lowers, lowered_number}
-use Rattle.c_match_objects.proofs.lemmas.Reached.{there, access, goes_there, bytes_reached, length_reached}
+use Rattle.c_match_objects.proofs.lemmas.Reached.{there, access, bytes_reached, length_reached}
 use Rattle.c_match_objects.proofs.lemmas.Reads.{if_none_none, if_none_same, word_there}
 use Rattle.c_match_fields.proofs.lemmas.UnitWords.{byte_covers, small_byte, and_four, less, unit_word}
 
@@ -101,6 +100,12 @@ in_unit : (order : Order) (f : Field) → f.first + f.width ≤ 32 → shift_of 
 in_unit Big f h = omega arith
 in_unit Little f h = h
 
+as_number : (o : Option Word) (m n : ℕ) (v : Value) → o ≡ Some (Plain (Number m)) → m ≡ n → Number n ≡ v → o ≡ Some (Plain v)
+as_number o m n v e f g =
+    let second : Some (Plain (Number m)) ≡ Some (Plain (Number n)) = ap (λ (x : ℕ). Some (Plain (Number x))) f in
+    let third : Some (Plain (Number n)) ≡ Some (Plain v) = ap (λ (x : Value). Some (Plain x)) g in
+    e ∙ second ∙ third
+
 pub field_reads : (map : Map) (old : List Old) (objects : List Object) (order : Order) (f : Field) (p v : Value) (w : Word) → AreHeld map old objects → AreSoundObjects objects → IsValue map p w → 1 ≤ f.width → f.first + f.width ≤ 32 → field_read order f old p ≡ Ok v → IsFieldRead objects order f v w
 field_reads map old objects order f p v w h sound is some within e =
     let bs = c.bytes_through old p 4 in
@@ -128,13 +133,16 @@ field_reads map old objects order f p v w h sound is some within e =
     let raised = raises shift f.width known value some fit ones (word_in order cs) (unit_word map order bs cs are sound_bytes long.0 long.1) in
     let up = 2 ^ above_of order f in
     let narrow : f.width ≤ 32 = omega (arith, fit) in
+    let word = known_word raised.mask (raised.bits * up % 2 ^ 32) in
+    let lowered = shifted f.signed binary.ShiftRight (right_bits f.signed) word (Plain (Number (32 - f.width))) in
+    let from = binary_word f.signed binary.ShiftRight (raised.bits * up % 2 ^ 32) (32 - f.width) in
+    let to = extended f.signed f.width (bits_from shift f.width (number_of_bytes order bs)) in
     record {
       unit = word_in order cs;
       raised = known_word raised.mask (raised.bits * up % 2 ^ 32);
       reads = word_there map old objects order p w a;
       raises = raised.is;
       lowers =
-          lowers f.signed f.width raised.mask (raised.bits * up % 2 ^ 32) some narrow raised.top
-          ∙ ap (λ (x : ℕ). Some (Plain (Number x))) (lowered_number shift f.width known value some fit ones f.signed raised.bits raised.same)
-          ∙ ap (λ (x : Value). Some (Plain x)) is_number;
+          as_number lowered from to v (lowers f.signed f.width raised.mask (raised.bits * up % 2 ^ 32) some narrow raised.top)
+          (lowered_number shift f.width known value some fit ones f.signed raised.bits raised.same) is_number;
     }

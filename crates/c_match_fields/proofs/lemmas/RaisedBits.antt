@@ -1,18 +1,10 @@
 -- A bit-field that is read: its bits are raised to the top of the word, and lowered again with its sign or without.
-use Rattle.std.specs.Prelude.{◌≡◌, ◌≤◌, ◌<◌, ◌⊎◌, ℕ, negsuc, ◌+◌, ◌-◌, ◌*◌, ◌/◌, ◌%◌, ◌^◌, ◌==◌, not, nat_lt, bit_and, bit_or, Bool, true, false, Option, Some, None, Ok, List, [], ◌∷◌, length, map as mapped, if◌then◌else◌}
+use Rattle.std.specs.Prelude.{◌≡◌, ◌≤◌, ◌<◌, ◌⊎◌, ℕ, ◌+◌, ◌-◌, ◌*◌, ◌/◌, ◌%◌, ◌^◌, ◌==◌, nat_lt, bit_and, Bool, true, false, Some, None, if◌then◌else◌}
 use Rattle.std.specs.Int.{int_shr}
-use Rattle.std.specs.Int.Bits.{and_zero_l, and_zero_r}
-use Rattle.std.proofs.Common.{refl, sym, ap, subst, cond, inl, inr, ◌∙◌, arith}
+use Rattle.std.proofs.Common.{refl, sym, ap, subst, inl, inr, ◌∙◌, arith}
 use Rattle.std.proofs.Math.Nat.{mod-eq_of_lt}
-use Rattle.std.proofs.lemmas.Bool.{cases_lt, eqb-true, eq-eqb, lt-ltb}
-use Rattle.std.proofs.lemmas.Nat.{pow_pos, pow-add, pow_below, shl-shr, shr-shr, field_of, mod_below, shr_below, shr_le, div-mul-add, div-add-mod', le-div, and_le_r, and_mask, and_shr, and_mod, or_shr, or_mod, or_disjoint}
-use Rattle.lcc_base.specs.declared.order.Order.{Order}
-use Rattle.lcc_base.specs.declared.order.Order.TheVariants.{Big, Little}
-use Rattle.lcc_base.specs.declared.cause.Cause.{Cause}
-use Rattle.lcc_base.specs.declared.cause.Cause.TheVariants.{Unknown, PointerBytes}
-use Rattle.lcc_base.specs.NumberIn.{number_of, number_in}
-use Rattle.objects.specs.declared.byte.Byte.{Byte}
-use Rattle.objects.specs.declared.byte.Byte.TheVariants.{Bits, Part}
+use Rattle.std.proofs.lemmas.Bool.{cases_lt, eq-eqb, lt-ltb}
+use Rattle.std.proofs.lemmas.Nat.{pow_pos, pow-add, pow_below, shr-shr, field_of, mod_below, shr_below, shr_le, div-mul-add, div-add-mod', le-div, and_le_r, and_mask, and_shr, and_mod}
 use Rattle.objects.specs.declared.operators.Binary.TheVariants as binary
 use Rattle.objects.specs.declared.value.Value.TheVariants.{Number, Pointer, Function}
 use Rattle.objects.specs.Arithmetic.{signed_of, word_of, binary_word}
@@ -20,7 +12,7 @@ use Rattle.objects.specs.BitLaws.{low_below}
 use Rattle.objects.specs.Causes.{bits_from}
 use Rattle.objects.specs.Conversions.{sign_extended, extended}
 use Rattle.forests.specs.BitLaws.{signed_low, signed_high, word_low, word_high}
-use Rattle.forests.specs.Bits.{KnownBits, bits_of, bits_left, bits_right, bits_right_signed, shifted}
+use Rattle.forests.specs.Bits.{KnownBits, bits_left, shifted}
 use Rattle.forests.specs.Words.{Word, Plain, Label, Partly, known_word}
 use Rattle.c_match_fields.specs.FieldReads.{right_bits}
 use Rattle.c_match_objects.proofs.lemmas.Reached.{not_before}

@@ -1,17 +1,14 @@
 -- A field of a unit that is cleared and set.
-use Rattle.std.specs.Prelude.{◌≡◌, ◌≤◌, ◌<◌, ◌⊎◌, ℕ, ◌+◌, ◌-◌, ◌*◌, ◌/◌, ◌%◌, ◌^◌, ◌==◌, min, max, bit_and, bit_or, bit_xor, Bool, true, false, Option, Some, None, List, [], ◌∷◌, length, if◌then◌else◌}
+use Rattle.std.specs.Prelude.{◌≡◌, ◌≤◌, ◌<◌, ℕ, ◌+◌, ◌-◌, ◌*◌, ◌/◌, ◌%◌, ◌^◌, ◌==◌, min, max, bit_and, bit_or, bit_xor, Bool, true, false, Some, if◌then◌else◌}
 use Rattle.std.specs.Int.{bit_at}
 use Rattle.std.specs.Int.Bits.{and_zero_l, and_zero_r}
 use Rattle.std.proofs.Common.{refl, sym, ap, subst, ◌∙◌, arith, inl, inr}
-use Rattle.std.proofs.lemmas.Bool.{eqb-true}
 use Rattle.std.proofs.lemmas.Nat.{and_le_l, and_le_r, and_shr, and_mod, mod_below}
 use Rattle.std.proofs.lemmas.Nat.Bits.{bit_at-lt, bit_at_and, bit_at_or, bit_at_xor, bit_at_ones, same_from_bits_below}
 use Rattle.lcc_base.specs.declared.order.Order.{Order}
 use Rattle.lcc_base.specs.declared.order.Order.TheVariants.{Big, Little}
-use Rattle.objects.specs.declared.byte.Byte.{Byte}
-use Rattle.objects.specs.declared.byte.Byte.TheVariants.{Bits, Part}
+use Rattle.objects.specs.declared.byte.Byte.TheVariants.{Bits}
 use Rattle.objects.specs.declared.operators.Binary.TheVariants as binary
-use Rattle.objects.specs.declared.value.Value.{Value}
 use Rattle.objects.specs.declared.value.Value.TheVariants.{Number, Pointer, Function}
 use Rattle.objects.specs.BitLaws.{replaced_below}
 use Rattle.objects.specs.Bytes.{number_bytes, part_bytes}
@@ -24,7 +21,7 @@ use Rattle.forests.specs.WordBytes.{word_bytes}
 use Rattle.forests.specs.Words.{Word, Plain, Label, Partly, known_word}
 use Rattle.c_match.specs.Ranges.{Map}
 use Rattle.c_match.specs.Bytes.{IsNoLabel, IsByteOf, AreBytesOf}
-use Rattle.c_match_fields.proofs.lemmas.FieldBits.{IsOuter, IsInner, each_bit}
+use Rattle.c_match_fields.proofs.lemmas.FieldBits.{each_bit}
 use Rattle.c_match_fields.proofs.lemmas.UnitWords.{Covers, bits_known}
 
 -- ---- bits
@@ -98,10 +95,10 @@ module _ (s w new known value : ℕ) (le : s + w ≤ 32) (small : known < 2 ^ 32
       let low : value < 2 ^ 32 = omega (arith, many, e, small) in
       same_from_bits_below 32 (bit_and (bit_or (bit_and v outer) set) now_known) (with_bits s w new value) below (replaced_below s w new value le low)
       (λ i l.
-          bit_at_and (bit_or (bit_and v outer) set) now_known i
-          ∙ ap (λ (x : ℕ). min x (bit_at now_known i)) (bit_at_or (bit_and v outer) set i)
-          ∙ ap (λ (x : ℕ). min (max x (bit_at set i)) (bit_at now_known i)) (bit_at_and v outer i)
-          ∙ one_bit v e i l)
+      bit_at_and (bit_or (bit_and v outer) set) now_known i
+      ∙ ap (λ (x : ℕ). min x (bit_at now_known i)) (bit_at_or (bit_and v outer) set i)
+      ∙ ap (λ (x : ℕ). min (max x (bit_at set i)) (bit_at now_known i)) (bit_at_and v outer i)
+      ∙ one_bit v e i l)
 
   -- the mask of a unit whose bits aren't all known
   mask_bit : (k v : ℕ) → bit_and known k ≡ known → (i : ℕ) → i < 32 → min (bit_at now_known i) (bit_at (bit_or (bit_and k (2 ^ 32 - 1)) (bit_or (bit_xor k v) (bit_xor (2 ^ 32 - 1) outer))) i) ≡ bit_at now_known i
@@ -173,9 +170,9 @@ or_all known mask rest lt e =
     let few = and_le_l known (bit_or (bit_and mask (2 ^ 32 - 1)) rest) in
     same_from_bits_below 32 (bit_and known (bit_or (bit_and mask (2 ^ 32 - 1)) rest)) known (omega (arith, few, lt)) lt
     (λ i l.
-        bit_at_and known (bit_or (bit_and mask (2 ^ 32 - 1)) rest) i
-        ∙ ap (λ (x : ℕ). min (bit_at known i) x) (bit_at_or (bit_and mask (2 ^ 32 - 1)) rest i ∙ ap (λ (x : ℕ). max x (bit_at rest i)) (bit_at_and mask (2 ^ 32 - 1) i ∙ ap (λ (x : ℕ). min (bit_at mask i) x) (bit_at_ones 32 i l)))
-        ∙ still_all (bit_at known i) (bit_at mask i) (bit_at rest i) (bit_at-lt known i) (bit_at-lt mask i) (sym (bit_at_and known mask i) ∙ ap (λ (x : ℕ). bit_at x i) e))
+    bit_at_and known (bit_or (bit_and mask (2 ^ 32 - 1)) rest) i
+    ∙ ap (λ (x : ℕ). min (bit_at known i) x) (bit_at_or (bit_and mask (2 ^ 32 - 1)) rest i ∙ ap (λ (x : ℕ). max x (bit_at rest i)) (bit_at_and mask (2 ^ 32 - 1) i ∙ ap (λ (x : ℕ). min (bit_at mask i) x) (bit_at_ones 32 i l)))
+    ∙ still_all (bit_at known i) (bit_at mask i) (bit_at rest i) (bit_at-lt known i) (bit_at-lt mask i) (sym (bit_at_and known mask i) ∙ ap (λ (x : ℕ). bit_at x i) e))
 
 set_by : (t : Bool) (known value new mask bits : ℕ) → (mask == 2 ^ 32 - 1) ≡ t → known < 2 ^ 32 → bit_and known mask ≡ known → bit_and (bit_or bits new) known ≡ value → IsSet known value new (if t then Plain (Number bits) else Partly mask bits)
 set_by true known value new mask bits e lt all same = record {

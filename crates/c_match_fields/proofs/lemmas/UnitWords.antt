@@ -1,27 +1,21 @@
 -- The word of four bytes that stand for a unit of C: what C knows of the unit, the word has.
-use Rattle.std.specs.Prelude.{◌≡◌, ◌≤◌, ◌<◌, ◌⊎◌, ℕ, ◌+◌, ◌-◌, ◌*◌, ◌/◌, ◌%◌, ◌^◌, ◌==◌, ◌&&◌, min, max, bit_and, bit_or, bit_xor, Bool, true, false, Option, Some, None, List, [], ◌∷◌, length, map as mapped, if◌then◌else◌}
-use Rattle.std.specs.Int.{bit_at}
+use Rattle.std.specs.Prelude.{◌≡◌, ◌<◌, ℕ, ◌+◌, ◌-◌, ◌*◌, ◌^◌, ◌==◌, ◌&&◌, bit_and, Bool, true, false, Option, Some, None, List, [], ◌∷◌, length, map as mapped, if◌then◌else◌}
 use Rattle.std.specs.Int.Bits.{and_zero_l, and_zero_r}
-use Rattle.std.proofs.Common.{refl, sym, ap, subst, ◌∙◌, arith, inl, inr}
-use Rattle.std.proofs.lemmas.Bool.{cases_lt, eqb-true}
-use Rattle.std.proofs.lemmas.Nat.{and_le_l, and_le_r, and_shr, and_mod, mod_below}
-use Rattle.std.proofs.lemmas.Nat.Bits.{bit_at-lt, bit_at_and, bit_at_or, bit_at_xor, bit_at_ones, bit_at_ones_above, bit_at_above, same_from_bits}
+use Rattle.std.proofs.Common.{refl, sym, ap, subst, ◌∙◌, arith}
+use Rattle.std.proofs.lemmas.Bool.{eqb-true}
+use Rattle.std.proofs.lemmas.Nat.{and_le_r}
 use Rattle.lcc_base.specs.declared.order.Order.{Order}
 use Rattle.lcc_base.specs.declared.order.Order.TheVariants.{Big, Little}
 use Rattle.lcc_base.specs.NumberIn.{number_of, number_in}
 use Rattle.objects.specs.declared.byte.Byte.{Byte}
 use Rattle.objects.specs.declared.byte.Byte.TheVariants.{Bits, Part}
-use Rattle.objects.specs.declared.operators.Binary.TheVariants as binary
 use Rattle.objects.specs.declared.value.Value.{Value}
 use Rattle.objects.specs.declared.value.Value.TheVariants.{Number, Pointer, Function}
-use Rattle.objects.specs.Bytes.{known_of, value_of, by_weight, is_part_of, are_rest_of, whole_of, number_bytes}
-use Rattle.objects.specs.Fields.{with_bits}
-use Rattle.objects.specs.Fields.{bits_of as bytes_of}
+use Rattle.objects.specs.Bytes.{known_of, value_of, is_part_of, are_rest_of, whole_of}
 use Rattle.forests.specs.BitLaws.{and_parts}
-use Rattle.forests.specs.Bits.{KnownBits, bits_of, bits_and, bits_or, bitwise, word_of_bits}
-use Rattle.forests.specs.MayBe.{and_ones}
+use Rattle.forests.specs.Bits.{KnownBits, bits_of}
 use Rattle.forests.specs.Sound.{IsSoundByte, AreSoundBytes}
-use Rattle.forests.specs.WordBytes.{word_bytes, whole_or, word_in}
+use Rattle.forests.specs.WordBytes.{whole_or, word_in}
 use Rattle.forests.specs.Words.{Word, Plain, Label, Partly, known_word, same_word}
 use Rattle.c_match.specs.Ranges.{Map}
 use Rattle.c_match.specs.Values.{IsValue}
