@@ -1,5 +1,5 @@
 -- What keeps worlds of forests standing for those of C: accesses, events, and the objects of calls.
-use Rattle.std.specs.Prelude.{◌≡◌, ◌≤◌, ◌<◌, ℕ, ◌+◌, Bool, false, Some, List, [], ◌∷◌, ◌++◌, length, slice_get}
+use Rattle.std.specs.Prelude.{◌≡◌, ◌≤◌, ◌<◌, ℕ, ◌+◌, Bool, false, Some, List, length, slice_get}
 use Rattle.lcc_base.specs.Traces.{Event, Opened, Closed}
 use Rattle.lcc_base.specs.declared.order.Order.{Order}
 use Rattle.objects.specs.declared.byte.Byte.{Byte}

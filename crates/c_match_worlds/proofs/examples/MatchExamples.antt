@@ -1,6 +1,6 @@
 -- A world with which a unit of one object and one table begins, and the world of C that it stands for.
-use Rattle.std.specs.Prelude.{◌≡◌, ◌≤◌, ◌<◌, ℕ, zero, suc, Bool, true, false, Option, Some, None, List, [], ◌∷◌, slice_get}
-use Rattle.std.proofs.Common.{refl, ap, sym, subst, ◌∙◌, arith}
+use Rattle.std.specs.Prelude.{◌≡◌, ◌≤◌, ◌<◌, ℕ, zero, suc, true, false, Some, None, [], ◌∷◌, slice_get}
+use Rattle.std.proofs.Common.{refl, ap, subst, arith}
 use Rattle.lcc_base.specs.declared.order.Order.TheVariants.{Big}
 use Rattle.lcc_base.specs.Traces.{Closed}
 use Rattle.objects.specs.Bytes.{known_bytes}
@@ -12,7 +12,7 @@ use Rattle.forests.specs.Units.{start_world}
 use Rattle.forests.specs.Worlds.{World}
 use Rattle.c_runs.specs.Worlds as c
 use Rattle.c_match.specs.Ranges.{Range, Map}
-use Rattle.c_match.specs.Held.{IsHeld, AreHeld}
+use Rattle.c_match.specs.Held.{IsHeld}
 use Rattle.c_match.specs.Left.{IsPrivate}
 use Rattle.c_match_worlds.specs.Matches.{Matches, name_in, object_in}
 

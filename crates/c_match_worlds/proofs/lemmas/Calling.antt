@@ -90,16 +90,19 @@ homes_made w order name f i bytes e =
 pub call_opens : (u : LoweredUnit) (own : ℕ) (map : Map) (old : c.World) (w : World) (order : Order) (name : ℕ) (f : Body) → Matches u own map old w → Matches u own map (c.entered (Opened name) old) (entered order name f w) × IsLeft map (c.objects old) w.objects (entered order name f w).objects × ((place : ℕ) → length w.objects ≤ place → IsPrivate map (c.objects old) place)
 call_opens u own map old w order name f m =
     let more = objects_from w.made (own_bytes order f w.arguments) in
-    let h = homes_begin map (c.objects old) w.objects more m.held in
-    (record {
-      held = h.0;
-      made = m.made;
-      whole = m.whole;
-      tables = λ t o le e. (before w.objects more t (slice_get_within w.objects t (object_in u t o) (m.tables t o le e).0) ∙ (m.tables t o le e).0, (m.tables t o le e).1);
-      input = m.input;
-      trace = ap (λ (es : List Event). es ++ Opened name ∷ []) m.trace;
-      sound = entered_sound order name f w m.sound;
-    }, h.1, h.2)
+    let h = homes_begin map (c.objects old) w.objects more m.held in (
+      record {
+        held = h.0;
+        made = m.made;
+        whole = m.whole;
+        tables = λ t o le e. (before w.objects more t (slice_get_within w.objects t (object_in u t o) (m.tables t o le e).0) ∙ (m.tables t o le e).0, (m.tables t o le e).1);
+        input = m.input;
+        trace = ap (λ (es : List Event). es ++ Opened name ∷ []) m.trace;
+        sound = entered_sound order name f w m.sound;
+      },
+      h.1,
+      h.2,
+    )
 
 -- ---- objects begin
 
@@ -171,29 +174,33 @@ beginning_hides u own map old w constant bytes range place m private other p y r
 
 pub local_begins : (u : LoweredUnit) (own : ℕ) (map : Map) (old : c.World) (w : World) (constant : Bool) (bytes : List (Byte Value)) (range : Range) → Matches u own map old w → MayBegin u own map old w (object_made old constant bytes) range → Matches u own (with_range old.storage.made range map) (c.with_local constant bytes old) w × Grown map (with_range old.storage.made range map)
 local_begins u own map old w constant bytes range m b =
-    let h = begun u own map old w constant bytes range m b in
-    (record {
-      held = h.0;
-      made = still_made u own map old w range m;
-      whole = λ p lt. h.1 p _ (m.whole p lt);
-      tables = λ t o le e. ((m.tables t o le e).0, still_private u own map old w constant bytes range m b t o le e);
-      input = m.input;
-      trace = m.trace;
-      sound = m.sound;
-    }, h.1)
+    let h = begun u own map old w constant bytes range m b in (
+      record {
+        held = h.0;
+        made = still_made u own map old w range m;
+        whole = λ p lt. h.1 p _ (m.whole p lt);
+        tables = λ t o le e. ((m.tables t o le e).0, still_private u own map old w constant bytes range m b t o le e);
+        input = m.input;
+        trace = m.trace;
+        sound = m.sound;
+      },
+      h.1,
+    )
 
 pub other_begins : (u : LoweredUnit) (own : ℕ) (map : Map) (old : c.World) (w : World) (constant : Bool) (bytes : List (Byte Value)) (range : Range) → Matches u own map old w → MayBegin u own map old w (object_made old constant bytes) range → Matches u own (with_range old.storage.made range map) (c.made constant bytes old) w × Grown map (with_range old.storage.made range map)
 other_begins u own map old w constant bytes range m b =
-    let h = begun u own map old w constant bytes range m b in
-    (record {
-      held = h.0;
-      made = still_made u own map old w range m;
-      whole = λ p lt. h.1 p _ (m.whole p lt);
-      tables = λ t o le e. ((m.tables t o le e).0, still_private u own map old w constant bytes range m b t o le e);
-      input = m.input;
-      trace = m.trace;
-      sound = m.sound;
-    }, h.1)
+    let h = begun u own map old w constant bytes range m b in (
+      record {
+        held = h.0;
+        made = still_made u own map old w range m;
+        whole = λ p lt. h.1 p _ (m.whole p lt);
+        tables = λ t o le e. ((m.tables t o le e).0, still_private u own map old w constant bytes range m b t o le e);
+        input = m.input;
+        trace = m.trace;
+        sound = m.sound;
+      },
+      h.1,
+    )
 
 -- ---- a copy is passed
 
@@ -210,11 +217,12 @@ copy_passed u own map old w constant name offset m opens = record {
   held = flags_stay map (c.objects old) w.objects name offset constant m.held opens;
   made = m.made;
   whole = m.whole;
-  tables = λ t o le e.
-      ((m.tables t o le e).0,
-        λ p x r f g same.
-            (let y = flagged_made (c.objects old) name.place p constant x f in
-            (m.tables t o le e).1 p y.0 r y.1 (sym (ap map y.2) ∙ g) same));
+  tables = λ t o le e. (
+    (m.tables t o le e).0,
+    λ p x r f g same.
+        (let y = flagged_made (c.objects old) name.place p constant x f in
+        (m.tables t o le e).1 p y.0 r y.1 (sym (ap map y.2) ∙ g) same),
+  );
   input = m.input;
   trace = m.trace;
   sound = m.sound;
@@ -257,9 +265,10 @@ call_closes u own map more first_world old first w m n g same =
           subst (λ (s : Range). s.object.place < homes) one (slice_get_within first.objects h.range.object.place h.held.home h.held.there)));
       made = n.made;
       whole = n.whole;
-      tables = λ t o le e.
-          (kept homes w.objects t (slice_get_within first.objects t (object_in u t o) (m.tables t o le e).0) ∙ (n.tables t o le e).0,
-            λ p x r f i s. (n.tables t o le e).1 p x r (taken count (c.objects old) p x f).1 i s);
+      tables = λ t o le e. (
+        kept homes w.objects t (slice_get_within first.objects t (object_in u t o) (m.tables t o le e).0) ∙ (n.tables t o le e).0,
+        λ p x r f i s. (n.tables t o le e).1 p x r (taken count (c.objects old) p x f).1 i s,
+      );
       input = n.input;
       trace = ap (λ (es : List Event). es ++ Closed ∷ []) n.trace;
       sound = record { objects = objects_take homes w.objects n.sound.objects; arguments = tt; input = n.sound.input };

@@ -1,6 +1,6 @@
 -- Stores, events and input.
-use Rattle.std.specs.Prelude.{◌≡◌, ◌≤◌, ◌<◌, ℕ, ◌+◌, Some, List, [], ◌∷◌, ◌++◌, length, slice_get}
-use Rattle.std.proofs.Common.{refl, ap, sym, ◌∙◌}
+use Rattle.std.specs.Prelude.{◌≡◌, ◌≤◌, ◌<◌, ℕ, ◌+◌, Some, List, [], ◌∷◌, ◌++◌, slice_get}
+use Rattle.std.proofs.Common.{refl, ap, ◌∙◌}
 use Rattle.std.proofs.lemmas.Option.{slice_get_within}
 use Rattle.lcc_base.specs.Traces.{Event}
 use Rattle.objects.specs.declared.value.ObjectName.{ObjectName}
@@ -15,7 +15,7 @@ use Rattle.forests.specs.Words.{Plain}
 use Rattle.forests.specs.Worlds.{World, with_event, with_input, with_objects}
 use Rattle.c_runs.specs.Places.{static_place}
 use Rattle.c_runs.specs.Worlds as c
-use Rattle.c_match.specs.Ranges.{Range, Map}
+use Rattle.c_match.specs.Ranges.{Map}
 use Rattle.c_match.specs.Values.{IsValue}
 use Rattle.c_match.specs.Left.{IsPrivate}
 use Rattle.c_match_objects.specs.Accesses.{IsKept}
