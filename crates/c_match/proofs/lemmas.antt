@@ -1,0 +1,4 @@
+pub mod Growing
+pub mod Lists
+pub mod Scalars
+pub mod Words

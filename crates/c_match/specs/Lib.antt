@@ -1,0 +1,6 @@
+pub mod Ranges
+pub mod Values
+pub mod Bytes
+pub mod Held
+pub mod Left
+pub mod Laws

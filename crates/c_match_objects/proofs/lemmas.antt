@@ -1,0 +1,9 @@
+pub mod Reached
+pub mod Reads
+pub mod Stores
+pub mod Accesses
+pub mod StoredScalars
+pub mod Copied
+pub mod Pointers
+pub mod Compared
+pub mod Lifetimes

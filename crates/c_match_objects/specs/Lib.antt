@@ -1,0 +1,3 @@
+pub mod Accesses
+pub mod Pointers
+pub mod Lifetimes

@@ -1,0 +1,6 @@
+//! When worlds of forests stand for worlds of C, and what keeps them so.
+#![tactic(auto)]
+
+mod laws;
+
+pub use laws::{calls_keep, events_keep, stores_keep};
