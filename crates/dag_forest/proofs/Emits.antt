@@ -18,7 +18,7 @@ use Rattle.dag_forest.specs.Choice.{Room}
 use Rattle.dag_forest.specs.Walks.{steps_of}
 use Rattle.dag_forest.specs.Split.{temporary_of, kept_by}
 use Rattle.dag_forest.specs.Standings.{AreStood, nothing, standing_trees, stored_by, stood}
-use Rattle.dag_forest.proofs.Stays.{at_new, at_old}
+use Rattle.dag_forest.proofs.lemmas.Maps.{at_new, at_old}
 use Rattle.dag_forest.proofs.Ready.{AllKids, kids_map, AreReady, ready_map}
 use Rattle.dag_forest.proofs.StandingLaws.{whole, kept}
 use Rattle.dag_forest.proofs.PlacedLaws.{standing_of, AreAsChosen}

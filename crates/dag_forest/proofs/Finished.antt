@@ -16,7 +16,7 @@ use Rattle.dag_forest.specs.Choice.{IsLow, chosen, rooms_to}
 use Rattle.dag_forest.specs.Walks.{steps_of}
 use Rattle.dag_forest.specs.Split.{room_of, room_count, split_trees}
 use Rattle.dag_forest.specs.Standings.{AreStood, AreLow, nothing, placed, unplaced, stood}
-use Rattle.dag_forest.proofs.Once.{acts_are_once}
+use Rattle.dag_forest.proofs.lemmas.Once.{acts_are_once}
 use Rattle.dag_forest.proofs.Ready.{AllLow, low_in_turn, low_used, acts_are_ready}
 use Rattle.dag_forest.proofs.Walked.{low_all}
 use Rattle.dag_forest.proofs.PlacedLaws.{as_chosen, slots_are, are_stood, length_is, reads_none, none_stood, AreAsChosen}

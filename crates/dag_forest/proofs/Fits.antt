@@ -13,7 +13,7 @@ use Rattle.dag_forest.specs.Meaning.{Temporary, is_end, is_handing}
 use Rattle.dag_forest.specs.Emission.{Use, Lost, Now, Stable, IsUsable, fade, faded, least, kids_use, read_use, kept_use, IsMade, Takes, HoldsMade, HoldsBehind, Holds, AreOnce}
 use Rattle.dag_forest.specs.Choice.{Room, hits, in_kids, counts, times_of, is_above, ends_stretch, late, is_last, is_once, is_handed, is_leaf, has_kids, is_computed, is_needed, kids_read, reads_by, room_by, next_by, is_wanted, chosen}
 use Rattle.dag_forest.specs.Split.{kept_by}
-use Rattle.dag_forest.proofs.Stays.{at_new, at_old}
+use Rattle.dag_forest.proofs.lemmas.Maps.{at_new, at_old}
 use Rattle.dag_forest.proofs.Ready.{AllKids, kids_map, AreReady, ready_map}
 
 -- each node that is made is used behind

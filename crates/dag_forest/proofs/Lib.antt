@@ -1,14 +1,13 @@
+pub mod lemmas
 pub mod Keys
 pub mod Listed
 pub mod Tallies
 mod Stays
 mod Sound
-mod Once
 mod SlotLaws
 mod NarrowLaws
 pub mod StandingLaws
 pub mod Ready
-pub mod Chosen
 pub mod Fits
 pub mod Walked
 pub mod PlacedLaws

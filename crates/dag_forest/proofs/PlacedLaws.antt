@@ -13,7 +13,7 @@ use Rattle.dag_forest.specs.NewSlots.{offset_below}
 use Rattle.dag_forest.specs.Choice.{Room, reads_by, room_by, next_by, is_wanted, chosen, rooms_to}
 use Rattle.dag_forest.specs.Walks.{steps_of}
 use Rattle.dag_forest.specs.Standings.{AreStood, nothing, Placed, standing_for, reads_in, placed_node, placed}
-use Rattle.dag_forest.proofs.Stays.{at_new, at_old}
+use Rattle.dag_forest.proofs.lemmas.Maps.{at_new, at_old}
 use Rattle.dag_forest.proofs.Ready.{AllLow}
 
 abbrev pub standing_of : ℤ → Option Room → Parts → Standing

@@ -19,7 +19,8 @@ use Rattle.dag_forest.specs.Schedules.{Act, Made, Acts, head_of, operands, at}
 use Rattle.dag_forest.specs.Meaning.{is_end, is_handing, Temporary, Keeps, IsThere, CanKeep, IsTemporary, Same, HasNow, spent, Handed, Acted, Leaves, MadeRuns, Ran, Out, RunsBehind, Runs}
 use Rattle.dag_forest.specs.Emission.{AreOnce, tree_by, emitted, emit, Use, Lost, Stable, IsUsable, fade, faded, kids_use, read_use, kept_use, IsMade, Takes, HoldsMade, HoldsBehind, Holds, Distinct}
 use Rattle.dag_forest.specs.Meant.{ended_by}
-use Rattle.dag_forest.proofs.Stays.{at_new, at_old, HasValue, here, more, kept, new, behind as stays_behind, evaluates, unkept}
+use Rattle.dag_forest.proofs.lemmas.Maps.{at_new, at_old}
+use Rattle.dag_forest.proofs.Stays.{HasValue, here, more, kept, new, behind as stays_behind, evaluates, unkept}
 
 module _ (s : Setting) (keep : CallsKeep s.call) (keeps : Keeps) (distinct : Distinct keeps) (law : (m : ℕ) (t : Temporary) → keeps m ≡ Some t → IsTemporary s t) (T : List Tree → Point → Outcome) (whole : List Tree)
     (T-step : (t : Tree) (ts : List Tree) (left : ℕ) (w : World) → T (t ∷ ts) (with_left (suc left) w) ≡ act s whole t ts (with_left left w) (λ js p. T js p))

@@ -13,9 +13,9 @@ use Rattle.dag_forest.specs.Emission.{Lost, Distinct, no_tree}
 use Rattle.dag_forest.specs.Choice.{Room}
 use Rattle.dag_forest.specs.NewSlots.{offset_below}
 use Rattle.dag_forest.specs.Split.{Split, temporary_of, kept_by, keeps_of, room_of, room_count, slot_name, split_frame}
-use Rattle.dag_forest.proofs.Once.{acts_are_once}
+use Rattle.dag_forest.proofs.lemmas.Once.{acts_are_once}
 use Rattle.dag_forest.proofs.Ready.{acts_are_ready}
-use Rattle.dag_forest.proofs.Chosen.{apart, between}
+use Rattle.dag_forest.proofs.lemmas.Chosen.{apart, between}
 use Rattle.dag_forest.proofs.Fits.{are_used, holds_from}
 use Rattle.dag_forest.proofs.FrameLaws.{place_of}
 use Rattle.dag_forest.specs.Places.{Plain}

@@ -8,23 +8,12 @@ use Rattle.forests.specs.Worlds.{World, Point, Next, Went, then_do}
 use Rattle.forests.specs.Bodies.{Setting, does}
 use Rattle.forests.specs.Bodies.{evaluate}
 use Rattle.forests.specs.Alike.{AreAlike}
+use Rattle.dag_forest.proofs.lemmas.Maps.{at_new, at_old, still_made, unmade}
 use Rattle.dag_forest.specs.declared.kids.Kids.{Kids}
 use Rattle.dag_forest.specs.declared.kids.Kids.TheVariants.{Zero, One, Two}
 use Rattle.dag_forest.specs.Schedules.{operands, at}
 use Rattle.dag_forest.specs.Meaning.{Temporary, Keeps, IsThere, CanKeep, IsTemporary, SameBut, Same, HasNow, Leaves}
 use Rattle.dag_forest.specs.Emission.{tree_by, Use, Lost, Now, Stable, IsUsable, faded, least, kids_use, read_use, Distinct}
-
-pub at_new : {A : Type 0} (f : ℕ → A) (n : ℕ) (v : A) → at f n v n ≡ v
-at_new f n v = rw (eq-eqb n n refl) refl
-
-pub at_old : {A : Type 0} (f : ℕ → A) (n : ℕ) (v : A) (m : ℕ) → (m ≡ n → ⊥) → at f n v m ≡ f m
-at_old f n v m ne = rw (ne_eqb m n ne) refl
-
-still_made : (made : ℕ → Bool) (n m : ℕ) → made m ≡ true → at made n true m ≡ true
-still_made made n m h = ⊎_elim (λ e. ap (at made n true) e ∙ at_new made n true) (λ ne. at_old made n true m ne ∙ h) (cases_eq m n)
-
-unmade : (made : ℕ → Bool) (n m : ℕ) → at made n true m ≡ false → made m ≡ false
-unmade made n m h = ⊎_elim (λ e. absurd (true≢false (sym (ap (at made n true) e ∙ at_new made n true) ∙ h))) (λ ne. sym (at_old made n true m ne) ∙ h) (cases_eq m n)
 
 -- at each point where a tree of this use may stand
 abbrev pub Throughout : Keeps → (ℕ → Bool) → World → Use → (Point → Type 0) → Type 0

@@ -8,7 +8,7 @@ use Rattle.dag_forest.specs.Meaning.{Temporary}
 use Rattle.dag_forest.specs.Emission.{AreOnce}
 use Rattle.dag_forest.specs.Choice.{Room, counts, times_of, late, is_handed, is_computed, is_needed, wants, reads_by, room_by, next_by, is_wanted, chosen, IfRoom, AreSparing}
 use Rattle.dag_forest.specs.Split.{kept_by}
-use Rattle.dag_forest.proofs.Stays.{at_new, at_old}
+use Rattle.dag_forest.proofs.lemmas.Maps.{at_new, at_old}
 use Rattle.dag_forest.proofs.Fits.{AreUsed, handed_once}
 use Rattle.dag_forest.proofs.Weights.{IsThrift, AreThrifty}
 

@@ -12,7 +12,7 @@ use Rattle.dag_forest.specs.Meaning.{Temporary, Keeps}
 use Rattle.dag_forest.specs.Emission.{tree_by, tree_at, emit, emitted, AreOnce}
 use Rattle.dag_forest.specs.Choice.{hits, in_kids, counts, has_kids, is_leaf, is_computed}
 use Rattle.dag_forest.specs.Places.{Marked, Plain, erased, erased_root, erased_all, places, root_places, all_places, marked_over, marked_node, marked_root, marked_by, marked, times_computed}
-use Rattle.dag_forest.proofs.Stays.{at_new, at_old}
+use Rattle.dag_forest.proofs.lemmas.Maps.{at_new, at_old}
 use Rattle.dag_forest.proofs.Fits.{hit, miss}
 
 -- ---- maps

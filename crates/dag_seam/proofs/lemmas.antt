@@ -1,4 +1,3 @@
-pub mod Maps
 pub mod Within
 pub mod Turns
 pub mod Runs

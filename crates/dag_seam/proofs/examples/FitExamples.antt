@@ -6,7 +6,7 @@ use Rattle.op_forest.specs.declared.op.Op.TheVariants as op
 use Rattle.op_forest.specs.declared.suffix.Suffix.TheVariants.{I, P, B, V}
 use Rattle.op_forest.specs.declared.suffix.Suffix.{Suffix}
 use Rattle.dag_forest.specs.declared.key.Key.{Key}
-use Rattle.dag_seam.proofs.lemmas.Rooms.{some_one}
+use Rattle.dag_forest.proofs.lemmas.Chosen.{some_one}
 use Rattle.dag_seam.proofs.lemmas.Keys.{none_some}
 use Rattle.op_forest.specs.declared.sym.Sym.TheVariants as sym
 use Rattle.dag_forest.specs.declared.entry.Entry.TheVariants.{Root}

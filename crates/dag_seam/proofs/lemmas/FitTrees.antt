@@ -37,9 +37,9 @@ use Rattle.dag_forest.specs.Tally.{keys_of}
 use Rattle.dag_seam.specs.Fitting.{Gives, AreGiven, Fits, FitsNode, KeepsNoBlock, IsFitTree, AreFitTrees, address_label, label_below, target_from, target_at}
 use Rattle.dag_seam.specs.Rooms.{AreActs}
 use Rattle.dag_seam.proofs.lemmas.Acts.{HasParts}
-use Rattle.dag_seam.proofs.lemmas.Maps.{at_new, at_old}
+use Rattle.dag_forest.proofs.lemmas.Maps.{at_new, at_old}
 use Rattle.dag_seam.proofs.lemmas.RoomCauses.{room_has_kind}
-use Rattle.dag_seam.proofs.lemmas.Rooms.{some_one}
+use Rattle.dag_forest.proofs.lemmas.Chosen.{some_one}
 use Rattle.dag_seam.proofs.lemmas.SlotTrees.{IsValueTree, no_void, read_fits, read_no_label, store_fits}
 
 -- ---- the head and the operands of a tree

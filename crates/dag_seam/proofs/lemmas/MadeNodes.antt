@@ -9,7 +9,7 @@ use Rattle.dag_forest.specs.declared.entry.Entry.TheVariants.{Value, Root}
 use Rattle.dag_forest.specs.Schedules.{at, waits, is_in, parted, reversed, kids_list, kids_of, number_of, with_below, with_other, in_turn}
 use Rattle.dag_forest.specs.Tally.{node_count}
 use Rattle.dag_seam.specs.Turns.{waiting_behind, made_behind, made_of, Makes}
-use Rattle.dag_seam.proofs.lemmas.Maps.{at_old, still_made}
+use Rattle.dag_forest.proofs.lemmas.Maps.{at_old, still_made}
 use Rattle.dag_seam.proofs.lemmas.Turns.{turns_append, made_append}
 
 pub still_behind : (xs : List Act) (made : ℕ → Bool) (m : ℕ) → made m ≡ true → made_behind xs made m ≡ true

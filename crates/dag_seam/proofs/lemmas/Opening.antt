@@ -20,7 +20,7 @@ use Rattle.dag_forest.specs.Schedules.{is_in, kids_list, head_of, operands, at}
 use Rattle.dag_forest.specs.Tally.{kids_call, tally, keys_of, key_behind, AreFormed, node_count, ends}
 use Rattle.dag_seam.specs.Turns.{made_of}
 use Rattle.dag_seam.specs.Open.{IsNow, Open}
-use Rattle.dag_seam.proofs.lemmas.Maps.{at_new, at_old}
+use Rattle.dag_forest.proofs.lemmas.Maps.{at_new, at_old}
 use Rattle.dag_seam.proofs.lemmas.Keys.{keys_value, keys_root, stretch_value, stretch_root, last_get, read_mark, are_marked, count_keys, are_earlier, within, call_ends}
 use Rattle.dag_seam.proofs.lemmas.MadeNodes.{next_unmade, made_more}
 

@@ -20,8 +20,9 @@ use Rattle.dag_forest.specs.Tally.{keys_of}
 use Rattle.dag_seam.specs.Rooms.{IsMade, HasCause, AreActs}
 use Rattle.dag_seam.specs.Turns.{Makes}
 use Rattle.dag_seam.proofs.lemmas.Acts.{HasParts, acts_have_parts}
-use Rattle.dag_seam.proofs.lemmas.Once.{acts_are_once}
-use Rattle.dag_seam.proofs.lemmas.Rooms.{some_one, IsRoomAt, room_is, room_made, is_made_makes}
+use Rattle.dag_forest.proofs.lemmas.Once.{acts_are_once}
+use Rattle.dag_forest.proofs.lemmas.Chosen.{some_one}
+use Rattle.dag_seam.proofs.lemmas.Rooms.{IsRoomAt, room_is, room_made, is_made_makes}
 
 -- the room of a node that is made
 pub room_at : (es : List Entry) (n : ℕ) (x : Parts) (later : List Act) → IsMade (acts_of es) n x later → IsRoomAt (room_of es n) n x later

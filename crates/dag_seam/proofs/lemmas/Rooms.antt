@@ -14,21 +14,9 @@ use Rattle.dag_forest.specs.Split.{room_count}
 use Rattle.dag_forest.specs.Tally.{node_count}
 use Rattle.dag_seam.specs.Turns.{Makes}
 use Rattle.dag_seam.specs.Rooms.{IsMade}
-use Rattle.dag_seam.proofs.lemmas.Maps.{at_new, at_old}
+use Rattle.dag_forest.proofs.lemmas.Maps.{at_new, at_old}
+use Rattle.dag_forest.proofs.lemmas.Chosen.{none_some, at_case}
 use Rattle.dag_seam.proofs.lemmas.Once.{not_again}
-
-pub some_one : {A : Type 0} (u v : A) → Some u ≡ Some v → u ≡ v
-some_one u v e = cc
-
-none_some : {A : Type 0} (u : A) → None ≡ Some u → ⊥
-none_some u e = cc
-
--- a map with one value more
-pub at_case : (rest : ℕ → Option Room) (n m : ℕ) (k : Option Room) (r : Room) → at rest n k m ≡ Some r → ((m ≡ n) × (k ≡ Some r)) ⊎ (rest m ≡ Some r)
-at_case rest n m k r e = ⊎_elim
-    (λ q. inl (q, sym (ap (at rest n k) q ∙ at_new rest n k) ∙ e))
-    (λ q. inr (sym (at_old rest n k m q) ∙ e))
-    (cases_eq m n)
 
 pub is_made_makes : (xs : List Act) (m : ℕ) (y : Parts) (later : List Act) → IsMade xs m y later → Makes m xs
 is_made_makes [] m y later h = h
@@ -65,59 +53,6 @@ room_made (Made m y ∷ xs) reads t n r e =
     (λ q. let z = room_made xs reads' (next_by w t) n r q in (z.0, z.1, inr z.2))
     (at_case (chosen xs reads' (next_by w t)) m n (room_by w y t) r e)
 room_made (Acts y ∷ xs) reads t n r e = room_made xs reads t n r e
-
--- ---- numbers
-
-abbrev Between : ℕ → ℕ → (ℕ → Option Room) → Type 0
-Between t u rooms = (m : ℕ) (r : Room) → rooms m ≡ Some r → (t ≤ r.number) × (r.number < u)
-
-between_made : (w : Bool) (x : Parts) (rest : ℕ → Option Room) (n t u : ℕ) → next_by w t ≤ u → Between (next_by w t) u rest → Between t u (at rest n (room_by w x t))
-between_made false x rest n t u l h m r e = ⊎_elim (λ q. absurd (none_some r q.1)) (λ q. h m r q) (at_case rest n m None r e)
-between_made true x rest n t u l h m r e = ⊎_elim
-    (λ q. let z : t ≡ r.number = ap (λ (y : Room). y.number) (some_one _ r q.1) in (omega (arith, z), omega (arith, z, l)))
-    (λ q. let z = h m r q in (omega (arith, z.0), z.1))
-    (at_case rest n m (room_by true x t) r e)
-
-grows : (xs : List Act) (reads : ℕ → Bool) (t : ℕ) → t ≤ rooms_to xs reads t
-grows [] reads t = omega arith
-grows (Made n x ∷ xs) reads t = by (is_wanted xs reads n x) (rooms_to (Made n x ∷ xs) reads t) (grows xs (at reads n (not (is_wanted xs reads n x) && reads_by reads x)) (next_by (is_wanted xs reads n x) t))
-  where
-    by : (w : Bool) (u : ℕ) → next_by w t ≤ u → t ≤ u
-    by false u h = h
-    by true u h = omega (arith, h)
-grows (Acts x ∷ xs) reads t = grows xs reads t
-
-pub between : (xs : List Act) (reads : ℕ → Bool) (t : ℕ) → Between t (rooms_to xs reads t) (chosen xs reads t)
-between [] reads t = λ m r e. absurd (none_some r e)
-between (Made n x ∷ xs) reads t =
-    let w = is_wanted xs reads n x in
-    let reads' = at reads n (not w && reads_by reads x) in
-    between_made w x (chosen xs reads' (next_by w t)) n t (rooms_to xs reads' (next_by w t)) (grows xs reads' (next_by w t)) (between xs reads' (next_by w t))
-between (Acts x ∷ xs) reads t = between xs reads t
-
-abbrev pub Apart : (ℕ → Option Room) → Type 0
-Apart rooms = (m p : ℕ) (r q : Room) → rooms m ≡ Some r → rooms p ≡ Some q → r.number ≡ q.number → m ≡ p
-
-apart_made : (w : Bool) (x : Parts) (rest : ℕ → Option Room) (n t u : ℕ) → Between (next_by w t) u rest → Apart rest → Apart (at rest n (room_by w x t))
-apart_made false x rest n t u h d m p r q a b e = ⊎_elim (λ z. absurd (none_some r z.1)) (λ z. ⊎_elim (λ y. absurd (none_some q y.1)) (λ y. d m p r q z y e) (at_case rest n p None q b)) (at_case rest n m None r a)
-apart_made true x rest n t u h d m p r q a b e = ⊎_elim
-    (λ z. ⊎_elim
-    (λ y. z.0 ∙ sym y.0)
-    (λ y. let f = h p q y in let g : t ≡ r.number = ap (λ (v : Room). v.number) (some_one _ r z.1) in absurd (omega (arith, f.0, g, e)))
-    (at_case rest n p (room_by true x t) q b))
-    (λ z. ⊎_elim
-    (λ y. let f = h m r z in let g : t ≡ q.number = ap (λ (v : Room). v.number) (some_one _ q y.1) in absurd (omega (arith, f.0, g, e)))
-    (λ y. d m p r q z y e)
-    (at_case rest n p (room_by true x t) q b))
-    (at_case rest n m (room_by true x t) r a)
-
-pub apart : (xs : List Act) (reads : ℕ → Bool) (t : ℕ) → Apart (chosen xs reads t)
-apart [] reads t = λ m p r q a b e. absurd (none_some r a)
-apart (Made n x ∷ xs) reads t =
-    let w = is_wanted xs reads n x in
-    let reads' = at reads n (not w && reads_by reads x) in
-    apart_made w x (chosen xs reads' (next_by w t)) n t (rooms_to xs reads' (next_by w t)) (between xs reads' (next_by w t)) (apart xs reads' (next_by w t))
-apart (Acts x ∷ xs) reads t = apart xs reads t
 
 -- ---- how many
 

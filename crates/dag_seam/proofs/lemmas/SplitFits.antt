@@ -24,7 +24,7 @@ use Rattle.dag_seam.specs.Rooms.{AreEntries}
 use Rattle.dag_seam.proofs.lemmas.Acts.{HasParts, IsAny, acts_are, entries_zip, entries_have_parts}
 use Rattle.dag_seam.proofs.lemmas.FitTrees.{FitsAct, FitsActing, all_fit}
 use Rattle.dag_seam.proofs.lemmas.NewSlots.{lies_in_new}
-use Rattle.dag_seam.proofs.lemmas.Rooms.{between}
+use Rattle.dag_forest.proofs.lemmas.Chosen.{between}
 
 -- a root of the block is one
 roots_own : (P : ℕ → Parts → Type 0) (all es : List Entry) (n : ℕ) → ((l : ℕ) → HasRoot (P l) es → HasRoot (P l) all) → AreEntries (λ m x. Unit {0}) (λ x. (l : ℕ) → P l x → HasRoot (P l) all) es n

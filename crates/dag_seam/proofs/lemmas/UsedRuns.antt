@@ -18,8 +18,9 @@ use Rattle.dag_forest.specs.Meaning.{Acted, Leaves, is_end, stepped, is_handing,
 use Rattle.dag_forest.specs.Schedules.{is_in, kids_list, head_of, operands, at, in_turn, all_uses, used, acts_of}
 use Rattle.dag_seam.specs.Ran.{IsOver, IsOn}
 use Rattle.dag_seam.specs.Turns.{made_behind, Makes}
-use Rattle.dag_seam.proofs.lemmas.Maps.{at_new, at_old, unmade}
-use Rattle.dag_seam.proofs.lemmas.Once.{turns_are_once, not_again, makes_used}
+use Rattle.dag_forest.proofs.lemmas.Maps.{at_new, at_old, unmade}
+use Rattle.dag_forest.proofs.lemmas.Once.{turns_are_once}
+use Rattle.dag_seam.proofs.lemmas.Once.{not_again, makes_used}
 use Rattle.dag_seam.proofs.lemmas.Runs.{Passes, Some_ran, made_on, root_on}
 use Rattle.dag_seam.proofs.lemmas.UsedCalls.{CallsUsed, calls_used}
 use Rattle.dag_seam.proofs.lemmas.Within.{in_left, in_right, in_first, apart_in}

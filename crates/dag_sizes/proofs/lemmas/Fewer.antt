@@ -9,7 +9,7 @@ use Rattle.dag_forest.specs.Choice.{in_kids, counts, times_of, is_above, late, e
 use Rattle.dag_forest.specs.Emission.{AreOnce}
 use Rattle.dag_forest.specs.Entries.{is_call}
 use Rattle.dag_forest.specs.Schedules.{at}
-use Rattle.dag_seam.proofs.lemmas.Maps.{at_new, at_old, unmade, unmade_other}
+use Rattle.dag_forest.proofs.lemmas.Maps.{at_new, at_old, unmade, unmade_other}
 use Rattle.dag_sizes.specs.Sizes.{store_size, read_size, node_size}
 use Rattle.dag_sizes.specs.Weights.{IsFewer, root_count, is_heavy, weight_of}
 use Rattle.dag_sizes.proofs.lemmas.OneUse.{heavy_by}

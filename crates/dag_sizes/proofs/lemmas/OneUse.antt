@@ -14,7 +14,7 @@ use Rattle.dag_forest.specs.Emission.{AreOnce}
 use Rattle.dag_forest.specs.Entries.{is_call, is_read}
 use Rattle.dag_forest.specs.Schedules.{at}
 use Rattle.dag_seam.specs.Rooms.{AreActs}
-use Rattle.dag_seam.proofs.lemmas.Maps.{at_new, at_old}
+use Rattle.dag_forest.proofs.lemmas.Maps.{at_new, at_old}
 use Rattle.dag_seam.proofs.lemmas.Within.{or_true, or_left, or_right}
 use Rattle.dag_sizes.specs.Sizes.{store_size, read_size, node_size}
 use Rattle.dag_sizes.specs.Weights.{is_heavy, weight_of, use_size}

@@ -26,8 +26,8 @@ use Rattle.dag_forest.specs.NewSlots.{offset_below}
 use Rattle.dag_forest.specs.Schedules.{head_of, at, acts_of, in_turn}
 use Rattle.dag_forest.specs.Slots.{slot_read, slot_store}
 use Rattle.dag_forest.specs.Split.{Split, split_trees, room_of, room_count, temporary_of, kept_by}
-use Rattle.dag_seam.proofs.lemmas.Maps.{at_new, at_old, unmade, unmade_other}
-use Rattle.dag_seam.proofs.lemmas.Once.{acts_are_once}
+use Rattle.dag_forest.proofs.lemmas.Maps.{at_new, at_old, unmade, unmade_other}
+use Rattle.dag_forest.proofs.lemmas.Once.{acts_are_once}
 use Rattle.dag_sizes.specs.Sizes.{store_size, read_size, node_size, size_of, split_size}
 use Rattle.dag_sizes.proofs.lemmas.Uses.{sum_kids, sum_uses, uses_at, no_uses, AreUsed, are_used}
 use Rattle.dag_sizes.proofs.lemmas.Usable.{AllKids, all_map, faded_usable, kids_usable, operands_usable}

@@ -14,7 +14,7 @@ use Rattle.dag_forest.specs.Emission.{AreOnce}
 use Rattle.dag_forest.specs.Entries.{is_call, is_read}
 use Rattle.dag_forest.specs.Schedules.{at}
 use Rattle.dag_seam.specs.Rooms.{AreActs}
-use Rattle.dag_seam.proofs.lemmas.Maps.{at_new, at_old, unmade, unmade_other}
+use Rattle.dag_forest.proofs.lemmas.Maps.{at_new, at_old, unmade, unmade_other}
 use Rattle.dag_seam.proofs.lemmas.Within.{or_true}
 use Rattle.dag_sizes.specs.Sizes.{store_size, read_size, node_size}
 use Rattle.dag_sizes.specs.Weights.{AreRoots, IsSwap, extra_size, is_heavy, new_size, root_count, weight_of}

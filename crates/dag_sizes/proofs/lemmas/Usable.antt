@@ -13,7 +13,7 @@ use Rattle.dag_forest.specs.Entries.{is_call, is_read}
 use Rattle.dag_forest.specs.Meaning.{is_end, is_handing, Temporary, Keeps}
 use Rattle.dag_forest.specs.Schedules.{at}
 use Rattle.dag_seam.specs.Turns.{Makes}
-use Rattle.dag_seam.proofs.lemmas.Maps.{at_new, at_old}
+use Rattle.dag_forest.proofs.lemmas.Maps.{at_new, at_old}
 use Rattle.dag_seam.proofs.lemmas.Once.{not_again}
 use Rattle.dag_sizes.proofs.lemmas.Uses.{miss, AreUsed}
 

@@ -8,7 +8,7 @@ use Rattle.dag_forest.specs.declared.kids.Kids.{Kids}
 use Rattle.dag_forest.specs.declared.kids.Kids.TheVariants.{Zero, One, Two}
 use Rattle.dag_forest.specs.Choice.{hits, in_kids, counts}
 use Rattle.dag_forest.specs.Schedules.{at, is_in, kids_list, all_uses, used}
-use Rattle.dag_seam.proofs.lemmas.Maps.{at_new, at_old}
+use Rattle.dag_forest.proofs.lemmas.Maps.{at_new, at_old}
 use Rattle.dag_seam.proofs.lemmas.Within.{or_false}
 
 pub hit : (m n : ℕ) → m ≡ n → hits m n ≡ 1

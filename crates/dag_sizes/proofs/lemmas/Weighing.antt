@@ -16,8 +16,8 @@ use Rattle.dag_forest.specs.Choice.{in_kids, counts, times_of, late, is_last, is
 use Rattle.dag_forest.specs.Emission.{AreOnce}
 use Rattle.dag_forest.specs.Entries.{is_call, is_read}
 use Rattle.dag_forest.specs.Schedules.{at, acts_of, in_turn}
-use Rattle.dag_seam.proofs.lemmas.Maps.{at_new, at_old, unmade, unmade_other}
-use Rattle.dag_seam.proofs.lemmas.Once.{acts_are_once}
+use Rattle.dag_forest.proofs.lemmas.Maps.{at_new, at_old, unmade, unmade_other}
+use Rattle.dag_forest.proofs.lemmas.Once.{acts_are_once}
 use Rattle.dag_seam.proofs.lemmas.Within.{or_true, or_false}
 use Rattle.dag_sizes.specs.Sizes.{store_size, read_size, node_size, size_of, split_size}
 use Rattle.dag_sizes.specs.Weights.{all_acts, is_heavy, weight_of, weight}

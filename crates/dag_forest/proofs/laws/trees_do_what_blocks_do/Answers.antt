@@ -6,7 +6,7 @@ use Rattle.forests.specs.Kept.{calls_kept}
 use Rattle.forests.specs.OneRoot.{runs_in, one_root, no_steps}
 use Rattle.dag_forest.specs.Emission.{Lost, no_tree}
 use Rattle.dag_forest.specs.Schedules.{acts_of}
-use Rattle.dag_forest.proofs.Once.{acts_are_once}
+use Rattle.dag_forest.proofs.lemmas.Once.{acts_are_once}
 use Rattle.dag_forest.proofs.Sound.{sound}
 use Rattle.dag_forest.proofs.laws.trees_do_what_blocks_do.Goals as goal
 

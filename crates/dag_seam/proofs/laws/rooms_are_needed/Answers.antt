@@ -1,6 +1,7 @@
 use Rattle.std.proofs.Common.{false}
 use Rattle.dag_forest.specs.Schedules.{acts_of}
-use Rattle.dag_seam.proofs.lemmas.Rooms.{apart, between, few_rooms}
+use Rattle.dag_forest.proofs.lemmas.Chosen.{apart, between}
+use Rattle.dag_seam.proofs.lemmas.Rooms.{few_rooms}
 use Rattle.dag_seam.proofs.lemmas.RoomCauses.{call_has_room, room_has_cause, handed_has_none, once_has_none, room_has_kind, kept_is_made}
 use Rattle.dag_seam.proofs.laws.rooms_are_needed.Goals as goal
 

@@ -1,23 +1,23 @@
--- The rooms of nodes.
+-- The rooms of nodes: their numbers, no two of which are one.
 use Rattle.std.proofs.Common.{◌≡◌, ⊎_elim, ℕ, ◌<◌, ◌≤◌, Bool, true, false, Option, Some, None, List, [], ◌∷◌, inl, inr, sym, ap, ◌∙◌, arith}
 use Rattle.std.specs.Prelude.{◌⊎◌, ◌&&◌, not}
 use Rattle.std.proofs.lemmas.Bool.{cases_eq}
 use Rattle.dag_forest.specs.declared.parts.Parts.{Parts}
 use Rattle.dag_forest.specs.Schedules.{Act, Made, Acts, at}
 use Rattle.dag_forest.specs.Choice.{Room, room_by, next_by, is_wanted, reads_by, chosen, rooms_to}
-use Rattle.dag_forest.proofs.Stays.{at_new, at_old}
+use Rattle.dag_forest.proofs.lemmas.Maps.{at_new, at_old}
 
 abbrev Rooms : Type 0
 Rooms = ℕ → Option Room
 
-none_some : {A : Type 0} (u : A) → None ≡ Some u → ⊥
+pub none_some : {A : Type 0} (u : A) → None ≡ Some u → ⊥
 none_some u e = cc
 
 pub some_one : {A : Type 0} (u v : A) → Some u ≡ Some v → u ≡ v
 some_one u v e = cc
 
 -- a map with one value more
-at_case : (rest : Rooms) (n m : ℕ) (k : Option Room) (r : Room) → at rest n k m ≡ Some r → ((m ≡ n) × (k ≡ Some r)) ⊎ (rest m ≡ Some r)
+pub at_case : (rest : Rooms) (n m : ℕ) (k : Option Room) (r : Room) → at rest n k m ≡ Some r → ((m ≡ n) × (k ≡ Some r)) ⊎ (rest m ≡ Some r)
 at_case rest n m k r e = ⊎_elim
     (λ q. inl (q, sym (ap (at rest n k) q ∙ at_new rest n k) ∙ e))
     (λ q. inr (sym (at_old rest n k m q) ∙ e))

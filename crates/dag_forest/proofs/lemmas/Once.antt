@@ -1,4 +1,4 @@
--- A block makes each of its nodes once.
+-- A block makes each of its nodes once, with the unused ones and without them.
 use Rattle.std.proofs.Common.{◌≡◌, ⊎_elim, ℕ, suc, ◌+◌, ◌≤◌, ◌==◌, Bool, true, false, List, [], ◌∷◌, ◌++◌, refl, ap, arith}
 use Rattle.std.specs.Prelude.{cond, nat_le}
 use Rattle.std.proofs.lemmas.Bool.{cases_eq, eq-eqb}
@@ -9,7 +9,7 @@ use Rattle.std.specs.Prelude.{if◌then◌else◌}
 use Rattle.dag_forest.specs.declared.parts.Parts.{Parts}
 use Rattle.dag_forest.specs.Schedules.{Act, Made, Acts, Parted, at, with_below, with_other, is_in, waits, number_of, kids_of, kids_list, parted, reversed, in_turn, all_uses, used, acts_of}
 use Rattle.dag_forest.specs.Emission.{AreOnce}
-use Rattle.dag_forest.proofs.Stays.{at_old}
+use Rattle.dag_forest.proofs.lemmas.Maps.{at_old}
 
 abbrev hit : ℕ → ℕ → ℕ
 hit m n = cond (m == n) 1 0
@@ -78,9 +78,9 @@ times_used m (Acts x ∷ as') = let h = times_used m as' in omega (arith, h)
 abbrev made_before : (ℕ → Bool) → ℕ → ℕ
 made_before made m = cond (made m) 1 0
 
-fresh_by : (b : Bool) (n k : ℕ) → (1 + k) + cond b 1 0 ≤ 1 → b ≡ false
-fresh_by true n k h = absurd (omega (arith, h))
-fresh_by false n k h = refl
+fresh_by : (b : Bool) (k : ℕ) → (1 + k) + cond b 1 0 ≤ 1 → b ≡ false
+fresh_by true k h = absurd (omega (arith, h))
+fresh_by false k h = refl
 
 few : (b : Bool) → cond b 1 0 ≤ 1
 few true = omega arith
@@ -96,12 +96,15 @@ are_once : (xs : List Act) (made : ℕ → Bool) → ((m : ℕ) → times m xs +
 are_once [] made h = tt
 are_once (Made n x ∷ as') made h =
     let here = h n in let e : hit n n ≡ 1 = rw (eq-eqb n n refl) refl in
-    let fresh : made n ≡ false = fresh_by (made n) n (times n as') (omega (arith, here, e)) in
+    let fresh : made n ≡ false = fresh_by (made n) (times n as') (omega (arith, here, e)) in
     (fresh, are_once as' (at made n true) (λ m. let all = h m in let next = made_next made n m fresh in omega (arith, all, next)))
 are_once (Acts x ∷ as') made h = are_once as' made (λ m. let all = h m in omega (arith, all))
 
 at_most_one : (n m : ℕ) → to_come n m ≤ 1
 at_most_one n m = search (nat_tests, arith)
+
+pub turns_are_once : (entries : List Entry) → AreOnce (in_turn entries 0 []) (λ m. false)
+turns_are_once entries = are_once (in_turn entries 0 []) (λ m. false) (λ m. let t = times_in_turn m entries 0 [] in let c = at_most_one 0 m in omega (arith, t, c))
 
 pub acts_are_once : (entries : List Entry) → AreOnce (acts_of entries) (λ m. false)
 acts_are_once entries = are_once (acts_of entries) (λ m. false) (λ m.
