@@ -28,6 +28,7 @@ pub fn read_place(
 }
 
 /// The number that the place of an expression holds, to which this points, but for a bit-field's; `None` says nothing.
+#[inline(always)]
 pub fn read_number(program: &Program, storage: &Storage, place: &CoreExpr, p: Value) -> Option<u32>
     ensures { IfSome result (λ n. held program.now.order (spot_of (tree program.now place.now)) storage.now.objects p ≡ Ok (Number n)) }
 {

@@ -26,6 +26,7 @@ pub enum Shape {
 
 impl Shape {
     /// How the parts of an expression of this kind are evaluated.
+    #[inline(always)]
     pub fn of(what: &CoreKind) -> Self
         ensures { result ≡ shape_of what.now }
     {

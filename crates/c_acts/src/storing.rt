@@ -17,6 +17,7 @@ pub struct Writing {
 
 /// Writes a value of its type where the last one points to. After an `Undefined` nothing has changed, and after `Memory`
 /// some of its bytes are written.
+#[inline(always)]
 pub fn store(
     storage: &mut Storage,
     how: Writing,

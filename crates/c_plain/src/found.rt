@@ -26,6 +26,7 @@ pub(crate) fn found(given: Result<Option<Value>, Stop>) -> Option<Value>
 }
 
 /// The number of a constant.
+#[inline(always)]
 pub(crate) fn leaf_word(e: &CoreExpr) -> Option<u32>
     ensures { IfSome result (λ n. (p : Program) → (w : World) → GivesAtOnce p w e.now (Number n)) }
 {
@@ -36,6 +37,7 @@ pub(crate) fn leaf_word(e: &CoreExpr) -> Option<u32>
 }
 
 /// The pointer to an object.
+#[inline(always)]
 pub(crate) fn leaf_pointer(program: &Program, world: &World, e: &CoreExpr) -> Option<Value>
     requires names { HasNames program.now }
     requires shape { shape_of (what_of e.now) ≡ shaped.Leaf }
@@ -51,6 +53,7 @@ pub(crate) fn leaf_pointer(program: &Program, world: &World, e: &CoreExpr) -> Op
 }
 
 /// The number that a place holds, other than a bit-field.
+#[inline(always)]
 pub(crate) fn read_word(
     program: &Program,
     world: &World,
@@ -67,6 +70,7 @@ pub(crate) fn read_word(
 }
 
 /// What one with one part makes of a number.
+#[inline(always)]
 pub(crate) fn changed_word(e: &CoreExpr, part: &CoreExpr, n: u32) -> Option<u32>
     ensures { IfSome result (λ m. (p : Program) → (x : World) → (calls : Calls) → Comes (λ k w. row (setting_of p calls) (what_of e.now) (known p (type_of e.now)) (line_of e.now) (giving (tree p part.now) (Number n) ∷ []) k w) x x (Ok (Some (Number m)))) }
 {
@@ -78,6 +82,7 @@ pub(crate) fn changed_word(e: &CoreExpr, part: &CoreExpr, n: u32) -> Option<u32>
 }
 
 /// What one with two parts makes of two numbers.
+#[inline(always)]
 pub(crate) fn combined_word(
     program: &Program,
     e: &CoreExpr,

@@ -10,6 +10,7 @@ use c_worlds::Stop;
 use lcc_base::Cause;
 
 /// The only part.
+#[inline(always)]
 pub(crate) fn one_part(e: &CoreExpr) -> Option<&CoreExpr>
     ensures some { IfSome result (λ a. kids_of e.now ≡ one a.now) }
     ensures none { IfNone result (count (kids_of e.now) ≢ 1) }
@@ -22,6 +23,7 @@ pub(crate) fn one_part(e: &CoreExpr) -> Option<&CoreExpr>
 }
 
 /// Both parts.
+#[inline(always)]
 pub(crate) fn two_parts(e: &CoreExpr) -> Option<(&CoreExpr, &CoreExpr)>
     ensures some { IfSome result (λ r. kids_of e.now ≡ two r.0.now r.1.now) }
     ensures none { IfNone result (count (kids_of e.now) ≢ 2) }
@@ -46,6 +48,7 @@ pub(crate) fn three_parts(e: &CoreExpr) -> Option<(&CoreExpr, &CoreExpr, &CoreEx
 }
 
 /// The first part, and those behind it.
+#[inline(always)]
 pub(crate) fn first_part(e: &CoreExpr) -> Option<(&CoreExpr, &[CoreExpr])>
     ensures some { IfSome result (λ r. kids_of e.now ≡ Cores r.0.now (cores_of r.1.now)) }
     ensures none { IfNone result (kids_of e.now ≡ NoCore) }

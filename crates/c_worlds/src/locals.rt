@@ -44,6 +44,7 @@ impl Locals {
     }
 
     /// The object of the running call at a place.
+    #[inline(always)]
     pub fn get(&self, place: u32) -> Option<Value>
         ensures { result ≡ slice_get self.now.here place }
     {

@@ -12,6 +12,7 @@ use c_values::kinds;
 use objects::Scalar;
 
 /// The type's place, or that of void where the table has no such type.
+#[inline(always)]
 pub fn known_type(types: &TypeTable, id: TypeId) -> TypeId
     ensures means { type_at types.now result ≡ type_at types.now id }
     ensures within { result < length types.now.forms }
@@ -24,6 +25,7 @@ pub fn known_type(types: &TypeTable, id: TypeId) -> TypeId
 }
 
 /// The width and sign of the type; those of a pointer where it is none of a number.
+#[inline(always)]
 pub fn scalar(types: &TypeTable, id: TypeId) -> Scalar
     ensures { result ≡ scalar_of (type_at types.now id) }
 {
