@@ -126,7 +126,7 @@ statement_form_lines (StatementForm-F.If e s (Some t)) line = refl
 statement_form_lines (StatementForm-F.Switch e s) line = refl
 statement_form_lines (StatementForm-F.While e s) line = refl
 statement_form_lines (StatementForm-F.Do s e) line = refl
-statement_form_lines (StatementForm-F.For a b c s) line = refl
+statement_form_lines (StatementForm-F.For h s) line = refl
 statement_form_lines (StatementForm-F.Goto n) line = refl
 statement_form_lines StatementForm-F.Continue line = refl
 statement_form_lines StatementForm-F.Break line = refl
@@ -176,9 +176,9 @@ pub statement_form_do : (s : _) (e : _) → statement_form_shown (statement_form
 unfolding statement_form_shown statement_shown block_shown expr_shown
 statement_form_do s e = ap (λ g. statement_text (g 0)) (is_do s e)
 
-pub statement_form_for : (a : _) (b : _) (c : _) (s : _) → statement_form_shown (statement_form.For a b c s) ≡ (word_text 13 ++ sign_text 2 ++ shown_if_any expr_shown a ++ sign_text 32 ++ shown_if_any expr_shown b ++ sign_text 32 ++ shown_if_any expr_shown c ++ sign_text 3) ++ statement_shown s.value
+pub statement_form_for : (h : _) (s : _) → statement_form_shown (statement_form.For h s) ≡ (word_text 13 ++ sign_text 2 ++ shown_if_any expr_shown h.value.first ++ sign_text 32 ++ shown_if_any expr_shown h.value.test ++ sign_text 32 ++ shown_if_any expr_shown h.value.last ++ sign_text 3) ++ statement_shown s.value
 unfolding statement_form_shown statement_shown block_shown expr_shown
-statement_form_for a b c s = ap (λ g. statement_text (g 0)) (is_for a b c s) ∙ ap (λ t. word_text 13 ++ sign_text 2 ++ t ++ sign_text 32 ++ maybe_expr_text (maybe_of b) ++ sign_text 32 ++ maybe_expr_text (maybe_of c) ++ sign_text 3 ++ statement_text (statement_of s.value)) (any_expr a) ∙ ap (λ t. word_text 13 ++ sign_text 2 ++ shown_if_any expr_shown a ++ sign_text 32 ++ t ++ sign_text 32 ++ maybe_expr_text (maybe_of c) ++ sign_text 3 ++ statement_text (statement_of s.value)) (any_expr b) ∙ ap (λ t. word_text 13 ++ sign_text 2 ++ shown_if_any expr_shown a ++ sign_text 32 ++ shown_if_any expr_shown b ++ sign_text 32 ++ t ++ sign_text 3 ++ statement_text (statement_of s.value)) (any_expr c)
+statement_form_for h s = ap (λ g. statement_text (g 0)) (is_for h s) ∙ ap (λ t. word_text 13 ++ sign_text 2 ++ t ++ sign_text 32 ++ maybe_expr_text (maybe_of h.value.test) ++ sign_text 32 ++ maybe_expr_text (maybe_of h.value.last) ++ sign_text 3 ++ statement_text (statement_of s.value)) (any_expr h.value.first) ∙ ap (λ t. word_text 13 ++ sign_text 2 ++ shown_if_any expr_shown h.value.first ++ sign_text 32 ++ t ++ sign_text 32 ++ maybe_expr_text (maybe_of h.value.last) ++ sign_text 3 ++ statement_text (statement_of s.value)) (any_expr h.value.test) ∙ ap (λ t. word_text 13 ++ sign_text 2 ++ shown_if_any expr_shown h.value.first ++ sign_text 32 ++ shown_if_any expr_shown h.value.test ++ sign_text 32 ++ t ++ sign_text 3 ++ statement_text (statement_of s.value)) (any_expr h.value.last)
 
 pub statement_form_goto : (n : _) → statement_form_shown (statement_form.Goto n) ≡ word_text 14 ++ name_text n ++ sign_text 32
 unfolding statement_form_shown statement_shown block_shown expr_shown

@@ -114,7 +114,7 @@ statement_form_lines (StatementForm-F.If e s (Some t)) line = refl
 statement_form_lines (StatementForm-F.Switch e s) line = refl
 statement_form_lines (StatementForm-F.While e s) line = refl
 statement_form_lines (StatementForm-F.Do s e) line = refl
-statement_form_lines (StatementForm-F.For a b c s) line = refl
+statement_form_lines (StatementForm-F.For h s) line = refl
 statement_form_lines (StatementForm-F.Goto n) line = refl
 statement_form_lines StatementForm-F.Continue line = refl
 statement_form_lines StatementForm-F.Break line = refl
@@ -164,9 +164,9 @@ pub statement_form_do : (s : _) (e : _) → statement_form_height (statement_for
 unfolding statement_form_height statement_high block_high expr_high
 statement_form_do s e = ap (λ g. statement_height (g 0)) (is_do s e)
 
-pub statement_form_for : (a : _) (b : _) (c : _) (s : _) → statement_form_height (statement_form.For a b c s) ≡ max (max (max (if_any expr_high a) (if_any expr_high b)) (if_any expr_high c)) (statement_high s.value) + 1
+pub statement_form_for : (h : _) (s : _) → statement_form_height (statement_form.For h s) ≡ max (max (max (if_any expr_high h.value.first) (if_any expr_high h.value.test)) (if_any expr_high h.value.last)) (statement_high s.value) + 1
 unfolding statement_form_height statement_high block_high expr_high
-statement_form_for a b c s = ap (λ g. statement_height (g 0)) (is_for a b c s) ∙ ap (λ n. max (max (max n (maybe_height (maybe_of b))) (maybe_height (maybe_of c))) (statement_height (statement_of s.value)) + 1) (any_expr a) ∙ ap (λ n. max (max (max (if_any expr_high a) n) (maybe_height (maybe_of c))) (statement_height (statement_of s.value)) + 1) (any_expr b) ∙ ap (λ n. max (max (max (if_any expr_high a) (if_any expr_high b)) n) (statement_height (statement_of s.value)) + 1) (any_expr c)
+statement_form_for h s = ap (λ g. statement_height (g 0)) (is_for h s) ∙ ap (λ n. max (max (max n (maybe_height (maybe_of h.value.test))) (maybe_height (maybe_of h.value.last))) (statement_height (statement_of s.value)) + 1) (any_expr h.value.first) ∙ ap (λ n. max (max (max (if_any expr_high h.value.first) n) (maybe_height (maybe_of h.value.last))) (statement_height (statement_of s.value)) + 1) (any_expr h.value.test) ∙ ap (λ n. max (max (max (if_any expr_high h.value.first) (if_any expr_high h.value.test)) n) (statement_height (statement_of s.value)) + 1) (any_expr h.value.last)
 
 pub statement_form_goto : (n : _) → statement_form_height (statement_form.Goto n) ≡ 1
 unfolding statement_form_height statement_high block_high expr_high

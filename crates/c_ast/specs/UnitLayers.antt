@@ -55,8 +55,8 @@ is_while e s = ap statement_form_of (sym (statement_form.rolls-While e s)) ∙ f
 pub is_do : (s : _) (e : _) → statement_form_of (statement_form.Do s e) ≡ λ line. Do line (statement_of s.value) (expr_of e)
 is_do s e = ap statement_form_of (sym (statement_form.rolls-Do s e)) ∙ fold-roll-StatementForm (ℕ → StatementTree) BlockTree StatementTree statement_form_layer block_layer statement_layer (StatementForm-F.Do s e)
 
-pub is_for : (a : _) (b : _) (c : _) (s : _) → statement_form_of (statement_form.For a b c s) ≡ λ line. For line (maybe_of a) (maybe_of b) (maybe_of c) (statement_of s.value)
-is_for a b c s = ap statement_form_of (sym (statement_form.rolls-For a b c s)) ∙ fold-roll-StatementForm (ℕ → StatementTree) BlockTree StatementTree statement_form_layer block_layer statement_layer (StatementForm-F.For a b c s)
+pub is_for : (h : _) (s : _) → statement_form_of (statement_form.For h s) ≡ λ line. For line (maybe_of h.value.first) (maybe_of h.value.test) (maybe_of h.value.last) (statement_of s.value)
+is_for h s = ap statement_form_of (sym (statement_form.rolls-For h s)) ∙ fold-roll-StatementForm (ℕ → StatementTree) BlockTree StatementTree statement_form_layer block_layer statement_layer (StatementForm-F.For h s)
 
 pub is_goto : (n : _) → statement_form_of (statement_form.Goto n) ≡ λ line. Goto line n
 is_goto n = ap statement_form_of (sym (statement_form.rolls-Goto n)) ∙ fold-roll-StatementForm (ℕ → StatementTree) BlockTree StatementTree statement_form_layer block_layer statement_layer (StatementForm-F.Goto n)

@@ -35,7 +35,8 @@ pub use print_unit::print;
 pub use sign::{sign_number, sign_text};
 pub use specifier::{BasicType, Qualifier, RecordKind, Storage};
 pub use statement::{
-    Block, Declaration, InitDeclarator, Initialiser, InitialiserForm, Statement, StatementForm,
+    Block, Declaration, ForHead, InitDeclarator, Initialiser, InitialiserForm, Statement,
+    StatementForm,
 };
 pub use tree_height::{declarator_height, expr_height, specifiers_height};
 pub use unit::{External, ExternalForm, FunctionDefinition, Unit};

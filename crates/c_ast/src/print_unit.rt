@@ -9,7 +9,8 @@ ghost use Rattle.c_ast.specs.UnitViews.{unit_of};
 use crate::expr::{Expr, Specifiers};
 use crate::print_expr::{push_declarator, push_end, push_expr, push_maybe, push_specifiers};
 use crate::statement::{
-    Block, Declaration, InitDeclarator, Initialiser, InitialiserForm, Statement, StatementForm,
+    Block, Declaration, ForHead, InitDeclarator, Initialiser, InitialiserForm, Statement,
+    StatementForm,
 };
 use crate::token_text::{push_keyword, push_name, push_sign};
 use crate::unit::{External, ExternalForm, FunctionDefinition, Unit};
@@ -194,8 +195,8 @@ fn push_statement(out: &mut Bytes, statement: &Statement) -> Result<(), Memory>
             push_test(out, keyword::WHILE, e)?;
             push_sign(out, sign::SEMICOLON)
         }
-        StatementForm::For(a, b, c, s) => {
-            push_for(out, a, b, c)?;
+        StatementForm::For(head, s) => {
+            push_for(out, head)?;
             push_statement(out, s)
         }
         StatementForm::Goto(name) => push_goto(out, name),
@@ -220,21 +221,16 @@ fn push_else(out: &mut Bytes, otherwise: &Option<Box<Statement>>) -> Result<(), 
 }
 
 /// Adds `for` and its three expressions in parentheses.
-fn push_for(
-    out: &mut Bytes,
-    first: &Option<Expr>,
-    test: &Option<Expr>,
-    step: &Option<Expr>,
-) -> Result<(), Memory>
-    ensures { OnOk result (out.new ≡ out.old ++ (word_text 13 ++ sign_text 2 ++ shown_if_any expr_shown first.now ++ sign_text 32 ++ shown_if_any expr_shown test.now ++ sign_text 32 ++ shown_if_any expr_shown step.now ++ sign_text 3)) }
+fn push_for(out: &mut Bytes, head: &ForHead) -> Result<(), Memory>
+    ensures { OnOk result (out.new ≡ out.old ++ (word_text 13 ++ sign_text 2 ++ shown_if_any expr_shown head.now.first ++ sign_text 32 ++ shown_if_any expr_shown head.now.test ++ sign_text 32 ++ shown_if_any expr_shown head.now.last ++ sign_text 3)) }
 {
     push_keyword(out, keyword::FOR)?;
     push_sign(out, sign::OPEN)?;
-    push_maybe(out, first)?;
+    push_maybe(out, &head.first)?;
     push_sign(out, sign::SEMICOLON)?;
-    push_maybe(out, test)?;
+    push_maybe(out, &head.test)?;
     push_sign(out, sign::SEMICOLON)?;
-    push_maybe(out, step)?;
+    push_maybe(out, &head.last)?;
     push_sign(out, sign::CLOSE)
 }
 

@@ -62,11 +62,19 @@ pub enum StatementForm {
     Switch(Expr, Box<Statement>),
     While(Expr, Box<Statement>),
     Do(Box<Statement>, Expr),
-    For(Option<Expr>, Option<Expr>, Option<Expr>, Box<Statement>),
+    For(Box<ForHead>, Box<Statement>),
     Goto(Bytes),
     Continue,
     Break,
     Return(Option<Expr>),
+}
+
+/// The three expressions at a `for`, each of which may be left out. Source: C89 3.6.5.3.
+#[derive(Drop)]
+pub struct ForHead {
+    pub first: Option<Expr>,
+    pub test: Option<Expr>,
+    pub last: Option<Expr>,
 }
 
 /// Declarations and statements in braces. Source: C89 3.6.2.

@@ -105,11 +105,11 @@ fn statement_height(statement: &Statement) -> u32
             e,
         ).saturating_add(1),
         StatementForm::Block(block) => block_height(block),
-        StatementForm::For(a, b, c, s) => {
-            let head = maybe_expr_height(a)
-                .max(maybe_expr_height(b))
-                .max(maybe_expr_height(c));
-            head.max(statement_height(s)).saturating_add(1)
+        StatementForm::For(head, s) => {
+            let parts = maybe_expr_height(&head.first)
+                .max(maybe_expr_height(&head.test))
+                .max(maybe_expr_height(&head.last));
+            parts.max(statement_height(s)).saturating_add(1)
         }
         StatementForm::Goto(_) | StatementForm::Continue | StatementForm::Break => 1,
     }

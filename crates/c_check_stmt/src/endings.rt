@@ -16,8 +16,8 @@ ghost use Rattle.c_check_stmt.specs.Ends.{Ends};
 
 use crate::noted::Noted;
 use crate::spot::Spot;
-use c_meaning::{CoreExpr, CoreStmt};
-use c_stmt_parts::{Head, case, default, label, repeated, switched, test};
+use c_meaning::{CoreExpr, CoreForHead, CoreStmt};
+use c_stmt_parts::{case, default, label, repeated, switched, test};
 use c_types::TypeTable;
 use c_values::CheckFault;
 use std::alloc::Global;
@@ -162,7 +162,7 @@ pub(crate) fn end_for(
     alloc: Global,
     types: &mut TypeTable,
     line: u32,
-    head: Head,
+    head: CoreForHead,
     code: CoreStmt,
 ) -> Result<CoreStmt, CheckFault>
     requires head { IsHeadIn (length types.old.forms) head }
@@ -170,11 +170,7 @@ pub(crate) fn end_for(
     ensures { Ends types.old line (for_node types.old head) (tree.For (maybe_value (maybe_core types.old head.first)) (maybe_value (maybe_core types.old head.test)) (maybe_value (maybe_core types.old head.last)) (stmt_in types.old code)) types.new result }
 {
     let own = repeated(alloc, types, line, head)?;
-    let boxed = Box::new(alloc, code)?;
-    Ok(CoreStmt::For {
-        first: own.first,
-        test: own.test,
-        last: own.last,
-        body: boxed,
-    })
+    let own = Box::new(alloc, own)?;
+    let body = Box::new(alloc, code)?;
+    Ok(CoreStmt::For { head: own, body })
 }

@@ -13,10 +13,10 @@ ghost use Rattle.c_stmt_parts.specs.StatementsSeen.{statement_seen};
 use crate::endings::{end_do, end_for, end_while};
 use crate::spot::{Spot, in_loop};
 use crate::statements::statement;
-use c_ast::{Expr, Statement};
+use c_ast::{Expr, ForHead, Statement};
 use c_check_expr::pieces::{expression, maybe_expression};
-use c_meaning::CoreStmt;
-use c_stmt_parts::{Body, Head};
+use c_meaning::{CoreForHead, CoreStmt};
+use c_stmt_parts::Body;
 use c_symbols::Scopes;
 use c_types::TypeTable;
 use c_values::CheckFault;
@@ -69,17 +69,15 @@ fn head(
     alloc: Global,
     scopes: &mut Scopes,
     types: &mut TypeTable,
-    first: &Option<Expr>,
-    test: &Option<Expr>,
-    last: &Option<Expr>,
-) -> Result<Head, CheckFault>
+    parts: &ForHead,
+) -> Result<CoreForHead, CheckFault>
     requires { AreSymbolsIn (length types.old.forms) scopes.old.symbols }
-    ensures { Walks head_in IsHeadIn (head_typed_in scopes.old types.old (maybe_expr_seen first.now) (maybe_expr_seen test.now) (maybe_expr_seen last.now)) scopes.old types.old scopes.new types.new result }
+    ensures { Walks head_in IsHeadIn (head_typed_in scopes.old types.old (maybe_expr_seen parts.now.first) (maybe_expr_seen parts.now.test) (maybe_expr_seen parts.now.last)) scopes.old types.old scopes.new types.new result }
 {
-    let first = maybe_expression(alloc, scopes, types, first)?;
-    let test = maybe_expression(alloc, scopes, types, test)?;
-    let last = maybe_expression(alloc, scopes, types, last)?;
-    Ok(Head { first, test, last })
+    let first = maybe_expression(alloc, scopes, types, &parts.first)?;
+    let test = maybe_expression(alloc, scopes, types, &parts.test)?;
+    let last = maybe_expression(alloc, scopes, types, &parts.last)?;
+    Ok(CoreForHead { first, test, last })
 }
 
 /// `for`.
@@ -89,17 +87,16 @@ pub(crate) fn for_(
     types: &mut TypeTable,
     body: &mut Body,
     spot: &Spot,
-    parts: (&Option<Expr>, &Option<Expr>, &Option<Expr>),
+    parts: &ForHead,
     s: &Statement,
 ) -> Result<CoreStmt, CheckFault>
     requires symbols { AreSymbolsIn (length types.old.forms) scopes.old.symbols }
     requires ready { IsReady types.old spot.now.within.now body.old }
-    ensures { WalksStmt (statement_in (within_in types.old spot.now.within.now) (around_seen spot.now.around) scopes.old types.old (body_in types.old body.old) (For spot.now.line (maybe_expr_seen parts.entry.0.now) (maybe_expr_seen parts.entry.1.now) (maybe_expr_seen parts.entry.2.now) (statement_seen s.now))) scopes.old types.old scopes.new types.new body.new result }
+    ensures { WalksStmt (statement_in (within_in types.old spot.now.within.now) (around_seen spot.now.around) scopes.old types.old (body_in types.old body.old) (For spot.now.line (maybe_expr_seen parts.now.first) (maybe_expr_seen parts.now.test) (maybe_expr_seen parts.now.last) (statement_seen s.now))) scopes.old types.old scopes.new types.new body.new result }
 {
     let alloc = body.alloc;
     let inside = in_loop(spot.around);
-    let (a, b, c) = parts;
-    let head = head(alloc, scopes, types, a, b, c)?;
+    let head = head(alloc, scopes, types, parts)?;
     let code = statement(scopes, types, body, spot.within, inside, s)?;
     end_for(alloc, types, spot.line, head, code)
 }

@@ -57,9 +57,7 @@ pub(crate) fn statement(
         StatementForm::Switch(e, inner) => switch(scopes, types, body, &spot, e, inner),
         StatementForm::While(e, inner) => while_(scopes, types, body, &spot, e, inner),
         StatementForm::Do(inner, e) => do_(scopes, types, body, &spot, inner, e),
-        StatementForm::For(first, test, last, inner) => {
-            for_(scopes, types, body, &spot, (first, test, last), inner)
-        }
+        StatementForm::For(head, inner) => for_(scopes, types, body, &spot, head, inner),
         StatementForm::Goto(name) => Ok(goto(body, within, name.as_slice())?),
         StatementForm::Continue => continue_(around, line),
         StatementForm::Break => break_(around, line),
@@ -81,7 +79,7 @@ pub(crate) fn statements(
     requires ready { IsReady types.old within.now body.old }
     ensures { WalksStmts (statements_in (within_in types.old within.now) (around_seen around) scopes.old types.old (body_in types.old body.old) (statements_of (map statement_seen list.now))) scopes.old types.old scopes.new types.new body.new result }
 {
-    let mut codes = Items::new(body.alloc);
+    let mut codes = Items::with_capacity(body.alloc, list.len())?;
     for s in list {
         let code = statement(scopes, types, body, within, around, s)?;
         codes.push(code)?;
@@ -128,13 +126,23 @@ fn end_block(
 ) -> Result<CoreStmt, Memory>
     ensures { IfOk result (λ s. s ≡ stmt.Block start count (fills ++ codes)) }
 {
-    let mut statements = fills;
-    push_all(&mut statements, codes)?;
     Ok(CoreStmt::Block {
         first: small(start)?,
         locals: small(count)?,
-        statements,
+        statements: behind(fills, codes)?,
     })
+}
+
+/// Statements behind others.
+fn behind(first: Items<CoreStmt>, more: Items<CoreStmt>) -> Result<Items<CoreStmt>, Memory>
+    ensures { IfOk result (λ all. all ≡ first ++ more) }
+{
+    if first.is_empty() {
+        return Ok(more);
+    }
+    let mut all = first;
+    push_all(&mut all, more)?;
+    Ok(all)
 }
 
 /// A number of locals.

@@ -1,6 +1,5 @@
 mod ExternalSteps
 mod ExternalWalks
-mod LinkMarks
 mod MadeLists
 mod MainPlaces
 mod TextsNoted

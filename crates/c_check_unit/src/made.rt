@@ -9,12 +9,13 @@ ghost use Rattle.c_types.specs.Table.{Table, types as types_of};
 ghost use Rattle.c_unit_parts.specs.PartsIn.{AreFunctionsIn, function_in};
 ghost use Rattle.c_units.specs.Wholes.{whole_functions, whole_objects};
 
-use crate::links::{is_marked, linked_symbols};
+use crate::links::is_marked;
 use c_check_decl::DefinedObject;
 use c_meaning::{CoreFunction, CoreObject};
 use c_standings::Standings;
 use c_symbols::Scopes;
 use c_types::TypeTable;
+use c_unit_ends::linked_symbols;
 use c_unit_parts::DefinedFunction;
 use c_wholes::{Texts, whole_function, whole_object};
 use lcc_base::{Items, Memory};

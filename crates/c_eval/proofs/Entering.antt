@@ -1,5 +1,5 @@
 -- Blocks, lists and objects that are entered.
-use Rattle.std.proofs.Common.{◌≡◌, ℕ, ◌+◌, ◌<◌, ◌≤◌, List, [], ◌∷◌, ◌-◌, length, get_or, take, drop, refl, sym, ap, ◌∙◌, arith, Bor}
+use Rattle.std.proofs.Common.{◌≡◌, ℕ, ◌+◌, ◌<◌, ◌≤◌, List, [], ◌∷◌, ◌-◌, length, get_or, subst, take, drop, refl, sym, ap, ◌∙◌, arith, Bor}
 use Rattle.std.specs.Prelude.{Bool, false, Option, Result as Checked, Ok, Err, IfOk, slice_get}
 use Rattle.std.proofs.lemmas.List.{take_rest}
 use Rattle.lcc_base.specs.declared.memory.Memory.{Memory as NoMemory}
@@ -7,6 +7,7 @@ use Rattle.c_types.specs.CType.{CType}
 use Rattle.c_filling.specs.Filled.{seen_places}
 use Rattle.std.specs.Global.{Box}
 use Rattle.c_meaning.specs.CoreTrees.{CoreOf}
+use Rattle.c_meaning.specs.declared.core_stmt.CoreForHead.{CoreForHead}
 use Rattle.c_meaning.specs.declared.core_stmt.CoreStmt.{CoreStmt}
 use Rattle.c_meaning.specs.declared.core_stmt.CoreStmt.TheVariants as form
 use Rattle.c_meaning.specs.declared.filled_place.FilledPlace.{FilledPlace}
@@ -59,6 +60,10 @@ lacks_meets p (x ∷ xs) first l k w h i e =
     ap (λ (zs : List CoreStmt). exec_all (own p) (statements p zs) (At l) k w) (rest_is x xs)
     ∙ first_lacks p x xs l k w (ap (λ (y : CoreStmt). has (statement p y) l) (sym i) ∙ e)
 
+pub rest_lighter : (ss : List CoreStmt) → 1 ≤ length ss → weight_ss (statements_of (take (length ss - 1) (drop 1 ss))) ≤ weight_ss (statements_of ss)
+rest_lighter [] h = absurd (omega (arith, h))
+rest_lighter (x ∷ xs) h = subst (λ (zs : List CoreStmt). weight_ss (statements_of zs) ≤ weight_ss (statements_of (x ∷ xs))) (sym (rest_is x xs)) (omega arith)
+
 -- ---- blocks
 
 block_is : (p : Program) (s : CoreStmt) (ss : List CoreStmt) (first locals : ℕ) → s ≡ form.Block first locals ss → statement p s ≡ Block first locals (statements p ss)
@@ -105,13 +110,13 @@ for_tree : (p : Program) (x : StmtOf ℕ) (a y z : Option (CoreOf ℕ)) (b : Stm
     → exec (own p) (stmt_tree p x) Start k w ≡ maybe_dropped (own p) (maybe_seen (known p) a) k w (λ k1 w1. repeated_by (own p) (stmt_tree p x) (test_of (own p) (stmt_tree p x) k1 w1))
 for_tree p x a y z b k w h = rw h refl
 
-pub for_starts : (p : Program) (old new : Machine) (s : CoreStmt) (a y z : Option (CoreOf ℕ)) (b : Box CoreStmt) (r : Checked Focus NoMemory) → s ≡ form.For a y z b
-    → IfOk r (λ focus. Meets p old (λ k w. OfStatement (maybe_dropped (own p) (maybe_seen (known p) a) k w (λ k1 w1. repeated_by (own p) (statement p s) (test_of (own p) (statement p s) k1 w1)))) new focus)
+pub for_starts : (p : Program) (old new : Machine) (s : CoreStmt) (head : Box CoreForHead) (b : Box CoreStmt) (r : Checked Focus NoMemory) → s ≡ form.For head b
+    → IfOk r (λ focus. Meets p old (λ k w. OfStatement (maybe_dropped (own p) (maybe_seen (known p) head.value.first) k w (λ k1 w1. repeated_by (own p) (statement p s) (test_of (own p) (statement p s) k1 w1)))) new focus)
     → IfOk r (λ focus. Meets p old (λ k w. OfStatement (exec (own p) (statement p s) Start k w)) new focus)
-for_starts p old new s a y z b r h m =
+for_starts p old new s head b r h m =
     meets_behind p old old new (λ k w. OfStatement (exec (own p) (statement p s) Start k w))
-    (λ k w. OfStatement (maybe_dropped (own p) (maybe_seen (known p) a) k w (λ k1 w1. repeated_by (own p) (statement p s) (test_of (own p) (statement p s) k1 w1)))) r refl refl refl
-    (λ k t. ap OfStatement (for_tree p (stmt_of s) a y z (stmt_of b.value) k (shown old.world t) (ap stmt_of h ∙ is_for a y z b))) m
+    (λ k w. OfStatement (maybe_dropped (own p) (maybe_seen (known p) head.value.first) k w (λ k1 w1. repeated_by (own p) (statement p s) (test_of (own p) (statement p s) k1 w1)))) r refl refl refl
+    (λ k t. ap OfStatement (for_tree p (stmt_of s) head.value.first head.value.test head.value.last (stmt_of b.value) k (shown old.world t) (ap stmt_of h ∙ is_for head b))) m
 
 -- ---- objects
 

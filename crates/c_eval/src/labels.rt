@@ -1,8 +1,11 @@
 //! Labels that stand in statements.
-ghost use Rattle.std.specs.Prelude.{◌≡◌};
-ghost use Rattle.c_runs.specs.Statements.{any_has, has};
+ghost use Rattle.std.specs.Prelude.{◌≡◌, ◌≤◌, ℕ};
+ghost use Rattle.c_runs.specs.Statements.{At, any_has, exec_all, has};
+ghost use Rattle.c_runs.specs.Worlds.{World};
 ghost use Rattle.c_worlds.specs.declared.program.Program.{Program};
 ghost use Rattle.c_eval.specs.Stacks.{statement, statements as trees_of};
+ghost use Rattle.c_eval.specs.States.{own};
+ghost use Rattle.c_eval.specs.Weights.{statements_of, weight_ss};
 
 use c_meaning::CoreStmt;
 
@@ -38,4 +41,19 @@ pub fn any_has_label(statements: &[CoreStmt], label: u32) -> bool
         }
     }
     false
+}
+
+/// The statements from the first on in which a label stands; none, where it stands in none.
+pub fn from_label(statements: &[CoreStmt], label: u32) -> &[CoreStmt]
+    ensures same { (p : Program) → (k : ℕ) → (w : World) → exec_all (own p) (trees_of p result.now) (At label) k w ≡ exec_all (own p) (trees_of p statements.now) (At label) k w }
+    ensures less { weight_ss (statements_of result.now) ≤ weight_ss (statements_of statements.now) }
+{
+    let mut left = statements;
+    while let [first, behind @ ..] = left {
+        if has_label(first, label) {
+            return left;
+        }
+        left = behind;
+    }
+    left
 }

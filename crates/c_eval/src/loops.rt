@@ -169,7 +169,7 @@ fn test_of<'a>(s: &'a CoreStmt) -> Option<&'a CoreExpr>
 {
     match s {
         CoreStmt::While { test, .. } | CoreStmt::Do { test, .. } => Some(test),
-        CoreStmt::For { test, .. } => test.as_ref(),
+        CoreStmt::For { head, .. } => head.test.as_ref(),
         _ => None,
     }
 }
@@ -180,7 +180,7 @@ fn last_of<'a>(s: &'a CoreStmt) -> Option<&'a CoreExpr>
     ensures none { IfNone result (last_in (stmt_of s.now) ≡ None) }
 {
     match s {
-        CoreStmt::For { last, .. } => last.as_ref(),
+        CoreStmt::For { head, .. } => head.last.as_ref(),
         _ => None,
     }
 }

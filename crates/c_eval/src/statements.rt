@@ -20,7 +20,7 @@ use crate::expressions::{stopped, stray};
 use crate::focus::Focus;
 use crate::frame::Frame;
 use crate::how::How;
-use crate::labels::has_label;
+use crate::labels::{from_label, has_label};
 use crate::machine::Machine;
 use c_filling::{are_plain, fill, make_zero};
 use c_meaning::{CoreCase, CoreExpr, CoreStmt, FilledPlace};
@@ -50,7 +50,7 @@ impl<'a> Machine<'a> {
             }
             CoreStmt::While { .. } => self.tested(program, s),
             CoreStmt::Do { .. } => Ok(Focus::Repeat(s)),
-            CoreStmt::For { first, .. } => self.begin(program, s, first),
+            CoreStmt::For { head, .. } => self.begin(program, s, &head.first),
             CoreStmt::Initialise {
                 local,
                 zero,
@@ -271,6 +271,15 @@ impl<'a> Machine<'a> {
 
     /// Statements are entered at a label.
     pub fn list_at(&mut self, statements: &'a [CoreStmt], label: u32) -> Result<Focus<'a>, Memory>
+        ensures same { IfOk result (λ focus. (p : Program) → Meets p self.old (λ k w. OfStatement (exec_all (own p) (trees_of p statements.now) (At label) k w)) self.new focus) }
+        ensures quiet { IfOk result (λ _. IsQuiet self.old self.new) }
+        ensures less { IfOk result (λ focus. IsBelow (1 + weight_ss (statements_of statements.now)) self.old self.new focus) }
+    {
+        self.enter_list(from_label(statements, label), label)
+    }
+
+    /// The same, looking at the first of them alone.
+    fn enter_list(&mut self, statements: &'a [CoreStmt], label: u32) -> Result<Focus<'a>, Memory>
         ensures same { IfOk result (λ focus. (p : Program) → Meets p self.old (λ k w. OfStatement (exec_all (own p) (trees_of p statements.now) (At label) k w)) self.new focus) }
         ensures quiet { IfOk result (λ _. IsQuiet self.old self.new) }
         ensures less { IfOk result (λ focus. IsBelow (1 + weight_ss (statements_of statements.now)) self.old self.new focus) }

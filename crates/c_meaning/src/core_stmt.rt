@@ -10,6 +10,14 @@ pub struct CoreCase {
     pub label: u32,
 }
 
+/// The parts of a `for`'s head, where they are there. Without a test it goes on.
+#[derive(Debug, Drop)]
+pub struct CoreForHead {
+    pub first: Option<CoreExpr>,
+    pub test: Option<CoreExpr>,
+    pub last: Option<CoreExpr>,
+}
+
 /// A checked statement (C89 3.6). Labels are numbers, each of its own in a function: those that the
 /// program names, and one for each case and default.
 #[derive(Drop)]
@@ -42,11 +50,8 @@ pub enum CoreStmt {
         body: Box<CoreStmt>,
         test: CoreExpr,
     },
-    /// Without a test it goes on.
     For {
-        first: Option<CoreExpr>,
-        test: Option<CoreExpr>,
-        last: Option<CoreExpr>,
+        head: Box<CoreForHead>,
         body: Box<CoreStmt>,
     },
     /// The value is of a promoted type. The cases stand in the order of the text, no two with one

@@ -11,7 +11,7 @@ mod laws;
 
 pub use built_in::BuiltIn;
 pub use core_expr::{Change, Conversion, CoreExpr, CoreKind};
-pub use core_stmt::{CoreCase, CoreStmt};
+pub use core_stmt::{CoreCase, CoreForHead, CoreStmt};
 pub use core_unit::{Core, CoreFunction, CoreObject};
 pub use filled_place::FilledPlace;
 pub use laws::{

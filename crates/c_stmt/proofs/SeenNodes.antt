@@ -74,9 +74,9 @@ pub form_do : (s : _) (e : _) (line : ℕ) → statement_form_seen (statement_fo
 unfolding statement_form_seen statement_seen expr_seen
 form_do s e line = ap (λ (g : ℕ → StatementTree). g line) (is_do s e)
 
-pub form_for : (a : _) (b : _) (c : _) (s : _) (line : ℕ) → statement_form_seen (statement_form.For a b c s) line ≡ For line (maybe_expr_seen a) (maybe_expr_seen b) (maybe_expr_seen c) (statement_seen s.value)
+pub form_for : (h : _) (s : _) (line : ℕ) → statement_form_seen (statement_form.For h s) line ≡ For line (maybe_expr_seen h.value.first) (maybe_expr_seen h.value.test) (maybe_expr_seen h.value.last) (statement_seen s.value)
 unfolding statement_form_seen statement_seen
-form_for a b c s line = ap (λ (g : ℕ → StatementTree). g line) (is_for a b c s) ∙ ap (λ o. For line o (maybe_of b) (maybe_of c) (statement_seen s.value)) (any_expr a) ∙ ap (λ o. For line (maybe_expr_seen a) o (maybe_of c) (statement_seen s.value)) (any_expr b) ∙ ap (λ o. For line (maybe_expr_seen a) (maybe_expr_seen b) o (statement_seen s.value)) (any_expr c)
+form_for h s line = ap (λ (g : ℕ → StatementTree). g line) (is_for h s) ∙ ap (λ o. For line o (maybe_of h.value.test) (maybe_of h.value.last) (statement_seen s.value)) (any_expr h.value.first) ∙ ap (λ o. For line (maybe_expr_seen h.value.first) o (maybe_of h.value.last) (statement_seen s.value)) (any_expr h.value.test) ∙ ap (λ o. For line (maybe_expr_seen h.value.first) (maybe_expr_seen h.value.test) o (statement_seen s.value)) (any_expr h.value.last)
 
 pub form_goto : (n : _) (line : ℕ) → statement_form_seen (statement_form.Goto n) line ≡ Goto line n
 unfolding statement_form_seen

@@ -2,6 +2,7 @@
 #![tactic(auto)]
 
 mod conditions;
+mod exact;
 mod externals;
 mod nodes;
 mod statements;

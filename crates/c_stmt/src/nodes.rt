@@ -8,8 +8,8 @@ ghost use Rattle.c_ast.specs.SeenUnits.{declaration_seen};
 ghost use Rattle.c_stmt.specs.Seen.{block_seen, external_seen, statement_seen, unit_seen};
 
 use c_ast::{
-    Block, Declaration, Expr, External, ExternalForm, FunctionDefinition, Statement, StatementForm,
-    Unit,
+    Block, Declaration, Expr, External, ExternalForm, ForHead, FunctionDefinition, Statement,
+    StatementForm, Unit,
 };
 use lcc_base::{Bytes, Items};
 
@@ -130,18 +130,12 @@ pub(crate) fn do_loop(line: u32, inner: Box<Statement>, condition: Expr) -> Stat
 
 /// A `for`.
 #[tactic(auto, using(crate::proofs::SeenNodes::statement_forms))]
-pub(crate) fn for_loop(
-    line: u32,
-    first: Option<Expr>,
-    condition: Option<Expr>,
-    step: Option<Expr>,
-    inner: Box<Statement>,
-) -> Statement
-    ensures { statement_seen result ≡ For line (maybe_expr_seen first) (maybe_expr_seen condition) (maybe_expr_seen step) (statement_seen inner.value) }
+pub(crate) fn for_loop(line: u32, head: Box<ForHead>, inner: Box<Statement>) -> Statement
+    ensures { statement_seen result ≡ For line (maybe_expr_seen head.value.first) (maybe_expr_seen head.value.test) (maybe_expr_seen head.value.last) (statement_seen inner.value) }
 {
     Statement {
         line,
-        form: StatementForm::For(first, condition, step, inner),
+        form: StatementForm::For(head, inner),
     }
 }
 

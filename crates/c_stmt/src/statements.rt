@@ -14,12 +14,13 @@ ghost use Rattle.c_stmt.specs.Seen.{block_seen, statement_seen};
 ghost use Rattle.c_stmt.specs.Words.{seen_word};
 
 use crate::conditions::{condition_at, maybe_before, name_before};
+use crate::exact::exact;
 use crate::nodes::{
     block, break_off, case, choice, choices, compound, continue_on, default, do_loop, evaluate,
     for_loop, give_back, goto, labelled, switch, while_loop,
 };
 use crate::words::{Word, takes_word};
-use c_ast::{Block, Expr, Statement, keyword, sign};
+use c_ast::{Block, Expr, ForHead, Statement, keyword, sign};
 use c_decl::{
     boxed, close_scope, declarations_to, expect, is_label, is_sign, keep, line_at, low_constant,
     open_scope, refuse, takes, takes_keyword,
@@ -243,10 +244,11 @@ fn for_at(p: &mut Parser, limit: u32, line: u32) -> Result<Statement, SyntaxFaul
 {
     expect(p, sign::OPEN)?;
     let first = maybe_before(p, limit, sign::SEMICOLON)?;
-    let condition = maybe_before(p, limit, sign::SEMICOLON)?;
-    let step = maybe_before(p, limit, sign::CLOSE)?;
+    let test = maybe_before(p, limit, sign::SEMICOLON)?;
+    let last = maybe_before(p, limit, sign::CLOSE)?;
+    let head = boxed(p, ForHead { first, test, last })?;
     let inner = inner_at(p, limit)?;
-    Ok(for_loop(line, first, condition, step, inner))
+    Ok(for_loop(line, head, inner))
 }
 
 /// An expression statement, or a lone `;`.
@@ -301,7 +303,7 @@ fn statements_at(p: &mut Parser, limit: u32) -> Result<Items<Statement>, SyntaxF
         let statement = statement_at(p, limit)?;
         keep(p, &mut list, statement)?;
     }
-    Ok(list)
+    Ok(exact(list))
 }
 
 /// Declarations, statements, and `}`, behind the `{` that stands on the line, where the scope is open.

@@ -9,6 +9,7 @@ ghost use Rattle.c_decl.specs.Going.{Goes, Breaks, Fails};
 ghost use Rattle.c_stmt.specs.Seen.{unit_seen};
 ghost use Rattle.c_stmt.specs.Units.{Refuses};
 
+use crate::exact::exact;
 use crate::externals::external_at;
 use crate::nodes::unit_of;
 use c_ast::{Unit, marks_run};
@@ -61,5 +62,5 @@ fn unit_at(p: &mut Parser, limit: u32) -> Result<Unit, SyntaxFault>
     if is_first {
         return Err(refuse(p));
     }
-    Ok(unit_of(line, externals))
+    Ok(unit_of(line, exact(externals)))
 }

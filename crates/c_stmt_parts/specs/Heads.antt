@@ -8,14 +8,14 @@ use Rattle.c_meaning.specs.Typing.{Outcome, Fine, maybe_typed, then_do}
 use Rattle.c_meaning.specs.Values.{CoreTree}
 use Rattle.c_check_expr.specs.Known.{state_of}
 use Rattle.c_units.specs.Statements.{StmtNode, For}
-use Rattle.c_stmt_parts.specs.declared.tests.Head.{Head}
+use Rattle.c_meaning.specs.declared.core_stmt.CoreForHead.{CoreForHead}
 use Rattle.c_stmt_parts.specs.Asked.{maybe_core}
 
-abbrev pub for_node : Table → Head → StmtNode
+abbrev pub for_node : Table → CoreForHead → StmtNode
 for_node t h = For (maybe_core t h.first) (maybe_core t h.test) (maybe_core t h.last)
 
 -- its types stand below this place
-pub record IsHeadIn (n : ℕ) (h : Head) : Type 0 where
+pub record IsHeadIn (n : ℕ) (h : CoreForHead) : Type 0 where
   pub first : IsSomeIn n h.first
   pub test : IsSomeIn n h.test
   pub last : IsSomeIn n h.last
@@ -25,7 +25,7 @@ pub record IsHeadIn (n : ℕ) (h : Head) : Type 0 where
 abbrev pub Heads : Type 0
 Heads = Option CoreTree × Option CoreTree × Option CoreTree
 
-abbrev pub head_in : Table → Head → Heads
+abbrev pub head_in : Table → CoreForHead → Heads
 head_in t h = (maybe_core t h.first, maybe_core t h.test, maybe_core t h.last)
 
 unfoldable pub head_typed_in : Scoping → Table → MaybeExpr → MaybeExpr → MaybeExpr → Outcome Heads

@@ -4,6 +4,7 @@ use Rattle.std.specs.Global.{Box}
 use Rattle.c_types.specs.Table.{Table, type_at}
 use Rattle.c_meaning.specs.CoreTrees.{CoreOf, IsIn}
 use Rattle.c_meaning.specs.declared.core_stmt.CoreCase.{CoreCase}
+use Rattle.c_meaning.specs.declared.core_stmt.CoreForHead.{CoreForHead}
 use Rattle.c_meaning.specs.declared.core_stmt.CoreStmt.{CoreStmt, CoreStmt-F, fold-roll-CoreStmt}
 use Rattle.c_meaning.specs.declared.core_stmt.CoreStmt.TheVariants as stmt
 use Rattle.c_meaning.specs.StmtTrees.{StmtOf, Nothing, Expression, Block, If, While, Do, For, Switch, Label, Goto, Break, Continue, Return, AreStmtsIn, IsSomeIn, IsStmtIn, stmt_layer, stmt_of, stmt_seen, stmts_of, stmts_seen}
@@ -32,8 +33,8 @@ is_while e s = ap stmt_of (sym (stmt.rolls-While e s)) ∙ fold-roll-CoreStmt (S
 is_do : (s : Box CoreStmt) (e : CoreOf ℕ) → stmt_of (stmt.Do s e) ≡ Do (stmt_of s.value) e
 is_do s e = ap stmt_of (sym (stmt.rolls-Do s e)) ∙ fold-roll-CoreStmt (StmtOf ℕ) stmt_layer (CoreStmt-F.Do s e)
 
-is_for : (x y z : Option (CoreOf ℕ)) (s : Box CoreStmt) → stmt_of (stmt.For x y z s) ≡ For x y z (stmt_of s.value)
-is_for x y z s = ap stmt_of (sym (stmt.rolls-For x y z s)) ∙ fold-roll-CoreStmt (StmtOf ℕ) stmt_layer (CoreStmt-F.For x y z s)
+is_for : (h : Box CoreForHead) (s : Box CoreStmt) → stmt_of (stmt.For h s) ≡ For h.value.first h.value.test h.value.last (stmt_of s.value)
+is_for h s = ap stmt_of (sym (stmt.rolls-For h s)) ∙ fold-roll-CoreStmt (StmtOf ℕ) stmt_layer (CoreStmt-F.For h s)
 
 is_switch : (e : CoreOf ℕ) (cases : List CoreCase) (default : Option ℕ) (s : Box CoreStmt) → stmt_of (stmt.Switch e cases default s) ≡ Switch e cases default (stmt_of s.value)
 is_switch e cases default s = ap stmt_of (sym (stmt.rolls-Switch e cases default s)) ∙ fold-roll-CoreStmt (StmtOf ℕ) stmt_layer (CoreStmt-F.Switch e cases default s)
@@ -77,8 +78,8 @@ while_seen t e s = ap (stmt_seen (type_at t)) (is_while e s)
 pub do_seen : (t : Table) (s : Box CoreStmt) (e : CoreOf ℕ) → stmt_in t (stmt.Do s e) ≡ Do (stmt_in t s.value) (core t e)
 do_seen t s e = ap (stmt_seen (type_at t)) (is_do s e)
 
-pub for_seen : (t : Table) (x y z : Option (CoreOf ℕ)) (s : Box CoreStmt) → stmt_in t (stmt.For x y z s) ≡ For (maybe_core t x) (maybe_core t y) (maybe_core t z) (stmt_in t s.value)
-for_seen t x y z s = ap (stmt_seen (type_at t)) (is_for x y z s)
+pub for_seen : (t : Table) (h : Box CoreForHead) (s : Box CoreStmt) → stmt_in t (stmt.For h s) ≡ For (maybe_core t h.value.first) (maybe_core t h.value.test) (maybe_core t h.value.last) (stmt_in t s.value)
+for_seen t h s = ap (stmt_seen (type_at t)) (is_for h s)
 
 pub switch_seen : (t : Table) (e : CoreOf ℕ) (cases : List CoreCase) (default : Option ℕ) (s : Box CoreStmt) → stmt_in t (stmt.Switch e cases default s) ≡ Switch (core t e) cases default (stmt_in t s.value)
 switch_seen t e cases default s = ap (stmt_seen (type_at t)) (is_switch e cases default s)
@@ -122,8 +123,8 @@ while_within n e s i j = subst (IsStmtIn n) (sym (is_while e s)) (i, j)
 pub do_within : (n : ℕ) (s : Box CoreStmt) (e : CoreOf ℕ) → IsStmtIn n (stmt_of s.value) → IsIn n e → IsStmtIn n (stmt_of (stmt.Do s e))
 do_within n s e i j = subst (IsStmtIn n) (sym (is_do s e)) (i, j)
 
-pub for_within : (n : ℕ) (x y z : Option (CoreOf ℕ)) (s : Box CoreStmt) → IsSomeIn n x → IsSomeIn n y → IsSomeIn n z → IsStmtIn n (stmt_of s.value) → IsStmtIn n (stmt_of (stmt.For x y z s))
-for_within n x y z s i j k l = subst (IsStmtIn n) (sym (is_for x y z s)) (i, (j, (k, l)))
+pub for_within : (n : ℕ) (h : Box CoreForHead) (s : Box CoreStmt) → IsSomeIn n h.value.first → IsSomeIn n h.value.test → IsSomeIn n h.value.last → IsStmtIn n (stmt_of s.value) → IsStmtIn n (stmt_of (stmt.For h s))
+for_within n h s i j k l = subst (IsStmtIn n) (sym (is_for h s)) (i, (j, (k, l)))
 
 pub switch_within : (n : ℕ) (e : CoreOf ℕ) (cases : List CoreCase) (default : Option ℕ) (s : Box CoreStmt) → IsIn n e → IsStmtIn n (stmt_of s.value) → IsStmtIn n (stmt_of (stmt.Switch e cases default s))
 switch_within n e cases default s i j = subst (IsStmtIn n) (sym (is_switch e cases default s)) (i, j)

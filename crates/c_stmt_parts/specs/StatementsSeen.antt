@@ -2,6 +2,7 @@
 use Rattle.std.proofs.Common.{◌≡◌, ℕ, Option, Some, None, map, refl, ap, ◌∙◌}
 use Rattle.std.specs.Global.{Box}
 use Rattle.c_ast.specs.declared.expr.Expr.{Expr}
+use Rattle.c_ast.specs.declared.statement.ForHead.{ForHead}
 use Rattle.c_ast.specs.declared.statement.Statement.{Statement, out-Statement}
 use Rattle.c_ast.specs.declared.statement.StatementForm.{StatementForm}
 use Rattle.c_ast.specs.declared.statement.StatementForm.TheVariants as form
@@ -77,9 +78,9 @@ pub form_do : (s : Box Statement) (e : _) (line : ℕ) → statement_form_seen (
 unfolding statement_form_seen statement_seen expr_seen
 form_do s e line = ap (λ (g : ℕ → StatementTree). g line) (is_do s e)
 
-pub form_for : (a b c : Option Expr) (s : Box Statement) (line : ℕ) → statement_form_seen (form.For a b c s) line ≡ For line (maybe_expr_seen a) (maybe_expr_seen b) (maybe_expr_seen c) (statement_seen s.value)
+pub form_for : (h : Box ForHead) (s : Box Statement) (line : ℕ) → statement_form_seen (form.For h s) line ≡ For line (maybe_expr_seen h.value.first) (maybe_expr_seen h.value.test) (maybe_expr_seen h.value.last) (statement_seen s.value)
 unfolding statement_form_seen statement_seen
-form_for a b c s line = ap (λ (g : ℕ → StatementTree). g line) (is_for a b c s) ∙ rw (maybe_is a, maybe_is b, maybe_is c) refl
+form_for h s line = ap (λ (g : ℕ → StatementTree). g line) (is_for h s) ∙ rw (maybe_is h.value.first, maybe_is h.value.test, maybe_is h.value.last) refl
 
 pub form_goto : (n : _) (line : ℕ) → statement_form_seen (form.Goto n) line ≡ Goto line n
 unfolding statement_form_seen

@@ -73,7 +73,7 @@ fn of_statement(
         StatementForm::Switch(_, inner) => of_statement(alloc, found, before, inner),
         StatementForm::While(_, inner) => of_statement(alloc, found, before, inner),
         StatementForm::Do(inner, _) => of_statement(alloc, found, before, inner),
-        StatementForm::For(_, _, _, inner) => of_statement(alloc, found, before, inner),
+        StatementForm::For(_, inner) => of_statement(alloc, found, before, inner),
         StatementForm::Expression(_)
         | StatementForm::Goto(_)
         | StatementForm::Continue

@@ -17,4 +17,4 @@ pub use body::{Body, push_all};
 pub use cases::Cases;
 pub use label_numbers::labels;
 pub use leaves::{break_, case, continue_, default, goto, is_again, label, number_of};
-pub use tests::{Head, evaluated, repeated, returned, switched, test};
+pub use tests::{evaluated, repeated, returned, switched, test};

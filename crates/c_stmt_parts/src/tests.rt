@@ -14,7 +14,7 @@ ghost use Rattle.c_check_expr.specs.StepFaults.{IsFault};
 ghost use Rattle.c_stmt_parts.specs.Asked.{IsSound, IsToldAt, maybe_core, maybe_test_broken, return_broken, test_broken};
 ghost use Rattle.c_stmt_parts.specs.Heads.{IsHeadIn, for_node};
 
-use c_meaning::CoreExpr;
+use c_meaning::{CoreExpr, CoreForHead};
 use c_types::{TypeId, TypeTable};
 use c_values::assigning::{is_assignable, is_sized};
 use c_values::forming::{converted, into_value, promoted};
@@ -136,21 +136,13 @@ fn maybe_evaluated(
     }
 }
 
-/// The parts of a `for`'s head, where they are there.
-#[derive(Debug, Drop)]
-pub struct Head {
-    pub first: Option<CoreExpr>,
-    pub test: Option<CoreExpr>,
-    pub last: Option<CoreExpr>,
-}
-
 /// The values of the head of a `for` on this line.
 pub fn repeated(
     alloc: Global,
     types: &mut TypeTable,
     line: u32,
-    head: Head,
-) -> Result<Head, CheckFault>
+    head: CoreForHead,
+) -> Result<CoreForHead, CheckFault>
     requires { IsHeadIn (length types.old.forms) head }
     ensures first { IfOk result (λ h. maybe_core types.new h.first ≡ maybe_value (maybe_core types.old head.first)) }
     ensures test { IfOk result (λ h. maybe_core types.new h.test ≡ maybe_value (maybe_core types.old head.test)) }
@@ -163,11 +155,11 @@ pub fn repeated(
     if let Some(number) = maybe_test_fault(types, &head.test) {
         return Err(CheckFault::Constraint { number, line });
     }
-    let Head { first, test, last } = head;
+    let CoreForHead { first, test, last } = head;
     let first = maybe_evaluated(alloc, types, first)?;
     let test = maybe_evaluated(alloc, types, test)?;
     let last = maybe_evaluated(alloc, types, last)?;
-    Ok(Head { first, test, last })
+    Ok(CoreForHead { first, test, last })
 }
 
 /// The first constraint that the test of a `for` breaks, if it has one.

@@ -1,15 +1,15 @@
 //! Calls of built-in functions that nothing declares (C89 3.3.2.2).
-ghost use Rattle.std.specs.Prelude.{◌≡◌, ◌<◌, ◌&&◌, ℕ, false, length, get_or, not, IfOk, if◌then◌else◌};
+ghost use Rattle.std.specs.Prelude.{◌≡◌, ◌<◌, ◌&&◌, length, not, IfOk, if◌then◌else◌};
 ghost use Rattle.c_types.specs.Table.{type_at, types as types_of};
 ghost use Rattle.c_check_expr.specs.Known.{AreSymbolsIn, all_known};
-ghost use Rattle.c_symbols.specs.Scoping.{AreBelow};
-ghost use Rattle.c_units.specs.Ends.{is_link, least as least_line, linked_by};
+ghost use Rattle.c_units.specs.Ends.{least as least_line, linked_by};
 ghost use Rattle.c_unit_ends.specs.NameFaults.{called_in, is_called};
 
 use crate::built_in_types::gives_other;
+use crate::links::linked_symbols;
 use crate::uses::least;
 use c_standings::{Standing, Standings};
-use c_symbols::{Scope, Scopes, Storage, Symbol, SymbolId};
+use c_symbols::{Scopes, Storage, Symbol, SymbolId};
 use c_types::TypeTable;
 use lcc_base::Memory;
 use std::alloc::Global;
@@ -32,20 +32,6 @@ pub(crate) fn called(
         least = with_symbol(types, standings, least, linked[id], scopes.symbol(id));
     }
     Ok(least)
-}
-
-/// Of which symbols, so many in all, a name with linkage is.
-fn linked_symbols(alloc: Global, links: &Scope, symbols: usize) -> Result<Vec<bool>, Memory>
-    requires { AreBelow symbols links.now }
-    ensures many { IfOk result (λ l. length l.items ≡ symbols) }
-    ensures marks { IfOk result (λ l. (k : ℕ) → k < symbols → get_or l.items k false ≡ is_link links.now k) }
-{
-    let mut linked = vec![in alloc; false; symbols]?;
-    for place in 0..links.len() {
-        let (_, id) = links.entry(place);
-        linked[id] = true;
-    }
-    Ok(linked)
 }
 
 /// With a symbol, unless a name with linkage has it.

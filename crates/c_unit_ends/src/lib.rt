@@ -6,6 +6,7 @@ mod address_constants;
 mod built_in_types;
 mod called;
 mod copied_kinds;
+mod links;
 mod main_function;
 mod standing;
 mod tentative;
@@ -14,6 +15,7 @@ mod uses;
 mod whole_types;
 
 pub use address_constants::constants;
+pub use links::linked_symbols;
 pub use standing::standings;
 pub use tentative::define_tentative;
 pub use undefined::names;

@@ -7,7 +7,7 @@ ghost use Rattle.c_unit_ends.specs.NameFaults.{missing_in, missing_with};
 ghost use Rattle.c_unit_ends.specs.Uses.{all_uses, function_uses, object_uses, place_uses, some_uses, stmt_uses, stmts_uses, uses};
 
 use c_check_decl::DefinedObject;
-use c_meaning::{CoreExpr, CoreKind, CoreStmt, FilledPlace};
+use c_meaning::{CoreExpr, CoreForHead, CoreKind, CoreStmt, FilledPlace};
 use c_standings::Standings;
 use c_symbols::SymbolId;
 use c_unit_parts::DefinedFunction;
@@ -102,13 +102,8 @@ fn in_stmt(standings: &Standings, found: Option<u32>, s: &CoreStmt) -> Option<u3
             let before = in_stmt(standings, found, body);
             in_expr(standings, before, test)
         }
-        CoreStmt::For {
-            first,
-            test,
-            last,
-            body,
-        } => {
-            let before = in_head(standings, found, first, test, last);
+        CoreStmt::For { head, body } => {
+            let before = in_head(standings, found, head);
             in_stmt(standings, before, body)
         }
         CoreStmt::Switch { value, body, .. } => {
@@ -123,18 +118,12 @@ fn in_stmt(standings: &Standings, found: Option<u32>, s: &CoreStmt) -> Option<u3
 
 #[tactic(auto, using(crate::proofs::Missing::missing_behind))]
 /// With those of the three expressions of a `for`.
-fn in_head(
-    standings: &Standings,
-    found: Option<u32>,
-    first: &Option<CoreExpr>,
-    test: &Option<CoreExpr>,
-    last: &Option<CoreExpr>,
-) -> Option<u32>
-    ensures { result ≡ missing_in standings.now found (some_uses first.now ++ some_uses test.now ++ some_uses last.now) }
+fn in_head(standings: &Standings, found: Option<u32>, head: &CoreForHead) -> Option<u32>
+    ensures { result ≡ missing_in standings.now found (some_uses head.now.first ++ some_uses head.now.test ++ some_uses head.now.last) }
 {
-    let before = in_some(standings, found, first);
-    let between = in_some(standings, before, test);
-    in_some(standings, between, last)
+    let before = in_some(standings, found, &head.first);
+    let between = in_some(standings, before, &head.test);
+    in_some(standings, between, &head.last)
 }
 
 /// With those of statements in order.

@@ -6,6 +6,7 @@ use Rattle.c_types.specs.CType.{CType}
 use Rattle.c_meaning.specs.declared.core_expr.CoreKind.TheVariants as kind
 use Rattle.c_meaning.specs.declared.filled_place.FilledPlace.{FilledPlace}
 use Rattle.c_meaning.specs.declared.core_stmt.CoreCase.{CoreCase}
+use Rattle.c_meaning.specs.declared.core_stmt.CoreForHead.{CoreForHead}
 use Rattle.c_meaning.specs.declared.core_stmt.CoreStmt.{CoreStmt}
 use Rattle.c_meaning.specs.declared.core_stmt.CoreStmt.TheVariants as stmt
 use Rattle.c_meaning.specs.CoreTrees.{CoreOf, Core, CoresOf, NoCore, Cores, seen, all_seen}
@@ -74,8 +75,8 @@ while_texts e s = layer _ _ (is_while e s)
 pub do_texts : (s : Box CoreStmt) (e : CoreOf ℕ) → texts_of_stmt (stmt.Do s e) ≡ texts_of_stmt s.value ++ texts_of_expr e
 do_texts s e = layer _ _ (is_do s e)
 
-pub for_texts : (x y z : Option (CoreOf ℕ)) (s : Box CoreStmt) → texts_of_stmt (stmt.For x y z s) ≡ texts_of_some x ++ texts_of_some y ++ texts_of_some z ++ texts_of_stmt s.value
-for_texts x y z s = layer _ _ (is_for x y z s)
+pub for_texts : (h : Box CoreForHead) (s : Box CoreStmt) → texts_of_stmt (stmt.For h s) ≡ texts_of_some h.value.first ++ texts_of_some h.value.test ++ texts_of_some h.value.last ++ texts_of_stmt s.value
+for_texts h s = layer _ _ (is_for h s)
 
 pub switch_texts : (e : CoreOf ℕ) (cases : List CoreCase) (default : Option ℕ) (s : Box CoreStmt) → texts_of_stmt (stmt.Switch e cases default s) ≡ texts_of_expr e ++ texts_of_stmt s.value
 switch_texts e cases default s = layer _ _ (is_switch e cases default s)

@@ -5,6 +5,7 @@ use Rattle.std.specs.Global.{Box}
 use Rattle.c_types.specs.CType.{CType}
 use Rattle.c_types.specs.Table.{Table, types}
 use Rattle.c_meaning.specs.declared.core_stmt.CoreCase.{CoreCase}
+use Rattle.c_meaning.specs.declared.core_stmt.CoreForHead.{CoreForHead}
 use Rattle.c_meaning.specs.declared.core_stmt.CoreStmt.{CoreStmt}
 use Rattle.c_meaning.specs.declared.core_stmt.CoreStmt.TheVariants as stmt
 use Rattle.c_meaning.specs.declared.core_unit.CoreFunction.{CoreFunction}
@@ -60,9 +61,9 @@ module _ (most left : ℕ) (less : left + 1 ≡ most) where
     pub do_counted : (e : CoreOf ℕ) (s : Box CoreStmt) → ExprHasWords e → IsCounted left end' (stmt_of s.value) → IsCounted most end' (stmt_of (stmt.Do s e))
     do_counted e s w h = subst (IsCounted most end') (sym (is_do s e)) (λ f. (let e = (h f).0 in omega (arith, e, less), ((h f).1, w f)))
 
-    pub for_counted : (x y z : Option (CoreOf ℕ)) (s : Box CoreStmt) → SomeHasWords x → SomeHasWords y → SomeHasWords z → IsCounted left end' (stmt_of s.value) → IsCounted most end' (stmt_of (stmt.For x y z s))
-    for_counted x y z s a b c h =
-        subst (IsCounted most end') (sym (is_for x y z s)) (λ f. (let e = (h f).0 in omega (arith, e, less), (some_words f x a, (some_words f y b, (some_words f z c, (h f).1)))))
+    pub for_counted : (t : Box CoreForHead) (s : Box CoreStmt) → SomeHasWords t.value.first → SomeHasWords t.value.test → SomeHasWords t.value.last → IsCounted left end' (stmt_of s.value) → IsCounted most end' (stmt_of (stmt.For t s))
+    for_counted t s a b c h =
+        subst (IsCounted most end') (sym (is_for t s)) (λ f. (let e = (h f).0 in omega (arith, e, less), (some_words f t.value.first a, (some_words f t.value.test b, (some_words f t.value.last c, (h f).1)))))
 
     pub switch_counted : (e : CoreOf ℕ) (cases : List CoreCase) (default : Option ℕ) (s : Box CoreStmt) → ExprHasWords e → IsCounted left end' (stmt_of s.value) → IsCounted most end' (stmt_of (stmt.Switch e cases default s))
     switch_counted e cases default s w h = subst (IsCounted most end') (sym (is_switch e cases default s)) (λ f. (let e = (h f).0 in omega (arith, e, less), (w f, (h f).1)))

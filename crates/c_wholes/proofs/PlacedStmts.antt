@@ -7,14 +7,15 @@ use Rattle.c_types.specs.Table.{Table, type_at}
 use Rattle.c_meaning.specs.declared.core_expr.CoreKind.{CoreKind}
 use Rattle.c_meaning.specs.declared.filled_place.FilledPlace.{FilledPlace}
 use Rattle.c_meaning.specs.declared.core_stmt.CoreCase.{CoreCase}
+use Rattle.c_meaning.specs.declared.core_stmt.CoreForHead.{CoreForHead}
 use Rattle.c_meaning.specs.declared.core_stmt.CoreStmt.{CoreStmt}
 use Rattle.c_meaning.specs.declared.core_stmt.CoreStmt.TheVariants as stmt
 use Rattle.c_meaning.specs.Copies.{maybe, expressions, copies_in, all_copies}
 use Rattle.c_meaning.specs.CoreTrees.{CoreOf}
-use Rattle.c_meaning.specs.StmtTrees.{FilledOf, StmtOf, Initialise, If, While, Do, For, Switch, Label, IsStmtIn, filled_of, place_seen, stmt_of, stmt_seen}
+use Rattle.c_meaning.specs.StmtTrees.{FilledOf, StmtOf, Initialise, If, While, Do, For, Switch, Label, IsStmtIn, filled_of, maybe_seen, place_seen, stmt_of, stmt_seen}
 use Rattle.c_meaning.specs.Values.{CoreTree}
-use Rattle.c_units.specs.Wholes.{some_copies, stmt_copies, placed, some_placed, placed_stmt, whole_places, whole_stmt}
-use Rattle.c_wholes.specs.Placing.{Grows, Placing, IsPlaced, IsSomePlaced, ArePlacesPlaced, IsStmtPlaced}
+use Rattle.c_units.specs.Wholes.{some_copies, stmt_copies, placed, some_placed, placed_stmt, some_whole, whole_places, whole_stmt}
+use Rattle.c_wholes.specs.Placing.{Grows, Placing, IsPlaced, ArePlacesPlaced, IsHeadPlaced, IsStmtPlaced}
 use Rattle.c_wholes.proofs.KindTrees.{filled_seen}
 use Rattle.c_wholes.proofs.Layers.{is_initialise, is_if, is_while, is_do, is_for, is_switch, is_label}
 use Rattle.c_wholes.proofs.PlacedParts.{count, same_grows, then_grows}
@@ -89,12 +90,21 @@ module _ (t : Table) where
         is_in = (p.is_in, (q.is_in, r.is_in));
       })
 
-  pub for_placed : (a b c d e : List ℕ) (f g h : Option CoreTree) (s : StmtOf CType) (x y z : Option (CoreOf ℕ)) (u : Box CoreStmt) → IsSomePlaced t a b f x → IsSomePlaced t b c g y → IsSomePlaced t c d h z → IsStmtPlaced t d e s u.value → IsStmtPlaced t a e (For f g h s) (stmt.For x y z u)
-  for_placed a b c d e f g h s x y z u p q r v =
+  pub for_placed : (a d e : List ℕ) (whole : Option CoreTree → Option CoreTree) (old : CoreForHead) (s : StmtOf CType) (x : Box CoreForHead) (u : Box CoreStmt) → IsHeadPlaced t a d whole old x.value → IsStmtPlaced t d e s u.value
+      → IsStmtPlaced t a e (For (whole (maybe_seen (type_at t) old.first)) (whole (maybe_seen (type_at t) old.test)) (whole (maybe_seen (type_at t) old.last)) s) (stmt.For x u)
+  for_placed a d e whole old s x u k v =
+      let b = k.behind_first in
+      let c = k.behind_test in
+      let f = whole (maybe_seen (type_at t) old.first) in
+      let g = whole (maybe_seen (type_at t) old.test) in
+      let h = whole (maybe_seen (type_at t) old.last) in
+      let p = k.first in
+      let q = k.test in
+      let r = k.last in
       let l = count t _ a b p.grows in
       let m = count t _ b c q.grows ∙ ap (λ k. k + some_copies g) l in
       let n = count t _ c d r.grows ∙ ap (λ k. k + some_copies h) m in
-      layered a e (For f g h s) _ _ (is_for x y z u)
+      layered a e (For f g h s) _ _ (is_for x u)
       (record {
         means = λ j. For (p.means j) ((q.means ∙ ap (λ k. some_placed k g) l) j) ((r.means ∙ ap (λ k. some_placed k h) m) j) ((v.means ∙ ap (λ k. placed_stmt k s) n) j);
         grows =
@@ -116,5 +126,8 @@ initialise_seen t meant texts a b local zero ps qs p =
 -- ---- from where the parts stood
 
 module _ (t : Table) (meant : ℕ → CoreKind) (texts : List (List ℕ)) where
+  pub from_head : (a b : List ℕ) (x y d : CoreForHead) → x ≡ y → IsHeadPlaced t a b (some_whole meant texts) x d → IsHeadPlaced t a b (some_whole meant texts) y d
+  from_head a b x y d e p = subst (λ z. IsHeadPlaced t a b (some_whole meant texts) z d) e p
+
   pub from_stmt : (a b : List ℕ) (x y d : CoreStmt) → x ≡ y → IsStmtPlaced t a b (whole_stmt meant texts (stmt_seen (type_at t) (stmt_of x))) d → IsStmtPlaced t a b (whole_stmt meant texts (stmt_seen (type_at t) (stmt_of y))) d
   from_stmt a b x y d e p = subst (λ z. IsStmtPlaced t a b (whole_stmt meant texts (stmt_seen (type_at t) (stmt_of z))) d) e p

@@ -4,6 +4,7 @@ use Rattle.std.specs.Prelude.{◌≡◌, ℕ, Option, List, [], ◌++◌, length
 use Rattle.c_types.specs.Table.{Table, type_at, AreBelow}
 use Rattle.c_types.specs.CType.{CType}
 use Rattle.c_meaning.specs.declared.filled_place.FilledPlace.{FilledPlace}
+use Rattle.c_meaning.specs.declared.core_stmt.CoreForHead.{CoreForHead}
 use Rattle.c_meaning.specs.declared.core_stmt.CoreStmt.{CoreStmt}
 use Rattle.c_meaning.specs.Copies.{LocalAt, all_copied, copied, maybe, expressions, all_expressions, copies_in, copies_in_all, all_copies}
 use Rattle.c_meaning.specs.CoreTrees.{CoreOf, NoCore, Cores, IsIn, AreIn, seen, all_seen, cores_of}
@@ -42,6 +43,14 @@ ArePlaced t before after cs ds = Placing t before after (all_seen (type_at t) (c
 -- the same of an expression, if there is one
 abbrev pub IsSomePlaced : Table → List ℕ → List ℕ → Option CoreTree → Option (CoreOf ℕ) → Type 0
 IsSomePlaced t before after c d = Placing t before after (maybe_seen (type_at t) d ≡ some_placed (length before) c) (all_copies (maybe c)) (IsSomeIn (length t.forms) d)
+
+-- the same of the three parts of a `for`'s head, one behind the other, each made whole
+pub record IsHeadPlaced (t : Table) (before after : List ℕ) (whole : Option CoreTree → Option CoreTree) (old new : CoreForHead) : Type 0 where
+  pub behind_first : List ℕ
+  pub behind_test : List ℕ
+  pub first : IsSomePlaced t before behind_first (whole (maybe_seen (type_at t) old.first)) new.first
+  pub test : IsSomePlaced t behind_first behind_test (whole (maybe_seen (type_at t) old.test)) new.test
+  pub last : IsSomePlaced t behind_test after (whole (maybe_seen (type_at t) old.last)) new.last
 
 -- the same of the places of an object
 abbrev pub ArePlacesPlaced : Table → List ℕ → List ℕ → List (FilledOf CType) → List FilledPlace → Type 0

@@ -102,15 +102,10 @@ fn note_statement(texts: &mut Texts, s: &CoreStmt) -> Result<(), Memory>
             note_statement(texts, body)?;
             note_expr(texts, test)
         }
-        CoreStmt::For {
-            first,
-            test,
-            last,
-            body,
-        } => {
-            note_some(texts, first)?;
-            note_some(texts, test)?;
-            note_some(texts, last)?;
+        CoreStmt::For { head, body } => {
+            note_some(texts, &head.first)?;
+            note_some(texts, &head.test)?;
+            note_some(texts, &head.last)?;
             note_statement(texts, body)
         }
         CoreStmt::Switch { value, body, .. } => {

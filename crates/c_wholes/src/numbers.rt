@@ -95,15 +95,10 @@ fn count_statement(s: &CoreStmt, most: u32) -> Option<u32>
             read_expr(test);
             count_statement(body, left)
         }
-        CoreStmt::For {
-            first,
-            test,
-            last,
-            body,
-        } => {
-            read_some(first);
-            read_some(test);
-            read_some(last);
+        CoreStmt::For { head, body } => {
+            read_some(&head.first);
+            read_some(&head.test);
+            read_some(&head.last);
             count_statement(body, left)
         }
         CoreStmt::Switch { value, body, .. } => {

@@ -5,12 +5,12 @@ ghost use Rattle.c_meaning.specs.CoreTrees.{IsIn, seen};
 ghost use Rattle.c_meaning.specs.StmtTrees.{ArePlacesIn, AreStmtsIn, IsSomeIn, IsStmtIn, filled_of, maybe_seen, place_seen, stmt_of, stmt_seen, stmts_of, stmts_seen};
 ghost use Rattle.c_units.specs.Wholes.{some_whole, whole, whole_places as places_whole, whole_stmt, whole_stmts};
 ghost use Rattle.c_standings.specs.StandingLists.{meant};
-ghost use Rattle.c_wholes.specs.Placing.{ArePlacesPlaced, AreStmtsPlaced, IsPlaced, IsSomePlaced, IsStmtPlaced};
+ghost use Rattle.c_wholes.specs.Placing.{ArePlacesPlaced, AreStmtsPlaced, IsHeadPlaced, IsPlaced, IsSomePlaced, IsStmtPlaced};
 
 use crate::copies::place_expr;
 use crate::names::name_expr;
 use crate::texts::Texts;
-use c_meaning::{CoreExpr, CoreStmt, FilledPlace};
+use c_meaning::{CoreExpr, CoreForHead, CoreStmt, FilledPlace};
 use c_standings::Standings;
 use c_types::{TypeId, TypeTable};
 use lcc_base::{Items, Memory};
@@ -45,6 +45,19 @@ fn whole_some(k: &Known, locals: &mut Items<TypeId>, e: &mut Option<CoreExpr>) -
         Some(e) => whole_value(k, locals, e),
         None => Ok(()),
     }
+}
+
+/// The parts of a `for`'s head.
+fn whole_head(k: &Known, locals: &mut Items<TypeId>, head: &mut CoreForHead) -> Result<(), Memory>
+    requires locals { AreBelow (length k.now.types.now.forms) locals.old }
+    requires first { IsSomeIn (length k.now.types.now.forms) head.old.first }
+    requires test { IsSomeIn (length k.now.types.now.forms) head.old.test }
+    requires last { IsSomeIn (length k.now.types.now.forms) head.old.last }
+    ensures { OnOk result (IsHeadPlaced k.now.types.now locals.old locals.new (some_whole (meant k.now.standings.now) k.now.texts.now) head.old head.new) }
+{
+    whole_some(k, locals, &mut head.first)?;
+    whole_some(k, locals, &mut head.test)?;
+    whole_some(k, locals, &mut head.last)
 }
 
 /// The places of an object that a function initialises, in order.
@@ -190,22 +203,10 @@ fn made_whole(k: &Known, locals: &mut Items<TypeId>, s: CoreStmt) -> Result<Core
             whole_value(k, locals, &mut test)?;
             Ok(CoreStmt::Do { body, test })
         }
-        CoreStmt::For {
-            mut first,
-            mut test,
-            mut last,
-            mut body,
-        } => {
-            whole_some(k, locals, &mut first)?;
-            whole_some(k, locals, &mut test)?;
-            whole_some(k, locals, &mut last)?;
+        CoreStmt::For { mut head, mut body } => {
+            whole_head(k, locals, &mut head)?;
             whole_statement(k, locals, &mut body)?;
-            Ok(CoreStmt::For {
-                first,
-                test,
-                last,
-                body,
-            })
+            Ok(CoreStmt::For { head, body })
         }
         CoreStmt::Switch {
             mut value,

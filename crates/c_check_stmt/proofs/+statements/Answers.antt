@@ -266,14 +266,14 @@ pub loops::for_-returns-in_err-head : goal.loops::for_-returns-in_err-head
 loops::for_-returns-in_err-head t c =
     let a = c.args.types.now in
     let x = c.args.body.now in
-    let k = for_at c.args.spot.now c.args.scopes.now a x c.args.s.now c.in_loop-inside.result c.args.parts.0.now c.args.parts.1.now c.args.parts.2.now c.in_loop-inside.ensures in
+    let k = for_at c.args.spot.now c.args.scopes.now a x c.args.s.now c.in_loop-inside.result c.args.parts.now.first c.args.parts.now.test c.args.parts.now.last c.in_loop-inside.ensures in
     parts_stop k x c.from_residual.result c.from_residual.ensures.1 c.in_err-head.ensures
 
 pub loops::for_-returns-in_err-code : goal.loops::for_-returns-in_err-code
 loops::for_-returns-in_err-code t c =
     let a = c.args.types.now in
     let x = c.args.body.now in
-    let k = for_at c.args.spot.now c.args.scopes.now a x c.args.s.now c.in_loop-inside.result c.args.parts.0.now c.args.parts.1.now c.args.parts.2.now c.in_loop-inside.ensures in
+    let k = for_at c.args.spot.now c.args.scopes.now a x c.args.s.now c.in_loop-inside.result c.args.parts.now.first c.args.parts.now.test c.args.parts.now.last c.in_loop-inside.ensures in
     let first = c.in_ok-head.ensures in
     let b = c.head.new.types in
     let started = body_stays a b first.keeps.extends x c.requires.ready.body in
@@ -283,7 +283,7 @@ pub loops::for_-returns : goal.loops::for_-returns
 loops::for_-returns t c =
     let a = c.args.types.now in
     let x = c.args.body.now in
-    let k = for_at c.args.spot.now c.args.scopes.now a x c.args.s.now c.in_loop-inside.result c.args.parts.0.now c.args.parts.1.now c.args.parts.2.now c.in_loop-inside.ensures in
+    let k = for_at c.args.spot.now c.args.scopes.now a x c.args.s.now c.in_loop-inside.result c.args.parts.now.first c.args.parts.now.test c.args.parts.now.last c.in_loop-inside.ensures in
     let first = c.in_ok-head.ensures in
     let b = c.head.new.types in
     let started = body_stays a b first.keeps.extends x c.requires.ready.body in
@@ -375,17 +375,21 @@ statements::compound-returns t c =
     compound_goes c.args.scopes.now c.enter.new.self c.block-code.new.scopes c.leave.new.self c.args.types.now c.block-code.new.types c.in_ok-enter.ensures.outer c.in_ok-enter.ensures.inner c.in_ok-enter.ensures.links c.in_ok-enter.ensures.symbols c.leave.ensures.scopes c.leave.ensures.links c.leave.ensures.symbols
     (within_in c.args.types.now c.args.spot.now.within.now) (around_seen c.args.spot.now.around) (body_in c.args.types.now c.args.body.now) c.block-code.new.body c.args.spot.now.line (block_seen c.args.b.now) c.block-code.result c.block-code.ensures
 
+pub statements::statements-returns-in_err-codes : goal.statements::statements-returns-in_err-codes
+statements::statements-returns-in_err-codes t c =
+    out_of_list_memory _ c.args.body.now c.from_residual.result c.from_residual.ensures.1 (keeps_itself c.args.scopes.now c.args.types.now c.requires.symbols)
+
 pub statements::statements-loop-s-init : goal.statements::statements-loop-s-init
 statements::statements-loop-s-init t c =
     record {
-      going = subst (λ cs. StatementsGoing c.args.within.now (around_seen c.args.around) c.args.scopes.now c.args.types.now c.args.body.now c.args.list.now c.args.scopes.now c.args.types.now c.args.body.now cs c.args.list.now) (sym c.new-codes.ensures) (statements_start c.args.within.now (around_seen c.args.around) c.args.scopes.now c.args.types.now c.args.body.now c.args.list.now c.requires.symbols c.requires.ready.body);
+      going = subst (λ cs. StatementsGoing c.args.within.now (around_seen c.args.around) c.args.scopes.now c.args.types.now c.args.body.now c.args.list.now c.args.scopes.now c.args.types.now c.args.body.now cs c.args.list.now) (sym c.in_ok-codes.ensures) (statements_start c.args.within.now (around_seen c.args.around) c.args.scopes.now c.args.types.now c.args.body.now c.args.list.now c.requires.symbols c.requires.ready.body);
       kept = keeps_itself c.args.scopes.now c.args.types.now c.requires.symbols;
       ready = c.requires.ready;
     }
 
 pub statements::statements-returns-in_err-code : goal.statements::statements-returns-in_err-code
 statements::statements-returns-in_err-code t c =
-    statements_stop c.args.within.now (around_seen c.args.around) c.args.scopes.now c.args.types.now c.args.body.now c.args.list.now c.loop-s.scopes c.loop-s.types c.loop-s.body c.loop-s.codes c.loop-s.s-index c.s-item.result (omega arith) c.s-item.is c.loop-s.invariant.going c.requires.ready.result c.loop-s.invariant.kept c.statement.new.scopes c.statement.new.types c.statement.new.body c.in_err-code.field-0.0 c.from_residual.result c.from_residual.ensures.1 c.in_err-code.ensures
+    statements_stop c.args.within.now (around_seen c.args.around) c.args.scopes.now c.args.types.now c.args.body.now c.args.list.now c.loop-s.scopes c.loop-s.types c.loop-s.body c.loop-s.codes c.loop-s.s-index c.s-item.result (omega arith) c.s-item.is c.loop-s.invariant.going c.requires.ready.result c.loop-s.invariant.kept c.statement.new.scopes c.statement.new.types c.statement.new.body c.in_err-code.field-0.0 c.from_residual-in_err-code.result c.from_residual-in_err-code.ensures.1 c.in_err-code.ensures
 
 pub statements::statements-returns-in_err-push : goal.statements::statements-returns-in_err-push
 statements::statements-returns-in_err-push t c =
@@ -446,7 +450,7 @@ statements::statement-returns-in-Do t c =
 pub statements::statement-returns-in-For : goal.statements::statement-returns-in-For
 statements::statement-returns-in-For t c =
     let l = (out-Statement c.args.s.now).line in
-    statement_as (within_in c.args.types.now c.args.within.now) (around_seen c.args.around) (body_in c.args.types.now c.args.body.now) c.for_.new.body c.for_.result c.args.s.now _ _ c.in-For.is (cc (form_for c.in-For.first c.in-For.test c.in-For.last c.in-For.inner l)) c.for_.ensures
+    statement_as (within_in c.args.types.now c.args.within.now) (around_seen c.args.around) (body_in c.args.types.now c.args.body.now) c.for_.new.body c.for_.result c.args.s.now _ _ c.in-For.is (cc (form_for c.in-For.head c.in-For.inner l)) c.for_.ensures
 
 pub statements::statement-returns-in-Return : goal.statements::statement-returns-in-Return
 statements::statement-returns-in-Return t c =

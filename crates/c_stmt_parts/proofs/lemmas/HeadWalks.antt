@@ -19,7 +19,7 @@ use Rattle.c_check_expr.specs.Walking.{first_stops, walk_as, walk_then}
 use Rattle.c_check_expr.specs.WalkLists.{then_same, then_then}
 use Rattle.c_check_expr.specs.Walks.{Walks}
 use Rattle.c_check_decl.specs.StmtsStay.{maybe_stays}
-use Rattle.c_stmt_parts.specs.declared.tests.Head.{Head}
+use Rattle.c_meaning.specs.declared.core_stmt.CoreForHead.{CoreForHead}
 use Rattle.c_stmt_parts.specs.Asked.{maybe_core}
 use Rattle.c_stmt_parts.specs.Heads.{Heads, IsHeadIn, head_in, head_typed_in}
 
@@ -43,10 +43,10 @@ some_later a b h (Some c) i = in_later a b h c i
 
 -- ---- the head
 
-pub head_stays : (a b : Table) → Extends a b → (h : Head) → IsHeadIn (length a.forms) h → head_in b h ≡ head_in a h
+pub head_stays : (a b : Table) → Extends a b → (h : CoreForHead) → IsHeadIn (length a.forms) h → head_in b h ≡ head_in a h
 head_stays a b e h i = rw (maybe_stays a b e h.first i.first, maybe_stays a b e h.test i.test, maybe_stays a b e h.last i.last) refl
 
-pub head_later : (a b : Table) → Extends a b → (h : Head) → IsHeadIn (length a.forms) h → IsHeadIn (length b.forms) h
+pub head_later : (a b : Table) → Extends a b → (h : CoreForHead) → IsHeadIn (length a.forms) h → IsHeadIn (length b.forms) h
 head_later a b e h i = record { first = some_later a b e h.first i.first; test = some_later a b e h.test i.test; last = some_later a b e h.last i.last }
 
 abbrev third : Option CoreTree → Option CoreTree → State → Option CoreTree → Outcome Heads
@@ -82,21 +82,21 @@ module _ (s : Scoping) (t : Table) (a b c : MaybeExpr) where
   unfolding maybe_expr_in
   third_is u d x y = refl
 
-  pub head_stops : {u : Scoping} {d : Table} {e : CheckFault} (r : Result Head CheckFault) → IsErrAnd r (λ x. x ≡ e) → Walks size_seen IsSizeIn (maybe_expr_in s t a) s t u d (Err e) → Walks head_in IsHeadIn (head_typed_in s t a b c) s t u d r
+  pub head_stops : {u : Scoping} {d : Table} {e : CheckFault} (r : Result CoreForHead CheckFault) → IsErrAnd r (λ x. x ≡ e) → Walks size_seen IsSizeIn (maybe_expr_in s t a) s t u d (Err e) → Walks head_in IsHeadIn (head_typed_in s t a b c) s t u d r
   head_stops r h w = walk_as _ _ head_is (first_stops head_in IsHeadIn (maybe_expr_in s t a) (first b c) r h w)
 
   module _ {m : Scoping} {d : Table} {x : Option (CoreOf ℕ)} (one : Walks size_seen IsSizeIn (maybe_expr_in s t a) s t m d (Ok x)) where
-    behind_one : {u : Scoping} {q : Table} (r : Result Head CheckFault) → Walks head_in IsHeadIn (first b c (state_of m d) (maybe_core d x)) m d u q r → Walks head_in IsHeadIn (head_typed_in s t a b c) s t u q r
+    behind_one : {u : Scoping} {q : Table} (r : Result CoreForHead CheckFault) → Walks head_in IsHeadIn (first b c (state_of m d) (maybe_core d x)) m d u q r → Walks head_in IsHeadIn (head_typed_in s t a b c) s t u q r
     behind_one {u = u} {q = q} r w = walk_as _ _ head_is (walk_then head_in IsHeadIn (maybe_expr_in s t a) (first b c) s m u t d q x r (maybe_walk (Ok x) one) w)
 
-    pub head_stops_second : {u : Scoping} {q : Table} {e : CheckFault} (r : Result Head CheckFault) → IsErrAnd r (λ y. y ≡ e) → Walks size_seen IsSizeIn (maybe_expr_in m d b) m d u q (Err e) → Walks head_in IsHeadIn (head_typed_in s t a b c) s t u q r
+    pub head_stops_second : {u : Scoping} {q : Table} {e : CheckFault} (r : Result CoreForHead CheckFault) → IsErrAnd r (λ y. y ≡ e) → Walks size_seen IsSizeIn (maybe_expr_in m d b) m d u q (Err e) → Walks head_in IsHeadIn (head_typed_in s t a b c) s t u q r
     head_stops_second r h w = behind_one r (walk_as _ _ (second_is m d (maybe_core d x)) (first_stops head_in IsHeadIn (maybe_expr_in m d b) (second c (maybe_core d x)) r h w))
 
     module _ {u : Scoping} {q : Table} {y : Option (CoreOf ℕ)} (two : Walks size_seen IsSizeIn (maybe_expr_in m d b) m d u q (Ok y)) where
-      behind_two : {v : Scoping} {p : Table} (r : Result Head CheckFault) → Walks head_in IsHeadIn (second c (maybe_core d x) (state_of u q) (maybe_core q y)) u q v p r → Walks head_in IsHeadIn (head_typed_in s t a b c) s t v p r
+      behind_two : {v : Scoping} {p : Table} (r : Result CoreForHead CheckFault) → Walks head_in IsHeadIn (second c (maybe_core d x) (state_of u q) (maybe_core q y)) u q v p r → Walks head_in IsHeadIn (head_typed_in s t a b c) s t v p r
       behind_two {v = v} {p = p} r w = behind_one r (walk_as _ _ (second_is m d (maybe_core d x)) (walk_then head_in IsHeadIn (maybe_expr_in m d b) (second c (maybe_core d x)) m u v d q p y r (maybe_walk (Ok y) two) w))
 
-      pub head_stops_third : {v : Scoping} {p : Table} {e : CheckFault} (r : Result Head CheckFault) → IsErrAnd r (λ z. z ≡ e) → Walks size_seen IsSizeIn (maybe_expr_in u q c) u q v p (Err e) → Walks head_in IsHeadIn (head_typed_in s t a b c) s t v p r
+      pub head_stops_third : {v : Scoping} {p : Table} {e : CheckFault} (r : Result CoreForHead CheckFault) → IsErrAnd r (λ z. z ≡ e) → Walks size_seen IsSizeIn (maybe_expr_in u q c) u q v p (Err e) → Walks head_in IsHeadIn (head_typed_in s t a b c) s t v p r
       head_stops_third r h w = behind_two r (walk_as _ _ (third_is u q (maybe_core d x) (maybe_core q y)) (first_stops head_in IsHeadIn (maybe_expr_in u q c) (third (maybe_core d x) (maybe_core q y)) r h w))
 
       pub head_goes : {v : Scoping} {p : Table} {z : Option (CoreOf ℕ)} → Walks size_seen IsSizeIn (maybe_expr_in u q c) u q v p (Ok z) → Walks head_in IsHeadIn (head_typed_in s t a b c) s t v p (Ok (record { first = x; test = y; last = z }))

@@ -15,7 +15,7 @@ pub loop-o-preserved : goal.loop-o-preserved
 loop-o-preserved c = record {
   is = λ t.
       ap (λ (l : List CoreObject). map (object_seen (types t)) l ++ whole_objects (state_of c.args.scopes.now t) (meant c.args.standings.now) c.args.texts.now (length l) (map (defined_in t) (into_iter_items c.next.new.self))) c.in_ok-push.ensures.ok
-      ∙ objects_turn t (state_of c.args.scopes.now t) (meant c.args.standings.now) c.args.texts.now c.loop-o.list c.in_ok-object.object c.in-Some.o _ (into_iter_items c.next.new.self) (into_iter_items c.loop-o.o-iterator) _ c.in-Some.ensures.steps.0 (c.is_marked-is_linked.ensures ∙ ap (λ l. get_or l c.in-Some.o.symbol false) c.as_slice.ensures.value ∙ c.in_ok-linked.ensures c.in-Some.o.symbol ∙ ap (λ ns. is_link ns c.in-Some.o.symbol) c.links.ensures) (c.in_ok-object.ensures.whole t ∙ ap (λ (n : ℕ). whole_object (meant c.args.standings.now) c.args.texts.now c.is_marked-is_linked.result n (object_seen (types t) c.in-Some.o.object)) c.len-place.ensures) (c.loop-o.invariant.is t);
+      ∙ objects_turn t (state_of c.args.scopes.now t) (meant c.args.standings.now) c.args.texts.now c.loop-o.list c.in_ok-object.object c.in-Some.o _ (into_iter_items c.next.new.self) (into_iter_items c.loop-o.o-iterator) _ c.in-Some.ensures.steps.0 (c.is_marked-is_linked.ensures ∙ ap (λ l. get_or l c.in-Some.o.symbol false) c.as_slice.ensures.value ∙ c.in_ok-linked.ensures.marks c.in-Some.o.symbol ∙ ap (λ ns. is_link ns c.in-Some.o.symbol) c.links.ensures) (c.in_ok-object.ensures.whole t ∙ ap (λ (n : ℕ). whole_object (meant c.args.standings.now) c.args.texts.now c.is_marked-is_linked.result n (object_seen (types t) c.in-Some.o.object)) c.len-place.ensures) (c.loop-o.invariant.is t);
   within = λ n h. objects_placed n c.loop-o.list _ c.in_ok-object.object c.in-Some.o (into_iter_items c.next.new.self) (into_iter_items c.loop-o.o-iterator) c.in-Some.ensures.steps.0 c.in_ok-push.ensures.ok c.in_ok-object.ensures.of (c.in_ok-object.ensures.places n) (c.loop-o.invariant.within n h);
 }
 

@@ -142,14 +142,14 @@ of_statement-returns-in-For-clause-found t c =
     let x = c.deref-in-For.result.now in
     let y = c.in-For.inner.value in
     let same : statement_seen x ≡ statement_seen y = cc in
-    on_ok_weaker c.of_statement-in-For.result (λ h. inner_labels c.args.s.now _ _ c.in-For.is (form_for _ _ _ _ _) x y same c.args.found.now c.of_statement-in-For.new.found c.args.before refl h) c.of_statement-in-For.ensures.found
+    on_ok_weaker c.of_statement-in-For.result (λ h. inner_labels c.args.s.now _ _ c.in-For.is (form_for _ _ _) x y same c.args.found.now c.of_statement-in-For.new.found c.args.before refl h) c.of_statement-in-For.ensures.found
 
 pub of_statement-returns-in-For-clause-count : goal.of_statement-returns-in-For-clause-count
 of_statement-returns-in-For-clause-count t c =
     let x = c.deref-in-For.result.now in
     let y = c.in-For.inner.value in
     let same : statement_seen x ≡ statement_seen y = cc in
-    IfOk-weaker c.of_statement-in-For.result _ _ (λ n h. inner_marks c.args.s.now _ _ c.in-For.is (form_for _ _ _ _ _) x y same c.args.before n refl h) c.of_statement-in-For.ensures.count
+    IfOk-weaker c.of_statement-in-For.result _ _ (λ n h. inner_marks c.args.s.now _ _ c.in-For.is (form_for _ _ _) x y same c.args.before n refl h) c.of_statement-in-For.ensures.count
 
 pub of_statement-returns-in-Expression-clause-found : goal.of_statement-returns-in-Expression-clause-found
 of_statement-returns-in-Expression-clause-found t c = plain_labels c.args.found.now c.args.before c.args.s.now c.in-Expression.is

@@ -16,6 +16,6 @@ loop-id-preserved c =
     let below : id < c.count.result = omega (arith, c.loop-id-test.true, c.count.ensures, c.count-id-end.ensures) in
     let within : id < length marks = omega (arith, below, c.in_ok-linked.ensures.many) in
     called_more c.args.standings.now c.args.scopes.now.links (types c.args.types.now) c.args.scopes.now.symbols id c.symbol.result.now c.index.result.now c.loop-id.least c.with_symbol-least.result c.symbol.ensures
-    (c.index.ensures ∙ get_or_default marks id c.index.result.now false within ∙ c.in_ok-linked.ensures.marks id below ∙ ap (λ ns. is_link ns id) c.links.ensures)
+    (c.index.ensures ∙ get_or_default marks id c.index.result.now false within ∙ c.in_ok-linked.ensures.marks id ∙ ap (λ ns. is_link ns id) c.links.ensures)
     c.with_symbol-least.ensures
     ∙ c.loop-id.invariant

@@ -1,9 +1,11 @@
-use Rattle.std.proofs.Common.{List, map, refl, ◌++◌, ◌∙◌}
+use Rattle.std.proofs.Common.{List, ap, map, refl, ◌++◌, ◌∙◌}
 use Rattle.c_meaning.specs.declared.core_stmt.CoreStmt.{CoreStmt}
 use Rattle.c_meaning.specs.StmtTrees.{stmt_of, stmts_of}
+use Rattle.c_unit_ends.specs.NameFaults.{missing_in}
 use Rattle.c_unit_ends.specs.Uses.{some_uses, stmt_uses, stmts_uses, uses}
 use Rattle.c_unit_ends.proofs.Missing.{missing_as, missing_both, missing_inside, missing_more}
 use Rattle.c_unit_ends.proofs.Shapes.{is_do, is_for, is_if, is_switch, is_while}
+use Rattle.c_meaning.specs.declared.core_stmt.CoreForHead.{CoreForHead}
 use Rattle.c_unit_ends.proofs.uses.+statement.Goals as goal
 
 pub in_stmt-returns-in-If : goal.in_stmt-returns-in-If
@@ -43,10 +45,11 @@ in_stmt-returns-in-For t c =
     let b = c.in-For in
     let xs = c.args.standings.now in
     let before = c.in_head-before in
-    let last = c.in_stmt-in-For in
-    missing_as xs c.args.found last.result c.args.s.now _ _ (some_uses b.first ++ some_uses b.test ++ some_uses b.last ++ stmt_uses (stmt_of b.body.value)) b.is (is_for b.first b.test b.last b.body) refl
-    (missing_both xs c.args.found before.result last.result (some_uses b.first ++ some_uses b.test ++ some_uses b.last) (stmt_uses (stmt_of b.body.value)) before.ensures
-    (missing_inside xs before.result last.result c.deref-in-For.result.now b.body.value last.ensures c.deref-in-For.ensures))
+    let body = c.in_stmt-in-For in
+    missing_as xs c.args.found body.result c.args.s.now _ _ (some_uses b.head.value.first ++ some_uses b.head.value.test ++ some_uses b.head.value.last ++ stmt_uses (stmt_of b.body.value)) b.is (is_for b.head b.body) refl
+    (missing_both xs c.args.found before.result body.result (some_uses b.head.value.first ++ some_uses b.head.value.test ++ some_uses b.head.value.last) (stmt_uses (stmt_of b.body.value))
+    (before.ensures ∙ ap (λ (h : CoreForHead). missing_in xs c.args.found (some_uses h.first ++ some_uses h.test ++ some_uses h.last)) c.deref-in-For.ensures)
+    (missing_inside xs before.result body.result c.deref-in-For-2.result.now b.body.value body.ensures c.deref-in-For-2.ensures))
 
 pub in_stmt-returns-in-Switch : goal.in_stmt-returns-in-Switch
 in_stmt-returns-in-Switch t c =

@@ -3,6 +3,7 @@ use Rattle.std.proofs.lemmas.Result.{on_ok_weaker}
 use Rattle.c_units.specs.Wholes.{once}
 use Rattle.c_wholes.specs.Literals.{texts_of_expr, texts_of_places, texts_of_some, texts_of_stmt, texts_of_stmts}
 use Rattle.c_wholes.proofs.LiteralTrees.{do_texts, for_texts, four_parts, if_texts, initialise_texts, next_noted, one_part, switch_texts, three_parts, two_parts, while_texts}
+use Rattle.c_meaning.specs.declared.core_stmt.CoreForHead.{CoreForHead}
 use Rattle.c_wholes.proofs.literals.+statement_literals.Goals as goal
 
 pub note_statement-returns-in-Initialise : goal.note_statement-returns-in-Initialise
@@ -42,9 +43,14 @@ note_statement-returns-in_ok-note_statement-in-Do t c =
 pub note_statement-returns-in_ok-note_some-in-For-3 : goal.note_statement-returns-in_ok-note_some-in-For-3
 note_statement-returns-in_ok-note_some-in-For-3 t c =
     let b = c.in-For in
-    let same : texts_of_stmt c.deref-in-For.result.now ≡ texts_of_stmt b.body.value = cc in
+    let first : c.deref-in-For.result.now ≡ b.head.value = cc in
+    let test : c.deref-in-For-2.result.now ≡ b.head.value = cc in
+    let last : c.deref-in-For-3.result.now ≡ b.head.value = cc in
+    let same : texts_of_stmt c.deref-in-For-4.result.now ≡ texts_of_stmt b.body.value = cc in
     on_ok_weaker c.note_statement-in-For.result
-    (λ h. four_parts _ _ _ _ _ c.args.s.now _ (texts_of_some b.first) (texts_of_some b.test) (texts_of_some b.last) (texts_of_stmt b.body.value) b.is (for_texts b.first b.test b.last b.body) c.in_ok-note_some-in-For.ensures c.in_ok-note_some-in-For-2.ensures c.in_ok-note_some-in-For-3.ensures (h ∙ ap (once c.note_some-in-For-2.new.texts) same))
+    (λ h. four_parts _ _ _ _ _ c.args.s.now _ (texts_of_some b.head.value.first) (texts_of_some b.head.value.test) (texts_of_some b.head.value.last) (texts_of_stmt b.body.value) b.is (for_texts b.head b.body) (c.in_ok-note_some-in-For.ensures ∙ ap (λ (h : CoreForHead). once c.args.texts.now (texts_of_some h.first)) first)
+    (c.in_ok-note_some-in-For-2.ensures ∙ ap (λ (h : CoreForHead). once c.note_some.new.texts (texts_of_some h.test)) test)
+    (c.in_ok-note_some-in-For-3.ensures ∙ ap (λ (h : CoreForHead). once c.note_some-in-For.new.texts (texts_of_some h.last)) last) (h ∙ ap (once c.note_some-in-For-2.new.texts) same))
     c.note_statement-in-For.ensures
 
 pub note_statement-returns-in_ok-note_expr-in-Switch : goal.note_statement-returns-in_ok-note_expr-in-Switch

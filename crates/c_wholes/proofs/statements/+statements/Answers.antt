@@ -8,7 +8,7 @@ use Rattle.c_wholes.specs.Placing.{AreStmtsPlaced, IsStmtPlaced}
 use Rattle.c_wholes.proofs.Layers.{is_do, is_for, is_if, is_initialise, is_label, is_switch, is_while}
 use Rattle.c_wholes.proofs.Loops.{next}
 use Rattle.c_wholes.proofs.PlacedLists.{one_more_stmt, stmts_whole_behind}
-use Rattle.c_wholes.proofs.PlacedStmts.{by_layer, do_placed, for_placed, from_stmt, if_placed, initialise_seen, label_placed, switch_placed, while_placed}
+use Rattle.c_wholes.proofs.PlacedStmts.{by_layer, do_placed, for_placed, from_head, from_stmt, if_placed, initialise_seen, label_placed, switch_placed, while_placed}
 use Rattle.c_wholes.proofs.statements.+statements.Goals as goal
 
 pub made_whole-returns-in_ok-whole_places-in-Initialise : goal.made_whole-returns-in_ok-whole_places-in-Initialise
@@ -61,10 +61,11 @@ made_whole-returns-in_ok-whole_statement-in-For t c =
     let m = meant k.standings.now in
     let x = k.texts.now in
     let b = c.in-For in
-    let same : c.deref_mut-in-For.result.now ≡ b.body.value = cc in
+    let head : c.deref_mut-in-For.result.now ≡ b.head.value = cc in
+    let same : c.deref_mut-in-For-2.result.now ≡ b.body.value = cc in
     let s = from_stmt k.types.now m x _ _ _ b.body.value _ same c.in_ok-whole_statement-in-For.ensures in
-    by_layer k.types.now m x _ _ c.args.s _ _ _ b.is (is_for b.first b.test b.last b.body)
-    (for_placed k.types.now _ _ _ _ _ _ _ _ _ _ _ _ _ c.in_ok-whole_some-in-For.ensures c.in_ok-whole_some-in-For-2.ensures c.in_ok-whole_some-in-For-3.ensures s)
+    let h = from_head k.types.now m x _ _ _ b.head.value _ head c.in_ok-whole_head-in-For.ensures in
+    by_layer k.types.now m x _ _ c.args.s _ _ _ b.is (is_for b.head b.body) (for_placed k.types.now _ _ _ _ b.head.value _ _ _ h s)
 
 pub made_whole-returns-in_ok-whole_statement-in-Switch : goal.made_whole-returns-in_ok-whole_statement-in-Switch
 made_whole-returns-in_ok-whole_statement-in-Switch t c =

@@ -1,7 +1,7 @@
 use Rattle.std.proofs.Common.{◌≡◌, ℕ, false, drop, get_or, length}
 use Rattle.std.specs.Prelude.{◌||◌}
 use Rattle.c_units.specs.Ends.{is_link}
-use Rattle.c_unit_ends.proofs.called.linked_symbols.Given as goal
+use Rattle.c_unit_ends.proofs.links.linked_symbols.Given as goal
 
 abbrev pub invariant-loop-place : goal.invariant-loop-place
 invariant-loop-place l =

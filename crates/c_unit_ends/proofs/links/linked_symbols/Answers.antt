@@ -3,7 +3,7 @@ use Rattle.std.specs.Prelude.{◌||◌}
 use Rattle.c_units.specs.Ends.{is_link}
 use Rattle.c_unit_ends.proofs.AtPlaces.{at_entry, name_below}
 use Rattle.c_unit_ends.proofs.CalledNames.{linked_more}
-use Rattle.c_unit_ends.proofs.called.linked_symbols.Goals as goal
+use Rattle.c_unit_ends.proofs.links.linked_symbols.Goals as goal
 
 pub index_mut-requires : goal.index_mut-requires
 index_mut-requires c =
