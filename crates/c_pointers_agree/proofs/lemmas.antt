@@ -1,0 +1,12 @@
+pub mod Signed
+pub mod Scaled
+pub mod Near
+pub mod Moves
+pub mod Names
+pub mod Slots
+pub mod Differences
+pub mod Comparisons
+pub mod Callees
+pub mod Fitting
+pub mod Short
+pub mod OwnObjects

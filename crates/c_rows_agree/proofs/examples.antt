@@ -1,0 +1,2 @@
+mod TemplateExamples
+mod PlaceExamples

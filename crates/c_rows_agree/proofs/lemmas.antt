@@ -1,0 +1,9 @@
+pub mod Suffixes
+pub mod Conversions
+pub mod Operators
+pub mod Tests
+pub mod Scalars
+pub mod Fields
+pub mod Fitting
+pub mod Once
+pub mod Staying
