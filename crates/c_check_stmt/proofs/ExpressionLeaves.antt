@@ -5,7 +5,6 @@ use Rattle.c_ast.specs.Seen.{maybe_expr_seen}
 use Rattle.c_ast.specs.declared.expr.Expr.{Expr}
 use Rattle.c_ast.specs.Trees.{AnExpr, Evaluate, ExprTree, MaybeExpr, Return}
 use Rattle.c_symbols.specs.Scoping.{Scoping}
-use Rattle.c_types.specs.CType.{CType}
 use Rattle.c_types.specs.Table.{Table, Grows, type_at}
 use Rattle.c_meaning.specs.CoreTrees.{CoreOf, IsIn}
 use Rattle.c_meaning.specs.StmtTrees.{IsSomeIn}

@@ -1,5 +1,5 @@
 -- What is told of a statement whose parts are checked: its node's fault, want of memory, or its checked form.
-use Rattle.std.proofs.Common.{◌≡◌, ℕ, Bool, length, refl, subst}
+use Rattle.std.proofs.Common.{◌≡◌, ℕ, Bool, length, subst}
 use Rattle.std.specs.Prelude.{Result, Ok, Err, IsErrAnd}
 use Rattle.c_types.specs.CType.{CType}
 use Rattle.c_types.specs.Table.{Table, Grows}

@@ -1,6 +1,6 @@
 -- What is known stays known behind a part of a statement, whatever that declares.
 use Rattle.std.proofs.Common.{◌≡◌, List, length, sym, subst}
-use Rattle.std.specs.Prelude.{Result, Ok, Err, IsErrAnd}
+use Rattle.std.specs.Prelude.{Result, Ok, IsErrAnd}
 use Rattle.c_symbols.specs.Scoping.{Scoping}
 use Rattle.c_types.specs.CType.{CType}
 use Rattle.c_types.specs.Table.{Table}

@@ -1,11 +1,11 @@
 -- What the loop over external declarations keeps, and how it ends.
-use Rattle.std.proofs.Common.{◌≡◌, ◌≤◌, ◌+◌, ◌++◌, ℕ, Bool, true, false, Option, None, Some, IfSome, IfNone, List, [], ◌∷◌, length, map, refl, sym, subst, ap, ◌∙◌, arith}
+use Rattle.std.proofs.Common.{◌≡◌, ◌++◌, ℕ, Bool, true, false, Option, None, Some, IfSome, IfNone, List, [], ◌∷◌, map, refl, sym, subst, ◌∙◌, arith}
 use Rattle.std.specs.Option.{is_some}
 use Rattle.c_ast.specs.Lexemes.{Placed}
 use Rattle.c_ast.specs.Trees.{ExternalTree}
 use Rattle.c_readings.specs.Reading.{State}
 use Rattle.c_readings.specs.UnitReaders.{some_externals, is_left}
-use Rattle.c_expr.specs.State.{MParser, ahead}
+use Rattle.c_expr.specs.State.{MParser}
 use Rattle.c_decl.specs.Going.{Goes}
 
 -- ---- how many tokens they have at least, and whether the next is the first

@@ -6,9 +6,8 @@ use Rattle.c_ast.specs.declared.statement.Statement.{Statement as StatementValue
 use Rattle.c_ast.specs.declared.statement.StatementForm.TheVariants as statement_form
 use Rattle.c_ast.specs.declared.statement.Block.{Block as BlockValue, out-Block}
 use Rattle.c_ast.specs.declared.unit.ExternalForm.TheVariants as external_form
-use Rattle.c_ast.specs.declared.unit.External.{External}
 use Rattle.c_ast.specs.declared.unit.Unit.{Unit as UnitValue}
-use Rattle.c_ast.specs.Trees.{StatementTree, SpecifiersTree, Labelled, Case, Default, Evaluate, Compound, If, IfElse, Switch, While, Do, For, Goto, Continue, Break, Return, Block, ExternalTree, Function, Declares, Empty}
+use Rattle.c_ast.specs.Trees.{StatementTree, SpecifiersTree, Labelled, Case, Default, Evaluate, Compound, If, IfElse, Switch, While, Do, For, Goto, Continue, Break, Return, Block, Function, Declares, Empty}
 use Rattle.c_ast.specs.Views.{specifiers_of}
 use Rattle.c_ast.specs.UnitViews.{maybe_of, option_of, statements_of}
 use Rattle.c_ast.specs.UnitLayers.{statement_is, block_is, is_label, is_case, is_default, is_expression, is_block, is_if, is_if_else, is_switch, is_while, is_do, is_for, is_goto, is_continue, is_break, is_return}

@@ -3,19 +3,17 @@ use Rattle.std.proofs.Common.{◌≡◌, ◌<◌, ℕ, suc, ◌+◌, Bool, List,
 use Rattle.std.specs.Prelude.{Option, Some, None, IfSome}
 use Rattle.std.specs.Global.{Box}
 use Rattle.c_types.specs.CType.{CType}
-use Rattle.c_types.specs.Table.{Table, types}
 use Rattle.c_meaning.specs.declared.core_stmt.CoreCase.{CoreCase}
 use Rattle.c_meaning.specs.declared.core_stmt.CoreForHead.{CoreForHead}
 use Rattle.c_meaning.specs.declared.core_stmt.CoreStmt.{CoreStmt}
 use Rattle.c_meaning.specs.declared.core_stmt.CoreStmt.TheVariants as stmt
 use Rattle.c_meaning.specs.declared.core_unit.CoreFunction.{CoreFunction}
 use Rattle.c_meaning.specs.declared.filled_place.FilledPlace.{FilledPlace}
-use Rattle.c_meaning.specs.CoreTrees.{CoreOf, seen}
+use Rattle.c_meaning.specs.CoreTrees.{CoreOf}
 use Rattle.c_meaning.specs.Each.{EachIs}
 use Rattle.c_meaning.specs.Numbers.{HasWords, PlaceHasWords}
-use Rattle.c_meaning.specs.StmtTrees.{StmtOf, StmtsOf, NoStmt, Stmts, Expression, Initialise, Block, If, While, Do, For, Switch, Label, Return, filled_of, maybe_seen, place_seen, stmt_of, stmts_of}
-use Rattle.c_meaning.specs.Units.{function_seen}
-use Rattle.c_wholes.specs.Numbering.{AreCounted, AreCountedFunctions, ExprHasWords, ExprsHaveWords, IsCounted, PlaceWords, PlacesHaveWords, SomeHasWords}
+use Rattle.c_meaning.specs.StmtTrees.{StmtOf, StmtsOf, NoStmt, Stmts, Expression, Return, filled_of, maybe_seen, place_seen, stmt_of, stmts_of}
+use Rattle.c_wholes.specs.Numbering.{AreCounted, AreCountedFunctions, ExprHasWords, IsCounted, PlacesHaveWords, SomeHasWords}
 use Rattle.c_wholes.proofs.Layers.{is_block, is_initialise, is_if, is_while, is_do, is_for, is_switch, is_label}
 
 -- ---- words

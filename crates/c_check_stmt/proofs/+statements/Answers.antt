@@ -1,7 +1,7 @@
 -- Each return of a walk over statements: what was typed of the parts, and then of the statement.
 use Rattle.std.proofs.Common.{[], ◌++◌, None, length, refl, sym, ap, ◌∙◌, subst, arith}
 use Rattle.std.specs.Prelude.{Ok, Some}
-use Rattle.c_ast.specs.Seen.{expr_seen, maybe_expr_seen}
+use Rattle.c_ast.specs.Seen.{expr_seen}
 use Rattle.c_ast.specs.declared.statement.Block.{out-Block}
 use Rattle.c_ast.specs.declared.statement.Statement.{out-Statement}
 use Rattle.c_ast.specs.declared.statement.StatementForm.TheVariants as form
@@ -14,7 +14,6 @@ use Rattle.c_check_decl.specs.Declares.{stmt_in}
 use Rattle.c_check_decl.specs.StmtsStay.{stmt_later}
 use Rattle.c_check_expr.specs.Keeps.{Keeps}
 use Rattle.c_check_expr.specs.Kept.{keeps_itself, keeps_on}
-use Rattle.c_check_expr.specs.Known.{AreSymbolsIn}
 use Rattle.c_check_expr.specs.Walks.{core}
 use Rattle.c_units.specs.Bodies.{done, is_case_again, with_case, with_cases}
 use Rattle.c_units.specs.Statements as node

@@ -1,5 +1,6 @@
 -- Which statement is next, and the loop over the statements of a block.
-use Rattle.std.proofs.Common.{◌≡◌, ◌-◌, ℕ, Some, IfOk, IfErr, sym, ap, subst, ◌∙◌, arith}
+use Rattle.std.proofs.Common.{◌≡◌, ◌-◌, ℕ, List, Some, map, IfOk, IfErr, sym, ap, subst, ◌∙◌, arith}
+use Rattle.c_ast.specs.declared.statement.Statement.{Statement}
 use Rattle.c_ast.specs.Marks.{IsSign}
 use Rattle.c_readings.specs.Reading.{State, Read, answer, beyond, bind, gives, here, open_state}
 use Rattle.c_readings.specs.Readers.{readers}
@@ -88,4 +89,6 @@ statements_at-loop-p-preserved t c =
     )
 
 pub statements_at-returns-clause-ok : goal.statements_at-returns-clause-ok
-statements_at-returns-clause-ok t c = ends c.loop-p.invariant.1 (sym c.goes_on.ensures ∙ c.loop-p-test.false)
+statements_at-returns-clause-ok t c =
+    ends c.loop-p.invariant.1 (sym c.goes_on.ensures ∙ c.loop-p-test.false)
+    ∙ ap (λ (ss : List Statement). Some (map statement_seen ss, ahead c.loop-p.p)) (sym c.exact.ensures)

@@ -1,5 +1,6 @@
 -- The loop over external declarations.
-use Rattle.std.proofs.Common.{map, Some, inr, sym, ap, ◌∙◌, arith}
+use Rattle.std.proofs.Common.{List, map, Some, inr, sym, ap, ◌∙◌, arith}
+use Rattle.c_ast.specs.declared.unit.External.{External}
 use Rattle.c_ast.specs.Trees.{UnitTree}
 use Rattle.c_lexer.specs.PlacedTokens.{placed_of}
 use Rattle.c_readings.specs.Reading.{beyond, here}
@@ -35,4 +36,6 @@ returns-clause-ok c =
     let left = left_next (placed_of c.loop-p.p.source) (ahead c.loop-p.p).rest (beyond (ahead c.loop-p.p)).rest c.first.result c.is_some.result c.first.ensures.some c.first.ensures.none c.is_some.ensures in
     ends c.loop-p.invariant.2 (left ∙ c.loop-p-test.false)
     ∙ some_unit (here (ahead c.args.p.now)) (map external_seen c.loop-p.externals) (ahead c.loop-p.p) (least_map external_seen c.loop-p.externals (some_of_first c.loop-p.is_first c.loop-p.externals c.loop-p.invariant.1 c.if-is_first.false))
-    ∙ ap (λ (u : UnitTree). Some (u, ahead c.loop-p.p)) (ap (λ line. record { line = line; externals = map external_seen c.loop-p.externals }) (sym c.line_at-line.ensures) ∙ sym c.unit_of.ensures)
+    ∙ ap (λ (u : UnitTree). Some (u, ahead c.loop-p.p)) (ap (λ line. record { line = line; externals = map external_seen c.loop-p.externals }) (sym c.line_at-line.ensures)
+    ∙ ap (λ (xs : List External). record { line = c.line_at-line.result; externals = map external_seen xs }) (sym c.exact.ensures)
+    ∙ sym c.unit_of.ensures)

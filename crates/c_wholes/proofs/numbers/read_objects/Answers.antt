@@ -1,5 +1,4 @@
-use Rattle.std.proofs.Common.{List, map, ap, subst}
-use Rattle.c_types.specs.CType.{CType}
+use Rattle.std.proofs.Common.{List, map, subst}
 use Rattle.c_types.specs.Table.{type_in, types}
 use Rattle.c_meaning.specs.declared.core_unit.CoreObject.{CoreObject}
 use Rattle.c_meaning.specs.Each.{EachIs}

@@ -1,4 +1,4 @@
-use Rattle.std.proofs.Common.{arith, drop, subst, sym}
+use Rattle.std.proofs.Common.{subst, sym}
 use Rattle.std.proofs.lemmas.List.{drop_all}
 use Rattle.c_meaning.specs.Each.{EachIs}
 use Rattle.c_meaning.specs.Numbers.{IsText}
