@@ -110,13 +110,14 @@ for_tree : (p : Program) (x : StmtOf ℕ) (a y z : Option (CoreOf ℕ)) (b : Stm
     → exec (own p) (stmt_tree p x) Start k w ≡ maybe_dropped (own p) (maybe_seen (known p) a) k w (λ k1 w1. repeated_by (own p) (stmt_tree p x) (test_of (own p) (stmt_tree p x) k1 w1))
 for_tree p x a y z b k w h = rw h refl
 
-pub for_starts : (p : Program) (old new : Machine) (s : CoreStmt) (head : Box CoreForHead) (b : Box CoreStmt) (r : Checked Focus NoMemory) → s ≡ form.For head b
-    → IfOk r (λ focus. Meets p old (λ k w. OfStatement (maybe_dropped (own p) (maybe_seen (known p) head.value.first) k w (λ k1 w1. repeated_by (own p) (statement p s) (test_of (own p) (statement p s) k1 w1)))) new focus)
+pub for_starts : (p : Program) (old new : Machine) (s : CoreStmt) (head : Box CoreForHead) (b : Box CoreStmt) (x : CoreForHead) (r : Checked Focus NoMemory) → s ≡ form.For head b → x ≡ head.value
+    → IfOk r (λ focus. Meets p old (λ k w. OfStatement (maybe_dropped (own p) (maybe_seen (known p) x.first) k w (λ k1 w1. repeated_by (own p) (statement p s) (test_of (own p) (statement p s) k1 w1)))) new focus)
     → IfOk r (λ focus. Meets p old (λ k w. OfStatement (exec (own p) (statement p s) Start k w)) new focus)
-for_starts p old new s head b r h m =
+for_starts p old new s head b x r h e m =
     meets_behind p old old new (λ k w. OfStatement (exec (own p) (statement p s) Start k w))
-    (λ k w. OfStatement (maybe_dropped (own p) (maybe_seen (known p) head.value.first) k w (λ k1 w1. repeated_by (own p) (statement p s) (test_of (own p) (statement p s) k1 w1)))) r refl refl refl
-    (λ k t. ap OfStatement (for_tree p (stmt_of s) head.value.first head.value.test head.value.last (stmt_of b.value) k (shown old.world t) (ap stmt_of h ∙ is_for head b))) m
+    (λ k w. OfStatement (maybe_dropped (own p) (maybe_seen (known p) x.first) k w (λ k1 w1. repeated_by (own p) (statement p s) (test_of (own p) (statement p s) k1 w1)))) r refl refl refl
+    (λ k t. ap OfStatement (for_tree p (stmt_of s) head.value.first head.value.test head.value.last (stmt_of b.value) k (shown old.world t) (ap stmt_of h ∙ is_for head b)
+    ∙ ap (λ (z : CoreForHead). maybe_dropped (own p) (maybe_seen (known p) z.first) k (shown old.world t) (λ k1 w1. repeated_by (own p) (statement p s) (test_of (own p) (statement p s) k1 w1))) (sym e))) m
 
 -- ---- objects
 

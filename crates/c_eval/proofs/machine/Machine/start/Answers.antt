@@ -38,4 +38,4 @@ pub returns-in-For-clause-same : goal.returns-in-For-clause-same
 returns-in-For-clause-same c =
     let a = c.args in
     let x = c.in-For in
-    for_starts a.program.now a.self.now c.begin.new.self a.s.now x.head x.body c.begin.result x.is c.begin.ensures.same
+    for_starts a.program.now a.self.now c.begin.new.self a.s.now x.head x.body c.deref-in-For.result.now c.begin.result x.is c.deref-in-For.ensures c.begin.ensures.same
