@@ -1,4 +1,10 @@
+ghost use Rattle.c_match_worlds.specs.Starts.{StartsMatch};
 ghost use Rattle.c_match_worlds.specs.Laws.{BeginningHides, CallsClose, CallsLeave, CallsMakeHomes, CallsOpen, CopiesArePassed, EventsKeep, HomesMayHold, InputKeeps, LocalsBegin, OthersBegin, OwnObjectsStand, PrivateStoresKeep, StoresKeep};
+
+/// The worlds with which a run of C and one of forests begin match, where the unit's objects do.
+pub fn runs_begin_alike()
+    ensures { StartsMatch }
+{}
 
 /// A world of forests that stands for one of C does so still behind stores of C, and behind changes of what holds nothing of C; and the
 /// addresses of the unit's own objects stand for C's.

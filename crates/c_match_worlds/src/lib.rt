@@ -3,4 +3,4 @@
 
 mod laws;
 
-pub use laws::{calls_keep, events_keep, stores_keep};
+pub use laws::{calls_keep, events_keep, runs_begin_alike, stores_keep};
