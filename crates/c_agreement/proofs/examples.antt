@@ -1,0 +1,5 @@
+mod SmallUnits
+mod Three
+mod Writing
+mod SmallCalls
+mod Refused

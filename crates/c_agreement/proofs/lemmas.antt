@@ -1,0 +1,4 @@
+pub mod Ends
+pub mod Ahead
+pub mod Sentences
+pub mod Turns

@@ -1,0 +1,9 @@
+pub mod Pairs
+pub mod Called
+pub mod Results
+pub mod CameTo
+pub mod Behind
+pub mod Agrees
+pub mod Shown
+pub mod Told
+pub mod Laws

@@ -1,0 +1,2 @@
+mod ConstantExamples
+mod FrameExamples

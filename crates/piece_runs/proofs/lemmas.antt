@@ -1,0 +1,3 @@
+pub mod Tails
+pub mod Reached
+pub mod Ended
