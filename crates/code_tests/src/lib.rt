@@ -9,6 +9,8 @@ mod forest_faults;
 #[cfg(test)]
 mod stored;
 #[cfg(test)]
+mod switches;
+#[cfg(test)]
 mod targets;
 #[cfg(test)]
 mod trees;

@@ -1,0 +1,2 @@
+mod TableExamples
+mod SearchExamples

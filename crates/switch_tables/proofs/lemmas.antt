@@ -1,0 +1,9 @@
+pub mod Ranks
+pub mod Labels
+pub mod Sorting
+pub mod Cutting
+pub mod Leading
+pub mod Searching
+pub mod Filling
+pub mod Greedy
+pub mod TableParts
