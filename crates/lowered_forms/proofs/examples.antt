@@ -1,0 +1,6 @@
+mod Samples
+mod StraightExamples
+mod CallExamples
+mod JumpExamples
+mod RelationExamples
+mod SizeExamples

@@ -1,0 +1,17 @@
+pub mod Stepping
+pub mod Calling
+pub mod Changing
+pub mod Induction
+pub mod Fronts
+pub mod Going
+pub mod Adding
+pub mod Operands
+pub mod KeyPlaces
+pub mod Blocks
+pub mod WithinTemplates
+pub mod Pending
+pub mod NodesOfChanges
+pub mod NodesOfCalls
+pub mod NodesOf
+pub mod GoingBack
+pub mod HandedNodes
