@@ -4,3 +4,4 @@ mod CallExamples
 mod JumpExamples
 mod RelationExamples
 mod SizeExamples
+mod FieldExamples
