@@ -1,5 +1,6 @@
 //! Labels that stand in statements.
-ghost use Rattle.std.specs.Prelude.{◌≡◌, ◌≤◌, ℕ};
+ghost use Rattle.std.specs.Prelude.{◌≡◌, ◌≤◌, ℕ, true, Some, slice_get};
+ghost use Rattle.c_meaning.specs.declared.core_stmt.CoreStmt.{CoreStmt};
 ghost use Rattle.c_runs.specs.Statements.{At, any_has, exec_all, has};
 ghost use Rattle.c_runs.specs.Worlds.{World};
 ghost use Rattle.c_worlds.specs.declared.program.Program.{Program};
@@ -47,6 +48,7 @@ pub fn any_has_label(statements: &[CoreStmt], label: u32) -> bool
 pub fn from_label(statements: &[CoreStmt], label: u32) -> &[CoreStmt]
     ensures same { (p : Program) → (k : ℕ) → (w : World) → exec_all (own p) (trees_of p result.now) (At label) k w ≡ exec_all (own p) (trees_of p statements.now) (At label) k w }
     ensures less { weight_ss (statements_of result.now) ≤ weight_ss (statements_of statements.now) }
+    ensures found { (p : Program) → (s : CoreStmt) → slice_get result.now 0 ≡ Some s → has (statement p s) label ≡ true }
 {
     let mut left = statements;
     while let [first, behind @ ..] = left {

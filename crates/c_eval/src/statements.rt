@@ -275,24 +275,11 @@ impl<'a> Machine<'a> {
         ensures quiet { IfOk result (λ _. IsQuiet self.old self.new) }
         ensures less { IfOk result (λ focus. IsBelow (1 + weight_ss (statements_of statements.now)) self.old self.new focus) }
     {
-        self.enter_list(from_label(statements, label), label)
-    }
-
-    /// The same, looking at the first of them alone.
-    fn enter_list(&mut self, statements: &'a [CoreStmt], label: u32) -> Result<Focus<'a>, Memory>
-        ensures same { IfOk result (λ focus. (p : Program) → Meets p self.old (λ k w. OfStatement (exec_all (own p) (trees_of p statements.now) (At label) k w)) self.new focus) }
-        ensures quiet { IfOk result (λ _. IsQuiet self.old self.new) }
-        ensures less { IfOk result (λ focus. IsBelow (1 + weight_ss (statements_of statements.now)) self.old self.new focus) }
-    {
-        match statements {
+        match from_label(statements, label) {
             [] => Ok(Focus::Next),
             [first, rest @ ..] => {
-                if has_label(first, label) {
-                    self.stack.push(Frame::Then(rest))?;
-                    Ok(Focus::At(first, label))
-                } else {
-                    Ok(Focus::ListAt(rest, label))
-                }
+                self.stack.push(Frame::Then(rest))?;
+                Ok(Focus::At(first, label))
             }
         }
     }
