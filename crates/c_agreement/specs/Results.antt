@@ -23,12 +23,12 @@ IsGiven None map v w = IsValue map v w
 IsGiven (Some place) map v w = Unit {0}
 
 -- where none is given, main gives 0, and another function any word
-abbrev pub IsResult : CallPair → Map → Option Value → Word → Type 0
-IsResult s map (Some v) w = IsGiven s.source.result map v w
-IsResult s map None w = s.source.function ≡ s.unit.main → w ≡ Plain (Number 0)
+abbrev pub IsCallResult : CallPair → Map → Option Value → Word → Type 0
+IsCallResult s map (Some v) w = IsGiven s.source.result map v w
+IsCallResult s map None w = s.source.function ≡ s.unit.main → w ≡ Plain (Number 0)
 
 -- The call has returned; what held nothing of C when it was made is as it was.
 pub record Returned (s : CallPair) (v : Option Value) (old : c.World) (word : Word) (new : World) : Type 0 where
   pub later : Later s old new
-  pub value : IsResult s later.map v word
+  pub value : IsCallResult s later.map v word
   pub left : IsLeft s.map (c.objects s.source.world) s.target.objects new.objects

@@ -1,6 +1,7 @@
 -- Forests that don't agree.
 use Rattle.std.specs.Prelude.{◌≡◌, ◌≤◌, ℕ, zero, suc, true, false, Option, Some, None, List, [], ◌∷◌, refl}
 use Rattle.std.proofs.Common.{true≢false, sym, ap, ◌∙◌, subst, arith}
+use Rattle.std.proofs.lemmas.Option.{same_Some}
 use Rattle.lcc_base.specs.Traces.{Wrote, Opened, Closed, Event}
 use Rattle.objects.specs.declared.value.Value.{Value}
 use Rattle.objects.specs.declared.value.Value.TheVariants.{Number}
@@ -21,7 +22,7 @@ use Rattle.c_runs.specs.Statements.{rounds, loop}
 use Rattle.c_agreement.specs.Pairs.{pair_of, source_run, target_run}
 use Rattle.c_agreement.specs.Called.{passed_values, IsCalled}
 use Rattle.c_agreement.specs.Agrees.{Agrees}
-use Rattle.c_agreement.specs.Results.{Later, IsResult, Returned}
+use Rattle.c_agreement.specs.Results.{Later, IsCallResult, Returned}
 use Rattle.c_agreement.specs.CameTo.{Returns, GoesOn, CameTo}
 use Rattle.c_agreement.specs.Behind.{IsBehind}
 use Rattle.c_agreement.specs.Shown.{IsShownIn}
@@ -49,14 +50,11 @@ four_is_given (suc n) word world e = cc
 apart : {m n : ℕ} → Plain (Number m) ≡ Plain (Number n) → m ≡ n
 apart e = cc
 
-same_some : {A : Type 0} {x y : A} → Some x ≡ Some y → x ≡ y
-same_some e = cc
-
 same_value : {k j m n : ℕ} → ◌≡◌ {A = List (Byte Word)} (Bits k m ∷ []) (Bits j n ∷ []) → m ≡ n
 same_value e = cc
 
 same_bits : {k j m n : ℕ} → Some (record_of k m) ≡ Some (record_of j n) → m ≡ n
-same_bits e = same_value (ap (λ (x : Object). x.bytes) (same_some e))
+same_bits e = same_value (ap (λ (x : Object). x.bytes) (same_Some _ _ e))
 
 another_value : (k : ℕ) → CameTo (pair_at wrong 0) k (source_run (pair_at wrong 0) k) → ⊥
 another_value k h =
@@ -70,7 +68,7 @@ no_agreement : Agrees source wrong 0 → ⊥
 no_agreement h = another_value 0 (h.came 0 (call_to 0) (λ m. None) new refl (main_called (gives_back 4) (calls_with 4 66) [] []))
 
 -- main gives 0 where it gives no value, and no other word
-main_without_value : IsResult (pair_at wrong 0) (λ m. None) None (Plain (Number 1)) → ⊥
+main_without_value : IsCallResult (pair_at wrong 0) (λ m. None) None (Plain (Number 1)) → ⊥
 main_without_value h = let same = apart (h refl) in let never : ⊥ = omega (arith, same) in never
 
 -- ---- another byte
@@ -126,7 +124,7 @@ call_with result = record { function = 0; arguments = record { value = Number 5;
 
 too_many_arguments : IsCalled (pair_of source target (call_with None) (λ m. None) (new_with (Plain (Number 5) ∷ []) [])) → ⊥
 too_many_arguments h =
-    let same : three ≡ h.tree = same_some h.defined in
+    let same : three ≡ h.tree = same_Some _ _ h.defined in
     let fit : false ≡ true = ap (λ (f : FunctionTree). fits f (call_with None)) same ∙ h.fitting in
     true≢false (sym fit)
 

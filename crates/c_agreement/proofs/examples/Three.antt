@@ -1,6 +1,7 @@
 -- A function that returns 3 in both agrees, whatever lives and whoever calls it.
 use Rattle.std.specs.Prelude.{◌≡◌, ◌≤◌, ℕ, suc, ◌+◌, ◌==◌, Bool, true, false, Option, Some, None, List, [], ◌∷◌, ◌&&◌, length, nat_eq, map as mapped, slice_get, refl, if◌then◌else◌}
 use Rattle.std.proofs.Common.{true≢false, sym, ap, ◌∙◌, subst, arith}
+use Rattle.std.proofs.lemmas.Option.{same_Some}
 use Rattle.std.proofs.lemmas.Bool.{and_parts}
 use Rattle.lcc_base.specs.Traces.{Opened, Closed}
 use Rattle.lcc_base.specs.declared.order.Order.{Order}
@@ -57,9 +58,6 @@ pub no_words : (map : Map) (ws : List Word) → AreValues map [] ws → ws ≡ [
 no_words map [] h = refl
 no_words map (w ∷ ws) h = absurd h
 
-pub same_some : {A : Type 0} {x y : A} → Some x ≡ Some y → x ≡ y
-same_some e = cc
-
 -- ---- the two calls
 
 source_is : (order : Order) (a : Call) (k : ℕ) → a.function ≡ 0 → a.result ≡ None → call source order k a ≡ Gives (Number 3) k (c.left_behind Closed a.world (c.entered (Opened a.function) a.world))
@@ -98,7 +96,7 @@ returned a map w none m =
 
 three_fits : (a : Call) (map : Map) (w : World) → a.function ≡ 0 → IsCalled (pair_of source target a map w) → fits three a ≡ true
 three_fits a map w e h =
-    let tree : three ≡ h.tree = same_some (sym (ap (λ (n : ℕ). slice_get source.functions n) e) ∙ h.defined) in
+    let tree : three ≡ h.tree = same_Some _ _ (sym (ap (λ (n : ℕ). slice_get source.functions n) e) ∙ h.defined) in
     ap (λ (f : FunctionTree). fits f a) tree ∙ h.fitting
 
 one_more : (k : ℕ) → k ≤ 1 + k

@@ -1,6 +1,7 @@
 -- A function that writes a byte in both agrees: it needs a turn, and writes it then.
 use Rattle.std.specs.Prelude.{◌≡◌, ◌≤◌, ℕ, zero, suc, ◌+◌, ◌==◌, true, false, Option, None, List, [], ◌∷◌, length, nat_eq, map as mapped, slice_get, refl}
 use Rattle.std.proofs.Common.{sym, ap, ◌∙◌, subst, arith}
+use Rattle.std.proofs.lemmas.Option.{same_Some}
 use Rattle.std.proofs.lemmas.Bool.{and_parts}
 use Rattle.lcc_base.specs.Traces.{Wrote, Opened, Closed}
 use Rattle.lcc_base.specs.declared.order.Order.{Order}
@@ -31,7 +32,7 @@ use Rattle.c_agreement.specs.CameTo.{CameTo}
 use Rattle.c_agreement.specs.Agrees.{Comes, Agrees}
 use Rattle.c_agreement.proofs.lemmas.Ahead.{coming_suffices}
 use Rattle.c_agreement.proofs.examples.SmallUnits.{writing, source, calls_with, target}
-use Rattle.c_agreement.proofs.examples.Three.{false_and, no_arguments, no_words, same_some, if_true}
+use Rattle.c_agreement.proofs.examples.Three.{false_and, no_arguments, no_words, if_true}
 
 -- ---- what a call that fits passes
 
@@ -46,7 +47,7 @@ void_is_plain (Of q (Enumeration n)) h = refl
 
 writing_fits : (a : Call) (map : Map) (w : World) → a.function ≡ 1 → IsCalled (pair_of source target a map w) → fits writing a ≡ true
 writing_fits a map w e h =
-    let tree : writing ≡ h.tree = same_some (sym (ap (λ (n : ℕ). slice_get source.functions n) e) ∙ h.defined) in
+    let tree : writing ≡ h.tree = same_Some _ _ (sym (ap (λ (n : ℕ). slice_get source.functions n) e) ∙ h.defined) in
     ap (λ (f : FunctionTree). fits f a) tree ∙ h.fitting
 
 no_argument_words : (a : Call) (map : Map) (w : World) → a.function ≡ 1 → IsCalled (pair_of source target a map w) → w.arguments ≡ []
