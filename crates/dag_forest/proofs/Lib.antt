@@ -1,5 +1,4 @@
 pub mod lemmas
-pub mod Keys
 pub mod Listed
 pub mod Tallies
 mod Stays

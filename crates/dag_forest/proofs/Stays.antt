@@ -1,6 +1,5 @@
 -- The tree of a node gives the node's value as long as its stretch lasts, or its temporary.
-use Rattle.std.proofs.Common.{◌≡◌, ⊎_elim, ℕ, Bool, true, false, [], ◌∷◌, ◌++◌, Some, refl, sym, ap, ◌∙◌, true≢false}
-use Rattle.std.proofs.lemmas.Bool.{cases_eq, eq-eqb, ne_eqb}
+use Rattle.std.proofs.Common.{◌≡◌, ℕ, Bool, true, false, [], ◌∷◌, ◌++◌, Some, refl, sym, ap, ◌∙◌, true≢false}
 use Rattle.op_forest.specs.Nodes.{Head}
 use Rattle.op_forest.specs.Nodes.{Node as Tree}
 use Rattle.forests.specs.Words.{Word}
@@ -8,7 +7,7 @@ use Rattle.forests.specs.Worlds.{World, Point, Next, Went, then_do}
 use Rattle.forests.specs.Bodies.{Setting, does}
 use Rattle.forests.specs.Bodies.{evaluate}
 use Rattle.forests.specs.Alike.{AreAlike}
-use Rattle.dag_forest.proofs.lemmas.Maps.{at_new, at_old, still_made, unmade}
+use Rattle.dag_forest.proofs.lemmas.Maps.{at_new, still_made, unmade}
 use Rattle.dag_forest.specs.declared.kids.Kids.{Kids}
 use Rattle.dag_forest.specs.declared.kids.Kids.TheVariants.{Zero, One, Two}
 use Rattle.dag_forest.specs.Schedules.{operands, at}

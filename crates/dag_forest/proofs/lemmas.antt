@@ -1,3 +1,4 @@
 pub mod Maps
 pub mod Once
 pub mod Chosen
+pub mod Keys

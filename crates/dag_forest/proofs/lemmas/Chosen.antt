@@ -2,6 +2,7 @@
 use Rattle.std.proofs.Common.{◌≡◌, ⊎_elim, ℕ, ◌<◌, ◌≤◌, Bool, true, false, Option, Some, None, List, [], ◌∷◌, inl, inr, sym, ap, ◌∙◌, arith}
 use Rattle.std.specs.Prelude.{◌⊎◌, ◌&&◌, not}
 use Rattle.std.proofs.lemmas.Bool.{cases_eq}
+use Rattle.std.proofs.lemmas.Option.{none-some, same_Some}
 use Rattle.dag_forest.specs.declared.parts.Parts.{Parts}
 use Rattle.dag_forest.specs.Schedules.{Act, Made, Acts, at}
 use Rattle.dag_forest.specs.Choice.{Room, room_by, next_by, is_wanted, reads_by, chosen, rooms_to}
@@ -9,12 +10,6 @@ use Rattle.dag_forest.proofs.lemmas.Maps.{at_new, at_old}
 
 abbrev Rooms : Type 0
 Rooms = ℕ → Option Room
-
-pub none_some : {A : Type 0} (u : A) → None ≡ Some u → ⊥
-none_some u e = cc
-
-pub some_one : {A : Type 0} (u v : A) → Some u ≡ Some v → u ≡ v
-some_one u v e = cc
 
 -- a map with one value more
 pub at_case : (rest : Rooms) (n m : ℕ) (k : Option Room) (r : Room) → at rest n k m ≡ Some r → ((m ≡ n) × (k ≡ Some r)) ⊎ (rest m ≡ Some r)
@@ -28,9 +23,9 @@ abbrev Between : ℕ → ℕ → Rooms → Type 0
 Between t u rooms = (m : ℕ) (r : Room) → rooms m ≡ Some r → (t ≤ r.number) × (r.number < u)
 
 between_made : (w : Bool) (x : Parts) (rest : Rooms) (n t u : ℕ) → next_by w t ≤ u → Between (next_by w t) u rest → Between t u (at rest n (room_by w x t))
-between_made false x rest n t u l h m r e = ⊎_elim (λ q. absurd (none_some r q.1)) (λ q. h m r q) (at_case rest n m None r e)
+between_made false x rest n t u l h m r e = ⊎_elim (λ q. absurd (none-some r q.1)) (λ q. h m r q) (at_case rest n m None r e)
 between_made true x rest n t u l h m r e = ⊎_elim
-    (λ q. let z : t ≡ r.number = ap (λ (y : Room). y.number) (some_one _ r q.1) in (omega (arith, z), omega (arith, z, l)))
+    (λ q. let z : t ≡ r.number = ap (λ (y : Room). y.number) (same_Some _ r q.1) in (omega (arith, z), omega (arith, z, l)))
     (λ q. let z = h m r q in (omega (arith, z.0), z.1))
     (at_case rest n m (room_by true x t) r e)
 
@@ -44,7 +39,7 @@ grows (Made n x ∷ as') reads t = by (is_wanted as' reads n x) (rooms_to (Made 
 grows (Acts x ∷ as') reads t = grows as' reads t
 
 pub between : (xs : List Act) (reads : ℕ → Bool) (t : ℕ) → Between t (rooms_to xs reads t) (chosen xs reads t)
-between [] reads t = λ m r e. absurd (none_some r e)
+between [] reads t = λ m r e. absurd (none-some r e)
 between (Made n x ∷ as') reads t =
     let w = is_wanted as' reads n x in
     let reads' = at reads n (not w && reads_by reads x) in
@@ -56,20 +51,20 @@ abbrev pub Apart : Rooms → Type 0
 Apart rooms = (m p : ℕ) (r q : Room) → rooms m ≡ Some r → rooms p ≡ Some q → r.number ≡ q.number → m ≡ p
 
 apart_made : (w : Bool) (x : Parts) (rest : Rooms) (n t u : ℕ) → Between (next_by w t) u rest → Apart rest → Apart (at rest n (room_by w x t))
-apart_made false x rest n t u h d m p r q a b e = ⊎_elim (λ z. absurd (none_some r z.1)) (λ z. ⊎_elim (λ y. absurd (none_some q y.1)) (λ y. d m p r q z y e) (at_case rest n p None q b)) (at_case rest n m None r a)
+apart_made false x rest n t u h d m p r q a b e = ⊎_elim (λ z. absurd (none-some r z.1)) (λ z. ⊎_elim (λ y. absurd (none-some q y.1)) (λ y. d m p r q z y e) (at_case rest n p None q b)) (at_case rest n m None r a)
 apart_made true x rest n t u h d m p r q a b e = ⊎_elim
     (λ z. ⊎_elim
     (λ y. z.0 ∙ sym y.0)
-    (λ y. let f = h p q y in let g : t ≡ r.number = ap (λ (v : Room). v.number) (some_one _ r z.1) in absurd (omega (arith, f.0, g, e)))
+    (λ y. let f = h p q y in let g : t ≡ r.number = ap (λ (v : Room). v.number) (same_Some _ r z.1) in absurd (omega (arith, f.0, g, e)))
     (at_case rest n p (room_by true x t) q b))
     (λ z. ⊎_elim
-    (λ y. let f = h m r z in let g : t ≡ q.number = ap (λ (v : Room). v.number) (some_one _ q y.1) in absurd (omega (arith, f.0, g, e)))
+    (λ y. let f = h m r z in let g : t ≡ q.number = ap (λ (v : Room). v.number) (same_Some _ q y.1) in absurd (omega (arith, f.0, g, e)))
     (λ y. d m p r q z y e)
     (at_case rest n p (room_by true x t) q b))
     (at_case rest n m (room_by true x t) r a)
 
 pub apart : (xs : List Act) (reads : ℕ → Bool) (t : ℕ) → Apart (chosen xs reads t)
-apart [] reads t = λ m p r q a b e. absurd (none_some r a)
+apart [] reads t = λ m p r q a b e. absurd (none-some r a)
 apart (Made n x ∷ as') reads t =
     let w = is_wanted as' reads n x in
     let reads' = at reads n (not w && reads_by reads x) in

@@ -6,8 +6,7 @@ use Rattle.op_forest.specs.declared.op.Op.TheVariants as op
 use Rattle.op_forest.specs.declared.suffix.Suffix.TheVariants.{I, P, B, V}
 use Rattle.op_forest.specs.declared.suffix.Suffix.{Suffix}
 use Rattle.dag_forest.specs.declared.key.Key.{Key}
-use Rattle.dag_forest.proofs.lemmas.Chosen.{some_one}
-use Rattle.dag_seam.proofs.lemmas.Keys.{none_some}
+use Rattle.std.proofs.lemmas.Option.{none-some, same_Some}
 use Rattle.op_forest.specs.declared.sym.Sym.TheVariants as sym
 use Rattle.dag_forest.specs.declared.entry.Entry.TheVariants.{Root}
 use Rattle.dag_forest.specs.declared.kids.Kids.TheVariants.{Zero, One}
@@ -48,11 +47,11 @@ not_block x y h d e = subst word_or_address (d ∙ e) h
 
 no_block : KeepsNoBlock (doubled (pos 0))
 unfolding word_or_address
-no_block zero r k room is e = not_block k.parts.operator.suffix _ tt (ap (λ (z : Key). z.parts.operator.suffix) (some_one _ k is)) e
-no_block (suc zero) r k room is e = not_block k.parts.operator.suffix _ tt (ap (λ (z : Key). z.parts.operator.suffix) (some_one _ k is)) e
-no_block (suc (suc zero)) r k room is e = not_block k.parts.operator.suffix _ tt (ap (λ (z : Key). z.parts.operator.suffix) (some_one _ k is)) e
-no_block (suc (suc (suc zero))) r k room is e = not_block k.parts.operator.suffix _ tt (ap (λ (z : Key). z.parts.operator.suffix) (some_one _ k is)) e
-no_block (suc (suc (suc (suc n)))) r k room is e = none_some k is
+no_block zero r k room is e = not_block k.parts.operator.suffix _ tt (ap (λ (z : Key). z.parts.operator.suffix) (same_Some _ k is)) e
+no_block (suc zero) r k room is e = not_block k.parts.operator.suffix _ tt (ap (λ (z : Key). z.parts.operator.suffix) (same_Some _ k is)) e
+no_block (suc (suc zero)) r k room is e = not_block k.parts.operator.suffix _ tt (ap (λ (z : Key). z.parts.operator.suffix) (same_Some _ k is)) e
+no_block (suc (suc (suc zero))) r k room is e = not_block k.parts.operator.suffix _ tt (ap (λ (z : Key). z.parts.operator.suffix) (same_Some _ k is)) e
+no_block (suc (suc (suc (suc n)))) r k room is e = none-some k is
 
 -- a sum of one operand doesn't
 one_operand : Fits (keys_of (doubled (pos 0))) slots (over op.Add I (One 1)) → ⊥

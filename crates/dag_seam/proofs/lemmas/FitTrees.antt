@@ -39,7 +39,7 @@ use Rattle.dag_seam.specs.Rooms.{AreActs}
 use Rattle.dag_seam.proofs.lemmas.Acts.{HasParts}
 use Rattle.dag_forest.proofs.lemmas.Maps.{at_new, at_old}
 use Rattle.dag_seam.proofs.lemmas.RoomCauses.{room_has_kind}
-use Rattle.dag_forest.proofs.lemmas.Chosen.{some_one}
+use Rattle.std.proofs.lemmas.Option.{same_Some}
 use Rattle.dag_seam.proofs.lemmas.SlotTrees.{IsValueTree, no_void, read_fits, read_no_label, store_fits}
 
 -- ---- the head and the operands of a tree
@@ -161,7 +161,7 @@ module _ (keys : List Key) (slots : List Slot) where
 
     pub node_good : IsTrue (gives_value x.operator.op x.operator.suffix) → (n : ℕ) → HasParts keys n x → Good (tree_at ts x) n
     node_good value n has k is =
-        let same : k.parts ≡ x = ap (λ (z : Key). z.parts) (some_one k has.0 (sym is ∙ has.1)) ∙ has.2 in
+        let same : k.parts ≡ x = ap (λ (z : Key). z.parts) (same_Some k has.0 (sym is ∙ has.1)) ∙ has.2 in
         record {
           value = record {
             arities = tree_arities;
@@ -256,7 +256,7 @@ module _ (order : Order) (home : Home) (before slots : List Slot) (es : List Ent
 
     read_good : (r : Room) → room_of es n ≡ Some r → Good keys slots (f r).read n
     read_good r is k got =
-        let same : k.parts ≡ x = ap (λ (z : Key). z.parts) (some_one k act.has.0 (sym got ∙ act.has.1)) ∙ act.has.2 in
+        let same : k.parts ≡ x = ap (λ (z : Key). z.parts) (same_Some k act.has.0 (sym got ∙ act.has.1)) ∙ act.has.2 in
         subst (λ z. IsGoodTree keys slots k (slot_read z (offset_below (lowest before) r.number))) (sym (kind_is r is))
         (record {
           value = subst (λ z. IsValueTree slots z (slot_read (kind_of x.operator.suffix) (offset_below (lowest before) r.number))) (ap (λ (z : Parts). z.operator.suffix) (sym same)) (read_fits slots (offset_below (lowest before) r.number) (lies n r is) x.operator.suffix (no_block r is) not_void);

@@ -1,5 +1,6 @@
 -- The keys of a block's nodes, as it grows.
 use Rattle.std.proofs.Common.{◌≡◌, ⊎_elim, ℕ, zero, suc, ◌+◌, ◌<◌, ◌≤◌, Bool, true, false, true≢false, Some, None, List, [], ◌∷◌, ◌++◌, length, slice_get, inl, inr, refl, sym, ap, ◌∙◌, subst, arith, length-append}
+use Rattle.std.proofs.lemmas.Option.{none-some}
 use Rattle.std.specs.Prelude.{◌⊎◌, ◌==◌, fold, get_or, if◌then◌else◌}
 use Rattle.std.proofs.Math.Seq.{get_or-append_seam}
 use Rattle.std.proofs.lemmas.Bool.{eqb-true}
@@ -70,11 +71,8 @@ all_marked [] t h = h
 all_marked (Value x ∷ es) t h = all_marked es (with_entry t (Value x)) (marked_value t x h)
 all_marked (Root x ∷ es) t h = all_marked es (with_entry t (Root x)) (marked_root t x h)
 
-pub none_some : {A : Type 0} (u : A) → None ≡ Some u → ⊥
-none_some u e = cc
-
 pub are_marked : (es : List Entry) → AreMarked (tally es)
-are_marked es = all_marked es none (record { marks = λ m k is r. absurd (none_some k is) })
+are_marked es = all_marked es none (record { marks = λ m k is r. absurd (none-some k is) })
 
 count_from : (es : List Entry) (t : Tally) → length (fold with_entry t es).keys ≡ length t.keys + node_count es
 count_from [] t = omega arith
@@ -96,10 +94,10 @@ earlier_from (Value x ∷ es) t formed h = earlier_from es (with_entry t (Value 
 earlier_from (Root x ∷ es) t formed h = earlier_from es (with_entry t (Root x)) formed.1 h
 
 pub are_earlier : (es : List Entry) → AreFormed es 0 → (m : ℕ) (k : Key) → slice_get (keys_of es) m ≡ Some k → AreBelow m k.parts.kids
-are_earlier es formed = earlier_from es none formed (λ m k is. absurd (none_some k is))
+are_earlier es formed = earlier_from es none formed (λ m k is. absurd (none-some k is))
 
 pub within : {X : Type 0} (xs : List X) (m : ℕ) (k : X) → slice_get xs m ≡ Some k → m < length xs
-within [] m k e = absurd (none_some k e)
+within [] m k e = absurd (none-some k e)
 within (x ∷ xs) zero k e = omega arith
 within (x ∷ xs) (suc m) k e = let h = within xs m k e in omega (arith, h)
 

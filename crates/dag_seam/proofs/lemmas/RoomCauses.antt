@@ -21,7 +21,7 @@ use Rattle.dag_seam.specs.Rooms.{IsMade, HasCause, AreActs}
 use Rattle.dag_seam.specs.Turns.{Makes}
 use Rattle.dag_seam.proofs.lemmas.Acts.{HasParts, acts_have_parts}
 use Rattle.dag_forest.proofs.lemmas.Once.{acts_are_once}
-use Rattle.dag_forest.proofs.lemmas.Chosen.{some_one}
+use Rattle.std.proofs.lemmas.Option.{same_Some}
 use Rattle.dag_seam.proofs.lemmas.Rooms.{IsRoomAt, room_is, room_made, is_made_makes}
 
 -- the room of a node that is made
@@ -80,7 +80,7 @@ needed_so true false handed (suc zero) l r e = (refl, inr (inr (and_true l r e))
 needed_so true false handed (suc (suc c)) l r e = (refl, inr (inl (omega arith)))
 
 some_room : (w : Bool) (x : Parts) (t : ℕ) (r : Room) → room_by w x t ≡ Some r → (w ≡ true) × (r.kind ≡ kind_of x.operator.suffix)
-some_room true x t r e = (refl, ap (λ (z : Room). z.kind) (sym (some_one _ r e)))
+some_room true x t r e = (refl, ap (λ (z : Room). z.kind) (sym (same_Some _ r e)))
 some_room false x t r e = let no : ⊥ = cc in absurd no
 
 pub room_has_cause : (es : List Entry) (n : ℕ) (r : Room) → room_of es n ≡ Some r → HasCause es n r
@@ -102,7 +102,7 @@ pub room_has_kind : (es : List Entry) (n : ℕ) (r : Room) (k : Key) → room_of
 room_has_kind es n r k e is =
     let h = room_has_cause es n r e in
     let p = made_is (HasParts (keys_of es)) (λ x. Unit {0}) (acts_of es) n h.parts h.later (acts_have_parts es) h.made in
-    h.kind ∙ ap (λ (z : Parts). kind_of z.operator.suffix) (sym p.2 ∙ ap (λ (z : Key). z.parts) (some_one p.0 k (sym p.1 ∙ is)))
+    h.kind ∙ ap (λ (z : Parts). kind_of z.operator.suffix) (sym p.2 ∙ ap (λ (z : Key). z.parts) (same_Some p.0 k (sym p.1 ∙ is)))
 
 kept_room : (f : Room → Temporary) (o : Option Room) (t : Temporary) → kept_by f o ≡ Some t → (r : Room) × (o ≡ Some r)
 kept_room f None t e = let no : ⊥ = cc in absurd no

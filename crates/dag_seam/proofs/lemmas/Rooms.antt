@@ -15,7 +15,8 @@ use Rattle.dag_forest.specs.Tally.{node_count}
 use Rattle.dag_seam.specs.Turns.{Makes}
 use Rattle.dag_seam.specs.Rooms.{IsMade}
 use Rattle.dag_forest.proofs.lemmas.Maps.{at_new, at_old}
-use Rattle.dag_forest.proofs.lemmas.Chosen.{none_some, at_case}
+use Rattle.dag_forest.proofs.lemmas.Chosen.{at_case}
+use Rattle.std.proofs.lemmas.Option.{none-some}
 use Rattle.dag_seam.proofs.lemmas.Once.{not_again}
 
 pub is_made_makes : (xs : List Act) (m : ℕ) (y : Parts) (later : List Act) → IsMade xs m y later → Makes m xs
@@ -44,7 +45,7 @@ room_is (Acts y ∷ xs) made reads t once n x later h = room_is xs made reads t 
 
 -- where a room is
 pub room_made : (xs : List Act) (reads : ℕ → Bool) (t : ℕ) (n : ℕ) (r : Room) → chosen xs reads t n ≡ Some r → (x : Parts) × (later : List Act) × IsMade xs n x later
-room_made [] reads t n r e = absurd (none_some r e)
+room_made [] reads t n r e = absurd (none-some r e)
 room_made (Made m y ∷ xs) reads t n r e =
     let w = is_wanted xs reads m y in
     let reads' = at reads m (not w && reads_by reads y) in

@@ -1,5 +1,6 @@
 -- Trees that store in slots and read them are well formed.
 use Rattle.std.proofs.Common.{◌≡◌, ℕ, ◌≤◌, ℤ, true, true≢false, Some, None, List, refl, sym, arith}
+use Rattle.std.proofs.lemmas.Option.{none-some}
 use Rattle.op_forest.specs.declared.frame.Slot.{Slot}
 use Rattle.op_forest.specs.declared.op.Op.{Op}
 use Rattle.op_forest.specs.declared.op.Op.TheVariants as op
@@ -21,9 +22,6 @@ pub record IsValueTree (slots : List Slot) (s : Suffix) (t : Tree) : Type 0 wher
   pub kinds : HasKinds t
   pub locals : HasSlots slots t
   pub operand : IsOperand s t
-
-none_some : (l : ℕ) → None ≡ Some l → ⊥
-none_some l e = cc
 
 -- no operator gives nothing and a value
 pub no_void : (o : Op) → 1 ≤ number o V → gives_value o V ≡ true → ⊥
@@ -71,13 +69,13 @@ module _ (slots : List Slot) (offset : ℤ) (lies : LiesInOne slots offset) wher
 
   -- a read of a slot is no address of a label
   pub read_no_label : (s : Suffix) (l : ℕ) → label_by_address (op_of (slot_read (kind_of s) offset)) (head_of (slot_read (kind_of s) offset)).sym ≡ Some l → ⊥
-  read_no_label C l e = none_some l e
-  read_no_label S l e = none_some l e
-  read_no_label I l e = none_some l e
-  read_no_label U l e = none_some l e
-  read_no_label P l e = none_some l e
-  read_no_label B l e = none_some l e
-  read_no_label V l e = none_some l e
+  read_no_label C l e = none-some l e
+  read_no_label S l e = none-some l e
+  read_no_label I l e = none-some l e
+  read_no_label U l e = none-some l e
+  read_no_label P l e = none-some l e
+  read_no_label B l e = none-some l e
+  read_no_label V l e = none-some l e
 
   module _ (Is To : ℕ → Type 0) where
     store_of : (s : Suffix) (t : Tree) → IsValueTree slots s t → HasKind (TwoTree (head op.Asgn s None) (slot_address offset) t) → HasArity (TwoTree (head op.Asgn s None) (slot_address offset) t) → IsFitTree slots Is To (TwoTree (head op.Asgn s None) (slot_address offset) t)
@@ -85,8 +83,8 @@ module _ (slots : List Slot) (offset : ℤ) (lies : LiesInOne slots offset) wher
       arities = (arity, (λ l. refl), h.arities);
       kinds = (kind, address_kind, h.kinds);
       locals = ((λ e. absurd (not_local.1 e)), (λ e. lies), h.locals);
-      label = λ l e. absurd (none_some l e);
-      target = λ l e. absurd (none_some l e);
+      label = λ l e. absurd (none-some l e);
+      target = λ l e. absurd (none-some l e);
     }
 
     pub store_fits : (s : Suffix) → (s ≡ B → ⊥) → (s ≡ V → ⊥) → (t : Tree) → IsValueTree slots s t → IsFitTree slots Is To (slot_store (kind_of s) offset t)

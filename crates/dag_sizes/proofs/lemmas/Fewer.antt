@@ -15,7 +15,7 @@ use Rattle.dag_sizes.specs.Weights.{IsFewer, root_count, is_heavy, weight_of}
 use Rattle.dag_sizes.proofs.lemmas.OneUse.{heavy_by}
 use Rattle.dag_sizes.proofs.lemmas.Parts.{not_ended}
 use Rattle.dag_sizes.proofs.lemmas.Uses.{sum_kids, sum_uses, uses_at, no_uses}
-use Rattle.dag_sizes.proofs.lemmas.Weighing.{node_uses, node_uses_few, owed, IsPaid, reads_paid, size_by, plain_bound, grows, sizes_of, sized, sized_is, computed_size, plain_reads, no_leaf, or_not}
+use Rattle.dag_sizes.proofs.lemmas.Weighing.{node_uses, node_uses_few, owed, IsPaid, paid_behind, due_behind, reads_paid, size_by, plain_bound, grows, sizes_of, sized, sized_is, computed_size, plain_reads, no_leaf, or_not}
 
 fewer_counts : (full xs : List Act) (m : ℕ) → IsFewer full xs → counts xs m ≤ counts full m
 fewer_counts [] xs m h = let e : counts xs m ≡ 0 = ap (λ z. counts z m) h in omega (arith, e)
@@ -115,13 +115,8 @@ keep n x full xs part rest made reads heavy due once paid none =
     let more = uses_at xs due n d (none n once.0) in
     let here = fewer_bound x (counts xs n) (counts full n) (sum_kids x.kids due) (late xs n) (late full n) reads heavy (fewer_counts full xs n part) (fewer_late full xs n part) (reads_paid x reads heavy due (node_uses xs) paid) in
     let later = rest (at made n true) (at reads n (not w && reads_by reads x)) (at heavy n (not v && reads_by heavy x)) (at due n d) once.1
-    (λ m a b. ⊎_elim
-    (λ e. subst (λ z. (7 ≤ at due n d z) ⊎ (node_uses xs z ≡ 0)) (sym e) (subst (λ z. (7 ≤ z) ⊎ (node_uses xs n ≡ 0)) (sym (at_new due n d))
-    (own (sym (ap (at reads n (not w && reads_by reads x)) e ∙ at_new reads n (not w && reads_by reads x)) ∙ a) (sym (ap (at heavy n (not v && reads_by heavy x)) e ∙ at_new heavy n (not v && reads_by heavy x)) ∙ b) (is_call x.operator.op) refl)))
-    (λ ne. ⊎_elim (λ l. inl (subst (λ z. 7 ≤ z) (sym (at_old due n d m ne)) l)) (λ z. inr (let q : in_kids x.kids m + node_uses xs m ≡ 0 = z in omega (arith, q)))
-    (paid m (sym (at_old reads n (not w && reads_by reads x) m ne) ∙ a) (sym (at_old heavy n (not v && reads_by heavy x) m ne) ∙ b)))
-    (cases_eq m n))
-    (λ m un. at_old due n d m (unmade_other made n m un) ∙ none m (unmade made n m un)) in
+    (paid_behind n x xs reads heavy due (not w && reads_by reads x) (not v && reads_by heavy x) d paid (λ a b. own a b (is_call x.operator.op) refl))
+    (due_behind made due n d none) in
     omega (arith, more, here, later)
   where
     own : (not (is_heavy xs reads n x) && reads_by reads x) ≡ true → (not (is_heavy full heavy n x) && reads_by heavy x) ≡ false → (call : Bool) → is_call x.operator.op ≡ call

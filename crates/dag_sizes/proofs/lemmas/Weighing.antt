@@ -235,6 +235,20 @@ pub not_true : (b : Bool) → not b ≡ true → b ≡ false
 not_true true h = absurd (true≢false (sym h))
 not_true false h = refl
 
+-- behind a node all is paid, if so are its own uses, by what is due for it
+pub paid_behind : (n : ℕ) (x : Parts) (xs : List Act) (reads heavy : ℕ → Bool) (due : ℕ → ℕ) (b c : Bool) (d : ℕ) → IsPaid (Made n x ∷ xs) reads heavy due
+    → (b ≡ true → c ≡ false → (7 ≤ d) ⊎ (node_uses xs n ≡ 0)) → IsPaid xs (at reads n b) (at heavy n c) (at due n d)
+paid_behind n x xs reads heavy due b c d paid own = λ m p q. ⊎_elim
+    (λ e. subst (λ z. (7 ≤ at due n d z) ⊎ (node_uses xs z ≡ 0)) (sym e) (subst (λ z. (7 ≤ z) ⊎ (node_uses xs n ≡ 0)) (sym (at_new due n d))
+    (own (sym (ap (at reads n b) e ∙ at_new reads n b) ∙ p) (sym (ap (at heavy n c) e ∙ at_new heavy n c) ∙ q))))
+    (λ ne. ⊎_elim (λ l. inl (subst (λ z. 7 ≤ z) (sym (at_old due n d m ne)) l)) (λ z. inr (let u : in_kids x.kids m + node_uses xs m ≡ 0 = z in omega (arith, u)))
+    (paid m (sym (at_old reads n b m ne) ∙ p) (sym (at_old heavy n c m ne) ∙ q)))
+    (cases_eq m n)
+
+-- and nothing is due for a node that isn't made yet
+pub due_behind : (made : ℕ → Bool) (due : ℕ → ℕ) (n d : ℕ) → ((m : ℕ) → made m ≡ false → due m ≡ 0) → (m : ℕ) → at made n true m ≡ false → at due n d m ≡ 0
+due_behind made due n d none m un = at_old due n d m (unmade_other made n m un) ∙ none m (unmade made n m un)
+
 keep : (n : ℕ) (x : Parts) (full xs : List Act) → IsPart full xs → Weighed full xs → Weighed (Made n x ∷ full) (Made n x ∷ xs)
 keep n x full xs part rest made reads heavy due once used_ paid none =
     let w = is_wanted xs reads n x in
@@ -243,13 +257,8 @@ keep n x full xs part rest made reads heavy due once used_ paid none =
     let more = uses_at xs due n d (none n once.0) in
     let here = node_bound x (counts xs n) (counts full n) (sum_kids x.kids due) (late xs n) (late full n) (is_handed xs n) reads heavy used_.0 (counts_less full xs n part) (late_same full xs n part) (reads_paid x reads heavy due (node_uses xs) paid) in
     let later = rest (at made n true) (at reads n (not w && reads_by reads x)) (at heavy n (not v && reads_by heavy x)) (at due n d) once.1 used_.1
-    (λ m a b. ⊎_elim
-    (λ e. subst (λ z. (7 ≤ at due n d z) ⊎ (node_uses xs z ≡ 0)) (sym e) (subst (λ z. (7 ≤ z) ⊎ (node_uses xs n ≡ 0)) (sym (at_new due n d))
-    (own (sym (ap (at reads n (not w && reads_by reads x)) e ∙ at_new reads n (not w && reads_by reads x)) ∙ a) (sym (ap (at heavy n (not v && reads_by heavy x)) e ∙ at_new heavy n (not v && reads_by heavy x)) ∙ b) (is_call x.operator.op) refl)))
-    (λ ne. ⊎_elim (λ l. inl (subst (λ z. 7 ≤ z) (sym (at_old due n d m ne)) l)) (λ z. inr (let q : in_kids x.kids m + node_uses xs m ≡ 0 = z in omega (arith, q)))
-    (paid m (sym (at_old reads n (not w && reads_by reads x) m ne) ∙ a) (sym (at_old heavy n (not v && reads_by heavy x) m ne) ∙ b)))
-    (cases_eq m n))
-    (λ m un. at_old due n d m (unmade_other made n m un) ∙ none m (unmade made n m un)) in
+    (paid_behind n x xs reads heavy due (not w && reads_by reads x) (not v && reads_by heavy x) d paid (λ a b. own a b (is_call x.operator.op) refl))
+    (due_behind made due n d none) in
     omega (arith, more, here, later)
   where
     own : (not (is_wanted xs reads n x) && reads_by reads x) ≡ true → (not (is_heavy full heavy n x) && reads_by heavy x) ≡ false → (call : Bool) → is_call x.operator.op ≡ call

@@ -18,45 +18,11 @@ use Rattle.dag_forest.specs.declared.key.Key.{Key}
 use Rattle.dag_forest.specs.declared.kids.Kids.{Kids}
 use Rattle.dag_forest.specs.declared.kids.Kids.TheVariants.{Zero, One, Two}
 use Rattle.dag_forest.specs.declared.parts.Parts.{Parts}
+use Rattle.std.proofs.lemmas.Option.{none-some, same_Some}
+use Rattle.dag_forest.proofs.lemmas.Keys.{itself}
 use Rattle.dag_forest.specs.SameKeys.{same_key}
 use Rattle.dag_forest.specs.Tally.{IsFresh}
 use Rattle.lowered_forms.specs.Asked.{is_same, key_place}
-
--- ---- a key is the same as itself
-
-op_itself : (a : Op) → op_eq.ghosts.eq a a ≡ true
-op_itself a = true_same op_contracts.the_type a a refl
-
-suffix_itself : (a : Suffix) → suffix_eq.ghosts.eq a a ≡ true
-suffix_itself a = true_same suffix_contracts.the_type a a refl
-
-kids_itself : (a : Kids) → kids_eq.ghosts.eq a a ≡ true
-kids_itself Zero = search (comparing, rules)
-kids_itself (One a) = search (comparing, rules)
-kids_itself (Two a b) = search (comparing, rules)
-
-sym_itself : (a : Sym) → sym_eq.ghosts.eq a a ≡ true
-sym_itself a = search (comparing, rules)
-
-constant_itself : (a : Option ℤ) → option_eq int_eq a a ≡ true
-constant_itself a = search (comparing, rules)
-
-mark_itself : (a : ℕ) → (a == a) ≡ true
-mark_itself a = search (comparing, rules)
-
-parts_itself : (a : Parts) → parts_eq.ghosts.eq a a ≡ true
-parts_itself a = λ i. (op_itself a.operator.op i && suffix_itself a.operator.suffix i) && (kids_itself a.kids i && (sym_itself a.sym i && constant_itself a.constant i))
-
-pub key_itself : (a : Key) → is_same a a ≡ true
-key_itself a = λ i. parts_itself a.parts i && mark_itself a.mark i
-
--- ---- where it stands
-
-none_some : {A : Type 0} (u : A) → None ≡ Some u → ⊥
-none_some u e = cc
-
-same_some : {A : Type 0} (a b : A) → Some a ≡ Some b → a ≡ b
-same_some a b e = cc
 
 -- from one place on
 abbrev pub StandsFrom : Key → List Key → ℕ → ℕ → Type 0
@@ -64,11 +30,11 @@ StandsFrom k xs i m = (j : ℕ) × (m ≡ i + j) × (slice_get xs j ≡ Some k)
 
 found_by : (k x : Key) (xs : List Key) (i m : ℕ) (b : Bool) → is_same k x ≡ b → (key_place k xs (suc i) ≡ Some m → StandsFrom k xs (suc i) m) → (if b then Some i else key_place k xs (suc i)) ≡ Some m
     → StandsFrom k (x ∷ xs) i m
-found_by k x xs i m true h go e = (0, (let f = same_some i m e in omega (arith, f)), ap Some (sym (same_key k x h)))
+found_by k x xs i m true h go e = (0, (let f = same_Some i m e in omega (arith, f)), ap Some (sym (same_key k x h)))
 found_by k x xs i m false h go e = let r = go e in (suc r.0, (let f = r.1 in omega (arith, f)), r.2)
 
 found_from : (k : Key) (xs : List Key) (i m : ℕ) → key_place k xs i ≡ Some m → StandsFrom k xs i m
-found_from k [] i m e = absurd (none_some m e)
+found_from k [] i m e = absurd (none-some m e)
 found_from k (x ∷ xs) i m e = found_by k x xs i m (is_same k x) refl (λ f. found_from k xs (suc i) m f) e
 
 pub found_there : (k : Key) (xs : List Key) (m : ℕ) → key_place k xs 0 ≡ Some m → slice_get xs m ≡ Some k
@@ -78,15 +44,15 @@ found_there k xs m e =
     subst (λ n. slice_get xs n ≡ Some k) f r.2
 
 missing_by : (k x : Key) (xs : List Key) (i : ℕ) (b : Bool) → is_same k x ≡ b → (if b then Some i else key_place k xs (suc i)) ≡ None → (b ≡ false) × (key_place k xs (suc i) ≡ None)
-missing_by k x xs i true h e = absurd (none_some i (sym e))
+missing_by k x xs i true h e = absurd (none-some i (sym e))
 missing_by k x xs i false h e = (refl, e)
 
 missing_from : (k : Key) (xs : List Key) (i : ℕ) → key_place k xs i ≡ None → IsFresh xs k
-missing_from k [] i e j f = absurd (none_some k f)
+missing_from k [] i e j f = absurd (none-some k f)
 missing_from k (x ∷ xs) i e zero f =
     let r = missing_by k x xs i (is_same k x) refl e in
-    let g : x ≡ k = same_some x k f in
-    absurd (true≢false (sym (subst (λ y. is_same k y ≡ true) (sym g) (key_itself k)) ∙ r.0))
+    let g : x ≡ k = same_Some x k f in
+    absurd (true≢false (sym (subst (λ y. is_same k y ≡ true) (sym g) (itself k)) ∙ r.0))
 missing_from k (x ∷ xs) i e (suc j) f = let r = missing_by k x xs i (is_same k x) refl e in missing_from k xs (suc i) r.1 j f
 
 pub missing_is_fresh : (k : Key) (xs : List Key) → key_place k xs 0 ≡ None → IsFresh xs k

@@ -1,5 +1,5 @@
 use Rattle.std.proofs.Common.{◌≡◌, ap, sym, ◌∙◌, Some}
-use Rattle.dag_forest.proofs.Keys.{unlike}
+use Rattle.dag_forest.proofs.lemmas.Keys.{unlike}
 use Rattle.dag_forest.specs.SameKeys.{same_key}
 use Rattle.dag_forest.proofs.block.numbered.Goals as goal
 
