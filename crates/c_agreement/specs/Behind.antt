@@ -1,4 +1,5 @@
 -- When the call of forests, at some number of root steps, is no further than the call of C, and on the same way.
+-- Source: X. Leroy, Formal verification of a realistic compiler, Communications of the ACM 52(7), 2009, section 2 (semantic preservation, observable behaviours).
 use Rattle.std.specs.Prelude.{◌≡◌, ℕ, Option, Some, None, [], ◌∷◌}
 use Rattle.lcc_base.specs.Prefixes.{Starts}
 use Rattle.objects.specs.declared.value.Value.{Value}

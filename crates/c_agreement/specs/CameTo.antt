@@ -1,4 +1,5 @@
 -- What the call of forests comes to at some number of root steps, given what the call of C comes to with so many turns.
+-- Source: X. Leroy, Formal verification of a realistic compiler, Communications of the ACM 52(7), 2009, section 2 (semantic preservation, observable behaviours).
 use Rattle.std.specs.Prelude.{◌≡◌, ◌≤◌, ℕ, ◌+◌, Option, Some, None, [], ◌∷◌}
 use Rattle.objects.specs.declared.value.Value.{Value}
 use Rattle.forests.specs.Budgets.{with_left}

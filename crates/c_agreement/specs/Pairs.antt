@@ -1,4 +1,5 @@
 -- A call of a function in C, and a world of forests in which the function of the same name is called.
+-- Source: X. Leroy, Formal verification of a realistic compiler, Communications of the ACM 52(7), 2009, section 2 (semantic preservation, observable behaviours).
 use Rattle.std.specs.Prelude.{ℕ, ◌+◌, length}
 use Rattle.op_forest.specs.Lowered.{LoweredUnit}
 use Rattle.forests.specs.Budgets.{with_left}

@@ -1,4 +1,5 @@
 -- When what a call of forests comes to stands for what the call of C comes to.
+-- Source: ISO/IEC 9899:1990, 5.1.2.2.3 and 6.6.6.4 (main that ends, return).
 use Rattle.std.specs.Prelude.{◌≡◌, Option, Some, None}
 use Rattle.objects.specs.declared.value.Value.{Value}
 use Rattle.objects.specs.declared.value.Value.TheVariants.{Number}

@@ -1,4 +1,5 @@
 -- What traces show of output and open calls.
+-- Source: X. Leroy, Formal verification of a realistic compiler, Communications of the ACM 52(7), 2009, section 2 (semantic preservation, observable behaviours).
 use Rattle.std.specs.Prelude.{◌≡◌, ℕ, List, [], ◌++◌}
 use Rattle.lcc_base.specs.Prefixes.{Starts}
 use Rattle.lcc_base.specs.Traces.{Event, output_of, open_behind}

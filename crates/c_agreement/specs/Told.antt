@@ -1,4 +1,5 @@
 -- What it means for one call that a function agrees, in three sentences, where C's call is never undefined.
+-- Source: X. Leroy, Formal verification of a realistic compiler, Communications of the ACM 52(7), 2009, section 2 (semantic preservation, observable behaviours).
 use Rattle.std.specs.Prelude.{◌≡◌, ℕ, Bool, true, false, Option, Some, None, [], ◌∷◌}
 use Rattle.lcc_base.specs.Prefixes.{Starts}
 use Rattle.objects.specs.declared.value.Value.{Value}

@@ -1,5 +1,6 @@
 -- Cases in rising order, cut into those of one table each: a case joins the table of the cases before it where at least half
 -- of the table's numbers are then cases, else it begins a new table.
+-- Source: Fraser and Hanson, A Retargetable C Compiler, chapter 10 (switch statements, dense tables).
 use Rattle.std.specs.Prelude.{ℕ, ◌+◌, ◌-◌, ◌*◌, ◌%◌, ◌^◌, nat_le, Bool, List, [], ◌∷◌, ◌++◌, length, if◌then◌else◌}
 use Rattle.c_meaning.specs.declared.core_stmt.CoreCase.{CoreCase}
 

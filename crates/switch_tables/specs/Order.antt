@@ -1,4 +1,5 @@
 -- Cases in rising order, as signed or unsigned numbers.
+-- Source: ISO/IEC 9899:1990, 6.3.8 and 6.6.4.2 (relational operators, switch).
 use Rattle.std.specs.Prelude.{ℕ, ◌+◌, ◌%◌, ◌<◌, ◌^◌, Bool, List, [], ◌∷◌, if◌then◌else◌}
 use Rattle.std.specs.List.{AllByRecursion}
 use Rattle.objects.specs.Arithmetic.{is_less}
