@@ -155,11 +155,11 @@ pub expr_form_index : (a : _) (i : _) → expr_form_shown (expr_form.Index a i) 
 unfolding expr_form_shown expr_shown type_name_shown
 expr_form_index a i = ap (λ g. expr_text (g 0)) (is_index a i)
 
-pub expr_form_call : (f : _) (es : _) → expr_form_shown (expr_form.Call f es) ≡ expr_shown f.value ++ sign_text 2 ++ listed expr_shown es ++ sign_text 3
+pub expr_form_call : (f : _) (es : _) → expr_form_shown (expr_form.Call f es) ≡ expr_shown f.value ++ sign_text 2 ++ listed expr_shown es.value ++ sign_text 3
 unfolding expr_form_shown expr_shown type_name_shown
-expr_form_call f es = ap (λ g. expr_text (g 0)) (is_call f es) ∙ ap (λ t. expr_text (expr_of f.value) ++ sign_text 2 ++ t ++ sign_text 3) (exprs_listed es)
+expr_form_call f es = ap (λ g. expr_text (g 0)) (is_call f es) ∙ ap (λ t. expr_text (expr_of f.value) ++ sign_text 2 ++ t ++ sign_text 3) (exprs_listed es.value)
 
-pub expr_form_selected : (op : _) (a : _) (n : _) → expr_form_shown (expr_form.Member op a n) ≡ expr_shown a.value ++ sign_text (member_sign op) ++ name_text n
+pub expr_form_selected : (op : _) (a : _) (n : _) → expr_form_shown (expr_form.Member op a n) ≡ expr_shown a.value ++ sign_text (member_sign op) ++ name_text n.value
 unfolding expr_form_shown expr_shown type_name_shown
 expr_form_selected op a n = ap (λ g. expr_text (g 0)) (is_selected op a n)
 

@@ -155,11 +155,11 @@ pub statement_form_expression : (e : _) → statement_form_shown (statement_form
 unfolding statement_form_shown statement_shown block_shown expr_shown
 statement_form_expression e = ap (λ g. statement_text (g 0)) (is_expression e) ∙ ap (λ t. t ++ sign_text 32) (any_expr e)
 
-pub statement_form_block : (b : _) → statement_form_shown (statement_form.Block b) ≡ block_shown b
+pub statement_form_block : (b : _) → statement_form_shown (statement_form.Block b) ≡ block_shown b.value
 unfolding statement_form_shown statement_shown block_shown expr_shown
 statement_form_block b = ap (λ g. statement_text (g 0)) (is_block b)
 
-pub statement_form_if : (e : _) (s : _) (t : _) → statement_form_shown (statement_form.If e s t) ≡ (word_text 15 ++ sign_text 2 ++ expr_shown e ++ sign_text 3) ++ statement_shown s.value ++ shown_else t
+pub statement_form_if : (e : _) (s : _) (t : _) → statement_form_shown (statement_form.If e s t) ≡ (word_text 15 ++ sign_text 2 ++ expr_shown e.value ++ sign_text 3) ++ statement_shown s.value ++ shown_else t
 unfolding statement_form_shown statement_shown block_shown expr_shown
 statement_form_if e s None = ap (λ g. statement_text (g 0)) (is_if e s) ∙ sym (append-nil _)
 statement_form_if e s (Some t) = ap (λ g. statement_text (g 0)) (is_if_else e s t) ∙ append_assoc _ (word_text 9) _

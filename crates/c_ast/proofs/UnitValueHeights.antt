@@ -143,11 +143,11 @@ pub statement_form_expression : (e : _) → statement_form_height (statement_for
 unfolding statement_form_height statement_high block_high expr_high
 statement_form_expression e = ap (λ g. statement_height (g 0)) (is_expression e) ∙ ap (λ n. n + 1) (any_expr e)
 
-pub statement_form_block : (b : _) → statement_form_height (statement_form.Block b) ≡ block_high b
+pub statement_form_block : (b : _) → statement_form_height (statement_form.Block b) ≡ block_high b.value
 unfolding statement_form_height statement_high block_high expr_high
 statement_form_block b = ap (λ g. statement_height (g 0)) (is_block b)
 
-pub statement_form_if : (e : _) (s : _) (t : _) → statement_form_height (statement_form.If e s t) ≡ max (max (expr_high e) (statement_high s.value)) (else_high t) + 1
+pub statement_form_if : (e : _) (s : _) (t : _) → statement_form_height (statement_form.If e s t) ≡ max (max (expr_high e.value) (statement_high s.value)) (else_high t) + 1
 unfolding statement_form_height statement_high block_high expr_high
 statement_form_if e s None = ap (λ g. statement_height (g 0)) (is_if e s) ∙ ap (λ n. n + 1) (sym (max-zero _))
 statement_form_if e s (Some t) = ap (λ g. statement_height (g 0)) (is_if_else e s t)

@@ -128,9 +128,9 @@ pub expr_form_index : (a : _) (b : _) → form_high (expr_form.Index a b) ≡ ma
 unfolding form_high expr_high type_name_high
 expr_form_index a b = ap (λ g. height (g 0)) (is_index a b)
 
-pub expr_form_call : (a : _) (es : _) → form_high (expr_form.Call a es) ≡ max (expr_high a.value) (most expr_high es) + 1
+pub expr_form_call : (a : _) (es : _) → form_high (expr_form.Call a es) ≡ max (expr_high a.value) (most expr_high es.value) + 1
 unfolding form_high expr_high type_name_high
-expr_form_call a es = ap (λ g. height (g 0)) (is_call a es) ∙ ap (λ n. max (height (expr_of a.value)) n + 1) (exprs_most es)
+expr_form_call a es = ap (λ g. height (g 0)) (is_call a es) ∙ ap (λ n. max (height (expr_of a.value)) n + 1) (exprs_most es.value)
 
 pub expr_form_member : (op : _) (a : _) (n : _) → form_high (expr_form.Member op a n) ≡ expr_high a.value + 1
 unfolding form_high expr_high type_name_high

@@ -9,6 +9,8 @@ use Rattle.c_ast.specs.Lexemes.{Lexeme, Name, Keyword, Integer, Sign}
 use Rattle.c_ast.specs.InForce.{InForce, is_typedef, put, opened, closed, closed_kept, reopened, forgotten}
 use Rattle.c_ast.specs.Marks.{Mark, Tok, Plain, Typed, Here, Ask, Put, Open, Close, Keep, Reopen, Forget, holds, tokens_of}
 use Rattle.c_ast.specs.Trees.{ExprTree, Variable, IntegerConstant, Enclosed, Prefixed, SizedExpr, SizedType, Converted, Combined, AnExpr, TypeNameTree, TypeNamed, SpecifiersTree, Specified, SpecifierTree, Stored, Basic, NamedType, Enumeration, NoSpecifiers, Specifiers, NoEnumerators, Enumerators, Enumerator, DeclaratorTree, Declarator, NoDeclarator, ADeclarator, Named, Inner, Omitted, SuffixTree, Prototype, NameList, NoSuffixes, Suffixes, Parameter, NoParameter, Parameters, DeclarationTree, StatementTree, Labelled, Evaluate, If, IfElse, Return, NoStatements, Statements, Block, ExternalTree, Function, Declares, UnitTree}
+use Rattle.c_ast.specs.Signs.{open_parenthesis, close_parenthesis, open_brace, close_brace, minus_sign, semicolon}
+use Rattle.c_ast.specs.Keywords.{int_word, return_word, typedef_word}
 
 -- the answer is the one that is asked for
 abbrev pub agrees : Bool → Bool → Bool
@@ -116,8 +118,8 @@ shown_cast = of (type_t ∷ function no_parameters [] (gives cast) ∷ [])
 -- the tokens of both readings
 abbrev pub hidden_tokens : List Lexeme
 hidden_tokens =
-    Keyword 26 ∷ Keyword 16 ∷ Name t_name ∷ Sign 32 ∷ Keyword 16 ∷ Name f_name ∷ Sign 2 ∷ Keyword 16 ∷ Name t_name ∷ Sign 3 ∷ Sign 4
-    ∷ Keyword 19 ∷ Sign 2 ∷ Name t_name ∷ Sign 3 ∷ Sign 13 ∷ Integer 1 IntType ∷ Sign 32 ∷ Sign 5 ∷ []
+    Keyword typedef_word ∷ Keyword int_word ∷ Name t_name ∷ Sign semicolon ∷ Keyword int_word ∷ Name f_name ∷ Sign open_parenthesis ∷ Keyword int_word ∷ Name t_name ∷ Sign close_parenthesis ∷ Sign open_brace
+    ∷ Keyword return_word ∷ Sign open_parenthesis ∷ Name t_name ∷ Sign close_parenthesis ∷ Sign minus_sign ∷ Integer 1 IntType ∷ Sign semicolon ∷ Sign close_brace ∷ []
 
 -- typedef int T; int f(int T); T x;    the prototype's scope ends
 abbrev pub prototype_ends : UnitTree

@@ -8,6 +8,8 @@ use Rattle.c_ast.specs.Lexemes.{Name, Keyword, Integer, Character, Text, Sign}
 use Rattle.c_ast.specs.Operators.{binary_sign, assign_sign, prefix_sign, postfix_sign, member_sign, storage_word, qualifier_word, basic_word, record_word}
 use Rattle.c_ast.specs.Marks.{Mark, Tok, Plain, Typed, Here, Ask, Put, Open, Close, Keep, IsSpecifier, IsSized, IsDeclarator, IsCore, IsSuffix, IsQualifier, IsText, IsSign}
 use Rattle.c_ast.specs.Trees.{ExprTree, Variable, IntegerConstant, CharacterConstant, Literal, Enclosed, Subscript, Called, Selected, Stepped, Prefixed, SizedExpr, SizedType, Converted, Combined, Chosen, Assigned, Sequence, ExprTrees, NoExprs, Exprs, MaybeExpr, NoExpr, AnExpr, TypeNameTree, TypeNamed, SpecifiersTree, Specified, SpecifierTree, Stored, Qualified, Basic, Record, RecordTag, Enumeration, EnumerationTag, NamedType, SpecifierTrees, NoSpecifiers, Specifiers, MemberTree, Members, MemberTrees, NoMembers, MoreMembers, FieldTree, Field, FieldTrees, NoFields, Fields, EnumeratorTree, Enumerator, EnumeratorTrees, NoEnumerators, Enumerators, DeclaratorTree, Declarator, MaybeDeclarator, NoDeclarator, ADeclarator, CoreTree, Named, Inner, Omitted, SuffixTree, ArraySuffix, Prototype, NameList, NoParameters, SuffixTrees, NoSuffixes, Suffixes, ParameterTree, Parameter, ParameterTrees, NoParameter, Parameters}
+use Rattle.c_ast.specs.Signs.{open_bracket, close_bracket, open_parenthesis, close_parenthesis, open_brace, close_brace, star_sign, question_mark, colon_sign, semicolon, ellipsis, equals_sign, comma_sign}
+use Rattle.c_ast.specs.Keywords.{enum_word, sizeof_word}
 
 abbrev pub sign : ℕ → List Mark → List Mark
 sign k r = Tok (Sign k) ∷ r
@@ -23,16 +25,16 @@ qualifiers_then [] r = Ask IsQualifier false ∷ r
 qualifiers_then (q ∷ qs) r = Tok (Keyword (qualifier_word q)) ∷ qualifiers_then qs r
 
 abbrev pub pointers_then : List (List Qualifier) → List Mark → List Mark
-pointers_then [] r = Ask (IsSign 11) false ∷ r
-pointers_then (qs ∷ ps) r = Tok (Sign 11) ∷ qualifiers_then qs (pointers_then ps r)
+pointers_then [] r = Ask (IsSign star_sign) false ∷ r
+pointers_then (qs ∷ ps) r = Tok (Sign star_sign) ∷ qualifiers_then qs (pointers_then ps r)
 
 -- a list of names, of which the first is no typedef name; each declares a parameter
 abbrev pub more_names_then : List (List ℕ) → List Mark → List Mark
-more_names_then [] r = sign 3 r
-more_names_then (n ∷ ns) r = Tok (Sign 45) ∷ Tok (Name n) ∷ Put n false ∷ more_names_then ns r
+more_names_then [] r = sign close_parenthesis r
+more_names_then (n ∷ ns) r = Tok (Sign comma_sign) ∷ Tok (Name n) ∷ Put n false ∷ more_names_then ns r
 
 abbrev pub names_then : List (List ℕ) → List Mark → List Mark
-names_then [] r = sign 3 r
+names_then [] r = sign close_parenthesis r
 names_then (n ∷ ns) r = Plain n ∷ Put n false ∷ more_names_then ns r
 
 abbrev pub tag_then : Option (List ℕ) → List Mark → List Mark
@@ -41,13 +43,13 @@ tag_then (Some n) r = Tok (Name n) ∷ r
 
 -- behind the last of a list in braces
 abbrev pub end_then : Bool → List Mark → List Mark
-end_then true r = Tok (Sign 45) ∷ Tok (Sign 5) ∷ r
-end_then false r = Tok (Sign 5) ∷ r
+end_then true r = Tok (Sign comma_sign) ∷ Tok (Sign close_brace) ∷ r
+end_then false r = Tok (Sign close_brace) ∷ r
 
 -- behind the last parameter
 abbrev pub dots_then : Bool → List Mark → List Mark
-dots_then true r = Tok (Sign 45) ∷ Tok (Sign 33) ∷ Tok (Sign 3) ∷ r
-dots_then false r = Tok (Sign 3) ∷ r
+dots_then true r = Tok (Sign comma_sign) ∷ Tok (Sign ellipsis) ∷ Tok (Sign close_parenthesis) ∷ r
+dots_then false r = Tok (Sign close_parenthesis) ∷ r
 
 -- ---- what trees say of themselves
 
@@ -143,17 +145,17 @@ abbrev mutual
   expr (IntegerConstant l v k) r = Here l ∷ Tok (Integer v k) ∷ r
   expr (CharacterConstant l v) r = Here l ∷ Tok (Character v) ∷ r
   expr (Literal l bs) r = Here l ∷ texts_then bs r
-  expr (Enclosed l e) r = Here l ∷ Tok (Sign 2) ∷ expr e (Tok (Sign 3) ∷ r)
-  expr (Subscript l a i) r = Here l ∷ expr a (Tok (Sign 0) ∷ expr i (Tok (Sign 1) ∷ r))
-  expr (Called l f es) r = Here l ∷ expr f (Tok (Sign 2) ∷ arguments es r)
+  expr (Enclosed l e) r = Here l ∷ Tok (Sign open_parenthesis) ∷ expr e (Tok (Sign close_parenthesis) ∷ r)
+  expr (Subscript l a i) r = Here l ∷ expr a (Tok (Sign open_bracket) ∷ expr i (Tok (Sign close_bracket) ∷ r))
+  expr (Called l f es) r = Here l ∷ expr f (Tok (Sign open_parenthesis) ∷ arguments es r)
   expr (Selected l op a n) r = Here l ∷ expr a (Tok (Sign (member_sign op)) ∷ Tok (Name n) ∷ r)
   expr (Stepped l op a) r = Here l ∷ expr a (Tok (Sign (postfix_sign op)) ∷ r)
   expr (Prefixed l op a) r = Here l ∷ Tok (Sign (prefix_sign op)) ∷ expr a r
-  expr (SizedExpr l a) r = Here l ∷ Tok (Keyword 22) ∷ Ask IsSized false ∷ expr a r
-  expr (SizedType l t) r = Here l ∷ Tok (Keyword 22) ∷ Ask IsSized true ∷ Tok (Sign 2) ∷ type_name t (Tok (Sign 3) ∷ r)
-  expr (Converted l t a) r = Here l ∷ Tok (Sign 2) ∷ type_name t (Tok (Sign 3) ∷ expr a r)
+  expr (SizedExpr l a) r = Here l ∷ Tok (Keyword sizeof_word) ∷ Ask IsSized false ∷ expr a r
+  expr (SizedType l t) r = Here l ∷ Tok (Keyword sizeof_word) ∷ Ask IsSized true ∷ Tok (Sign open_parenthesis) ∷ type_name t (Tok (Sign close_parenthesis) ∷ r)
+  expr (Converted l t a) r = Here l ∷ Tok (Sign open_parenthesis) ∷ type_name t (Tok (Sign close_parenthesis) ∷ expr a r)
   expr (Combined l op a b) r = Here l ∷ expr a (Tok (Sign (binary_sign op)) ∷ expr b r)
-  expr (Chosen l a b c) r = Here l ∷ expr a (Tok (Sign 30) ∷ expr b (Tok (Sign 31) ∷ expr c r))
+  expr (Chosen l a b c) r = Here l ∷ expr a (Tok (Sign question_mark) ∷ expr b (Tok (Sign colon_sign) ∷ expr c r))
   expr (Assigned l op a b) r = Here l ∷ expr a (Tok (Sign (assign_sign op)) ∷ expr b r)
   expr (Sequence l es) r = Here l ∷ sequence es r
 
@@ -164,16 +166,16 @@ abbrev mutual
 
   pub more_sequence : ExprTrees → List Mark → List Mark
   more_sequence NoExprs r = r
-  more_sequence (Exprs e es) r = Tok (Sign 45) ∷ expr e (more_sequence es r)
+  more_sequence (Exprs e es) r = Tok (Sign comma_sign) ∷ expr e (more_sequence es r)
 
   -- behind `(`
   pub arguments : ExprTrees → List Mark → List Mark
-  arguments NoExprs r = Tok (Sign 3) ∷ r
+  arguments NoExprs r = Tok (Sign close_parenthesis) ∷ r
   arguments (Exprs e es) r = expr e (more_arguments es r)
 
   pub more_arguments : ExprTrees → List Mark → List Mark
-  more_arguments NoExprs r = Tok (Sign 3) ∷ r
-  more_arguments (Exprs e es) r = Tok (Sign 45) ∷ expr e (more_arguments es r)
+  more_arguments NoExprs r = Tok (Sign close_parenthesis) ∷ r
+  more_arguments (Exprs e es) r = Tok (Sign comma_sign) ∷ expr e (more_arguments es r)
 
   -- an expression that may be left out
   pub maybe_expr : MaybeExpr → List Mark → List Mark
@@ -200,30 +202,30 @@ abbrev mutual
   specifier (Stored l s) r = Here l ∷ Tok (Keyword (storage_word s)) ∷ r
   specifier (Qualified l q) r = Here l ∷ Tok (Keyword (qualifier_word q)) ∷ r
   specifier (Basic l b) r = Here l ∷ Tok (Keyword (basic_word b)) ∷ r
-  specifier (Record l k tag ms) r = Here l ∷ Tok (Keyword (record_word k)) ∷ tag_then tag (Tok (Sign 4) ∷ members ms r)
-  specifier (RecordTag l k n) r = Here l ∷ Tok (Keyword (record_word k)) ∷ Tok (Name n) ∷ Ask (IsSign 4) false ∷ r
-  specifier (Enumeration l tag es comma) r = Here l ∷ Tok (Keyword 10) ∷ tag_then tag (Tok (Sign 4) ∷ enumerators es comma r)
-  specifier (EnumerationTag l n) r = Here l ∷ Tok (Keyword 10) ∷ Tok (Name n) ∷ Ask (IsSign 4) false ∷ r
+  specifier (Record l k tag ms) r = Here l ∷ Tok (Keyword (record_word k)) ∷ tag_then tag (Tok (Sign open_brace) ∷ members ms r)
+  specifier (RecordTag l k n) r = Here l ∷ Tok (Keyword (record_word k)) ∷ Tok (Name n) ∷ Ask (IsSign open_brace) false ∷ r
+  specifier (Enumeration l tag es comma) r = Here l ∷ Tok (Keyword enum_word) ∷ tag_then tag (Tok (Sign open_brace) ∷ enumerators es comma r)
+  specifier (EnumerationTag l n) r = Here l ∷ Tok (Keyword enum_word) ∷ Tok (Name n) ∷ Ask (IsSign open_brace) false ∷ r
   specifier (NamedType l n) r = Here l ∷ Typed n ∷ r
 
   pub members : MemberTrees → List Mark → List Mark
-  members NoMembers r = Tok (Sign 5) ∷ r
+  members NoMembers r = Tok (Sign close_brace) ∷ r
   members (MoreMembers m ms) r = member m (members ms r)
 
   pub member : MemberTree → List Mark → List Mark
   member (Members l s fs) r = Here l ∷ specifiers s (fields fs r)
 
   pub fields : FieldTrees → List Mark → List Mark
-  fields NoFields r = Tok (Sign 32) ∷ r
+  fields NoFields r = Tok (Sign semicolon) ∷ r
   fields (Fields f fs) r = field f (more_fields fs r)
 
   pub more_fields : FieldTrees → List Mark → List Mark
-  more_fields NoFields r = Tok (Sign 32) ∷ r
-  more_fields (Fields f fs) r = Tok (Sign 45) ∷ field f (more_fields fs r)
+  more_fields NoFields r = Tok (Sign semicolon) ∷ r
+  more_fields (Fields f fs) r = Tok (Sign comma_sign) ∷ field f (more_fields fs r)
 
   -- a member's name comes into force nowhere
   pub field : FieldTree → List Mark → List Mark
-  field (Field l d w) r = Here l ∷ maybe_declarator false d (expr_behind 31 w r)
+  field (Field l d w) r = Here l ∷ maybe_declarator false d (expr_behind colon_sign w r)
 
   pub enumerators : EnumeratorTrees → Bool → List Mark → List Mark
   enumerators NoEnumerators comma r = end_then comma r
@@ -231,11 +233,11 @@ abbrev mutual
 
   pub more_enumerators : EnumeratorTrees → Bool → List Mark → List Mark
   more_enumerators NoEnumerators comma r = end_then comma r
-  more_enumerators (Enumerators e es) comma r = Tok (Sign 45) ∷ enumerator e (more_enumerators es comma r)
+  more_enumerators (Enumerators e es) comma r = Tok (Sign comma_sign) ∷ enumerator e (more_enumerators es comma r)
 
   -- an enumerator is in force from its own end
   pub enumerator : EnumeratorTree → List Mark → List Mark
-  enumerator (Enumerator l n v) r = Here l ∷ Tok (Name n) ∷ expr_behind 34 v (Put n false ∷ r)
+  enumerator (Enumerator l n v) r = Here l ∷ Tok (Name n) ∷ expr_behind equals_sign v (Put n false ∷ r)
 
   pub maybe_declarator : Bool → MaybeDeclarator → List Mark → List Mark
   maybe_declarator free NoDeclarator r = Ask IsDeclarator false ∷ r
@@ -247,7 +249,7 @@ abbrev mutual
 
   pub core : (free outer : Bool) → CoreTree → List Mark → List Mark
   core free outer (Named n) r = asked_then free true (Tok (Name n) ∷ r)
-  core free outer (Inner d) r = asked_then free true (Tok (Sign 2) ∷ declarator free outer d (Tok (Sign 3) ∷ r))
+  core free outer (Inner d) r = asked_then free true (Tok (Sign open_parenthesis) ∷ declarator free outer d (Tok (Sign close_parenthesis) ∷ r))
   core free outer Omitted r = asked_then free false r
 
   pub suffixes : Bool → SuffixTrees → List Mark → List Mark
@@ -255,10 +257,10 @@ abbrev mutual
   suffixes own (Suffixes s ss) r = suffix own s (suffixes false ss r)
 
   pub suffix : Bool → SuffixTree → List Mark → List Mark
-  suffix own (ArraySuffix l e) r = Here l ∷ Tok (Sign 0) ∷ maybe_expr e (Tok (Sign 1) ∷ r)
-  suffix own (Prototype l ps more) r = Here l ∷ Tok (Sign 2) ∷ Open ∷ parameters ps more (closed_then own r)
-  suffix own (NameList l ns) r = Here l ∷ Tok (Sign 2) ∷ Open ∷ names_then ns (closed_then own r)
-  suffix own (NoParameters l) r = Here l ∷ Tok (Sign 2) ∷ Open ∷ Tok (Sign 3) ∷ closed_then own r
+  suffix own (ArraySuffix l e) r = Here l ∷ Tok (Sign open_bracket) ∷ maybe_expr e (Tok (Sign close_bracket) ∷ r)
+  suffix own (Prototype l ps more) r = Here l ∷ Tok (Sign open_parenthesis) ∷ Open ∷ parameters ps more (closed_then own r)
+  suffix own (NameList l ns) r = Here l ∷ Tok (Sign open_parenthesis) ∷ Open ∷ names_then ns (closed_then own r)
+  suffix own (NoParameters l) r = Here l ∷ Tok (Sign open_parenthesis) ∷ Open ∷ Tok (Sign close_parenthesis) ∷ closed_then own r
 
   pub parameters : ParameterTrees → Bool → List Mark → List Mark
   parameters NoParameter more r = dots_then more r
@@ -266,7 +268,7 @@ abbrev mutual
 
   pub more_parameters : ParameterTrees → Bool → List Mark → List Mark
   more_parameters NoParameter more r = dots_then more r
-  more_parameters (Parameters p ps) more r = Tok (Sign 45) ∷ parameter p (more_parameters ps more r)
+  more_parameters (Parameters p ps) more r = Tok (Sign comma_sign) ∷ parameter p (more_parameters ps more r)
 
   -- a parameter's name is in force from its declarator's end
   pub parameter : ParameterTree → List Mark → List Mark

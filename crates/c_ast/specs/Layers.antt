@@ -45,10 +45,10 @@ is_enclosed a = ap expr_form_of (sym (expr_form.rolls-Enclosed a)) ∙ fold-roll
 pub is_index : (a : _) (i : _) → expr_form_of (expr_form.Index a i) ≡ λ line. Subscript line (expr_of a.value) (expr_of i.value)
 is_index a i = ap expr_form_of (sym (expr_form.rolls-Index a i)) ∙ fold-roll-ExprForm CoreTree (ℕ → ExprTree) (ℕ → SpecifierTree) (ℕ → SuffixTree) DeclaratorTree EnumeratorTree ExprTree MemberTree FieldTree ParameterTree SpecifierTree SpecifiersTree SuffixTree TypeNameTree core_layer expr_form_layer specifier_form_layer suffix_form_layer declarator_layer enumerator_layer expr_layer member_layer field_layer parameter_layer specifier_layer specifiers_layer suffix_layer type_name_layer (ExprForm-F.Index a i)
 
-pub is_call : (f : _) (es : _) → expr_form_of (expr_form.Call f es) ≡ λ line. Called line (expr_of f.value) (exprs_of (map expr_of es))
+pub is_call : (f : _) (es : _) → expr_form_of (expr_form.Call f es) ≡ λ line. Called line (expr_of f.value) (exprs_of (map expr_of es.value))
 is_call f es = ap expr_form_of (sym (expr_form.rolls-Call f es)) ∙ fold-roll-ExprForm CoreTree (ℕ → ExprTree) (ℕ → SpecifierTree) (ℕ → SuffixTree) DeclaratorTree EnumeratorTree ExprTree MemberTree FieldTree ParameterTree SpecifierTree SpecifiersTree SuffixTree TypeNameTree core_layer expr_form_layer specifier_form_layer suffix_form_layer declarator_layer enumerator_layer expr_layer member_layer field_layer parameter_layer specifier_layer specifiers_layer suffix_layer type_name_layer (ExprForm-F.Call f es)
 
-pub is_selected : (op : _) (a : _) (n : _) → expr_form_of (expr_form.Member op a n) ≡ λ line. Selected line op (expr_of a.value) n
+pub is_selected : (op : _) (a : _) (n : _) → expr_form_of (expr_form.Member op a n) ≡ λ line. Selected line op (expr_of a.value) n.value
 is_selected op a n = ap expr_form_of (sym (expr_form.rolls-Member op a n)) ∙ fold-roll-ExprForm CoreTree (ℕ → ExprTree) (ℕ → SpecifierTree) (ℕ → SuffixTree) DeclaratorTree EnumeratorTree ExprTree MemberTree FieldTree ParameterTree SpecifierTree SpecifiersTree SuffixTree TypeNameTree core_layer expr_form_layer specifier_form_layer suffix_form_layer declarator_layer enumerator_layer expr_layer member_layer field_layer parameter_layer specifier_layer specifiers_layer suffix_layer type_name_layer (ExprForm-F.Member op a n)
 
 pub is_postfix : (op : _) (a : _) → expr_form_of (expr_form.Postfix op a) ≡ λ line. Stepped line op (expr_of a.value)

@@ -3,6 +3,8 @@ use Rattle.std.specs.Prelude.{◌≡◌, ℕ, Bool, true, false, not, ◌&&◌, 
 use Rattle.std.specs.List.{list_any}
 use Rattle.c_ast.specs.Lexemes.{Lexeme, Name, Keyword, Integer, Character, Text, Sign, Placed}
 use Rattle.c_ast.specs.InForce.{InForce, is_typedef, put, opened, closed, closed_kept, reopened, forgotten}
+use Rattle.c_ast.specs.Signs.{open_bracket, open_parenthesis, close_parenthesis, star_sign, colon_sign}
+use Rattle.c_ast.specs.Keywords.{auto_word, char_word, const_word, double_word, enum_word, extern_word, float_word, int_word, long_word, register_word, short_word, signed_word, static_word, struct_word, typedef_word, union_word, unsigned_word, void_word, volatile_word}
 
 -- a question about what is next
 pub data Test : Type 0 where
@@ -33,7 +35,7 @@ pub data Mark : Type 0 where
 
 -- auto char const double enum extern float int long register short signed static struct typedef union unsigned void volatile
 abbrev pub specifier_words : List ℕ
-specifier_words = 0 ∷ 3 ∷ 4 ∷ 8 ∷ 10 ∷ 11 ∷ 12 ∷ 16 ∷ 17 ∷ 18 ∷ 20 ∷ 21 ∷ 23 ∷ 24 ∷ 26 ∷ 27 ∷ 28 ∷ 29 ∷ 30 ∷ []
+specifier_words = auto_word ∷ char_word ∷ const_word ∷ double_word ∷ enum_word ∷ extern_word ∷ float_word ∷ int_word ∷ long_word ∷ register_word ∷ short_word ∷ signed_word ∷ static_word ∷ struct_word ∷ typedef_word ∷ union_word ∷ unsigned_word ∷ void_word ∷ volatile_word ∷ []
 
 -- the token is one more specifier: a typedef name is one where no type specifier stood before it
 abbrev pub is_specifier : InForce → Bool → Lexeme → Bool
@@ -87,13 +89,13 @@ first_two is then_is (l ∷ ls) = is l && first_is then_is ls
 -- with these names in force, what is next is so
 abbrev pub holds : Test → InForce → List Lexeme → Bool
 holds (IsSpecifier typed) names ls = first_is (is_specifier names typed) ls
-holds IsDeclaration names ls = first_is (is_specifier names false) ls && not (first_two is_name (is_sign 31) ls)
-holds IsLabel names ls = first_two is_name (is_sign 31) ls
-holds IsSized names ls = first_two (is_sign 2) (is_specifier names false) ls
-holds IsDeclarator names ls = first_is (λ l. is_name l || (is_sign 11 l || (is_sign 2 l || is_sign 0 l))) ls
-holds IsCore names ls = first_is is_name ls || (first_is (is_sign 2) ls && not (first_two (is_sign 2) (λ l. is_sign 3 l || is_specifier names false l) ls))
-holds IsSuffix names ls = first_is (λ l. is_sign 0 l || is_sign 2 l) ls
-holds IsQualifier names ls = first_is (λ l. is_keyword 4 l || is_keyword 30 l) ls
+holds IsDeclaration names ls = first_is (is_specifier names false) ls && not (first_two is_name (is_sign colon_sign) ls)
+holds IsLabel names ls = first_two is_name (is_sign colon_sign) ls
+holds IsSized names ls = first_two (is_sign open_parenthesis) (is_specifier names false) ls
+holds IsDeclarator names ls = first_is (λ l. is_name l || (is_sign star_sign l || (is_sign open_parenthesis l || is_sign open_bracket l))) ls
+holds IsCore names ls = first_is is_name ls || (first_is (is_sign open_parenthesis) ls && not (first_two (is_sign open_parenthesis) (λ l. is_sign close_parenthesis l || is_specifier names false l) ls))
+holds IsSuffix names ls = first_is (λ l. is_sign open_bracket l || is_sign open_parenthesis l) ls
+holds IsQualifier names ls = first_is (λ l. is_keyword const_word l || is_keyword volatile_word l) ls
 holds IsText names ls = first_is is_text ls
 holds (IsSign k) names ls = first_is (is_sign k) ls
 holds (IsKeyword k) names ls = first_is (is_keyword k) ls

@@ -20,8 +20,28 @@ use Rattle.c_ast.specs.declared.specifier.BasicType.{BasicType}
 use Rattle.c_ast.specs.declared.specifier.BasicType.TheVariants as basic
 use Rattle.c_ast.specs.declared.specifier.RecordKind.{RecordKind}
 use Rattle.c_ast.specs.declared.specifier.RecordKind.TheVariants as record_kind
+use Rattle.c_ast.specs.Signs.{dot_sign, arrow_sign, increment_sign, decrement_sign, ampersand, star_sign, plus_sign, minus_sign, tilde, exclamation_mark, slash, percent_sign, shift_left_sign, shift_right_sign, less_sign, greater_sign, less_equal_sign, greater_equal_sign, equal_sign, not_equal_sign, caret, bar, and_sign, or_sign, equals_sign, star_equals, slash_equals, percent_equals, plus_equals, minus_equals, shift_left_equals, shift_right_equals, ampersand_equals, caret_equals, bar_equals}
+use Rattle.c_ast.specs.Keywords.{auto_word, char_word, const_word, double_word, extern_word, float_word, int_word, long_word, register_word, short_word, signed_word, static_word, struct_word, typedef_word, union_word, unsigned_word, void_word, volatile_word}
 
 -- ---- levels of expressions: 0 expr, 1 assign, 2 cond, 3 to 12 binary, 13 cast, 14 unary, 15 postfix and primary
+
+abbrev pub expression_level : ℕ
+expression_level = 0
+
+abbrev pub assignment_level : ℕ
+assignment_level = 1
+
+abbrev pub conditional_level : ℕ
+conditional_level = 2
+
+abbrev pub cast_level : ℕ
+cast_level = 13
+
+abbrev pub unary_level : ℕ
+unary_level = 14
+
+abbrev pub postfix_level : ℕ
+postfix_level = 15
 
 abbrev pub level_of : BinaryOperator → ℕ
 level_of binary.Or = 3
@@ -44,47 +64,47 @@ level_of binary.Divide = 12
 level_of binary.Remainder = 12
 
 abbrev pub binary_sign : BinaryOperator → ℕ
-binary_sign binary.Or = 29
-binary_sign binary.And = 28
-binary_sign binary.BitOr = 27
-binary_sign binary.BitXor = 26
-binary_sign binary.BitAnd = 10
-binary_sign binary.Equal = 24
-binary_sign binary.NotEqual = 25
-binary_sign binary.Less = 20
-binary_sign binary.Greater = 21
-binary_sign binary.LessEqual = 22
-binary_sign binary.GreaterEqual = 23
-binary_sign binary.ShiftLeft = 18
-binary_sign binary.ShiftRight = 19
-binary_sign binary.Add = 12
-binary_sign binary.Subtract = 13
-binary_sign binary.Multiply = 11
-binary_sign binary.Divide = 16
-binary_sign binary.Remainder = 17
+binary_sign binary.Or = or_sign
+binary_sign binary.And = and_sign
+binary_sign binary.BitOr = bar
+binary_sign binary.BitXor = caret
+binary_sign binary.BitAnd = ampersand
+binary_sign binary.Equal = equal_sign
+binary_sign binary.NotEqual = not_equal_sign
+binary_sign binary.Less = less_sign
+binary_sign binary.Greater = greater_sign
+binary_sign binary.LessEqual = less_equal_sign
+binary_sign binary.GreaterEqual = greater_equal_sign
+binary_sign binary.ShiftLeft = shift_left_sign
+binary_sign binary.ShiftRight = shift_right_sign
+binary_sign binary.Add = plus_sign
+binary_sign binary.Subtract = minus_sign
+binary_sign binary.Multiply = star_sign
+binary_sign binary.Divide = slash
+binary_sign binary.Remainder = percent_sign
 
 abbrev pub assign_sign : AssignOperator → ℕ
-assign_sign assign.Plain = 34
-assign_sign assign.Multiply = 35
-assign_sign assign.Divide = 36
-assign_sign assign.Remainder = 37
-assign_sign assign.Add = 38
-assign_sign assign.Subtract = 39
-assign_sign assign.ShiftLeft = 40
-assign_sign assign.ShiftRight = 41
-assign_sign assign.BitAnd = 42
-assign_sign assign.BitXor = 43
-assign_sign assign.BitOr = 44
+assign_sign assign.Plain = equals_sign
+assign_sign assign.Multiply = star_equals
+assign_sign assign.Divide = slash_equals
+assign_sign assign.Remainder = percent_equals
+assign_sign assign.Add = plus_equals
+assign_sign assign.Subtract = minus_equals
+assign_sign assign.ShiftLeft = shift_left_equals
+assign_sign assign.ShiftRight = shift_right_equals
+assign_sign assign.BitAnd = ampersand_equals
+assign_sign assign.BitXor = caret_equals
+assign_sign assign.BitOr = bar_equals
 
 abbrev pub prefix_sign : PrefixOperator → ℕ
-prefix_sign prefix.Increment = 8
-prefix_sign prefix.Decrement = 9
-prefix_sign prefix.Address = 10
-prefix_sign prefix.Indirect = 11
-prefix_sign prefix.Plus = 12
-prefix_sign prefix.Minus = 13
-prefix_sign prefix.Complement = 14
-prefix_sign prefix.Not = 15
+prefix_sign prefix.Increment = increment_sign
+prefix_sign prefix.Decrement = decrement_sign
+prefix_sign prefix.Address = ampersand
+prefix_sign prefix.Indirect = star_sign
+prefix_sign prefix.Plus = plus_sign
+prefix_sign prefix.Minus = minus_sign
+prefix_sign prefix.Complement = tilde
+prefix_sign prefix.Not = exclamation_mark
 
 -- the level of what stands behind it
 abbrev pub operand_level : PrefixOperator → ℕ
@@ -98,35 +118,35 @@ operand_level prefix.Complement = 13
 operand_level prefix.Not = 13
 
 abbrev pub postfix_sign : PostfixOperator → ℕ
-postfix_sign postfix.Increment = 8
-postfix_sign postfix.Decrement = 9
+postfix_sign postfix.Increment = increment_sign
+postfix_sign postfix.Decrement = decrement_sign
 
 abbrev pub member_sign : MemberOperator → ℕ
-member_sign member.Dot = 6
-member_sign member.Arrow = 7
+member_sign member.Dot = dot_sign
+member_sign member.Arrow = arrow_sign
 
 abbrev pub storage_word : Storage → ℕ
-storage_word storage.Typedef = 26
-storage_word storage.Extern = 11
-storage_word storage.Static = 23
-storage_word storage.Auto = 0
-storage_word storage.Register = 18
+storage_word storage.Typedef = typedef_word
+storage_word storage.Extern = extern_word
+storage_word storage.Static = static_word
+storage_word storage.Auto = auto_word
+storage_word storage.Register = register_word
 
 abbrev pub qualifier_word : Qualifier → ℕ
-qualifier_word qualifier.Const = 4
-qualifier_word qualifier.Volatile = 30
+qualifier_word qualifier.Const = const_word
+qualifier_word qualifier.Volatile = volatile_word
 
 abbrev pub basic_word : BasicType → ℕ
-basic_word basic.Void = 29
-basic_word basic.Char = 3
-basic_word basic.Short = 20
-basic_word basic.Int = 16
-basic_word basic.Long = 17
-basic_word basic.Signed = 21
-basic_word basic.Unsigned = 28
-basic_word basic.Float = 12
-basic_word basic.Double = 8
+basic_word basic.Void = void_word
+basic_word basic.Char = char_word
+basic_word basic.Short = short_word
+basic_word basic.Int = int_word
+basic_word basic.Long = long_word
+basic_word basic.Signed = signed_word
+basic_word basic.Unsigned = unsigned_word
+basic_word basic.Float = float_word
+basic_word basic.Double = double_word
 
 abbrev pub record_word : RecordKind → ℕ
-record_word record_kind.Struct = 24
-record_word record_kind.Union = 27
+record_word record_kind.Struct = struct_word
+record_word record_kind.Union = union_word

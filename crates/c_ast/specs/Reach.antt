@@ -10,10 +10,11 @@ use Rattle.c_ast.specs.declared.operator.PostfixOperator.TheVariants as postfix
 use Rattle.c_ast.specs.declared.operator.MemberOperator.{MemberOperator}
 use Rattle.c_ast.specs.declared.operator.MemberOperator.TheVariants as member
 use Rattle.c_ast.specs.Lexemes.{Lexeme, Name, Keyword, Integer, Character, Text, Sign}
-use Rattle.c_ast.specs.Operators.{level_of, operand_level, binary_sign, assign_sign, postfix_sign, member_sign}
+use Rattle.c_ast.specs.Operators.{level_of, operand_level, binary_sign, assign_sign, postfix_sign, member_sign, assignment_level, conditional_level, cast_level, unary_level, postfix_level}
 use Rattle.c_ast.specs.Trees.{ExprTree, Variable, IntegerConstant, CharacterConstant, Literal, Enclosed, Subscript, Called, Selected, Stepped, Prefixed, SizedExpr, SizedType, Converted, Combined, Chosen, Assigned, Sequence, ExprTrees, NoExprs, Exprs}
 use Rattle.c_ast.specs.Levels.{rank}
 use Rattle.c_ast.specs.Marks.{Mark, next, is_sign}
+use Rattle.c_ast.specs.Signs.{open_bracket, open_parenthesis, dot_sign, arrow_sign, increment_sign, decrement_sign, ampersand, star_sign, plus_sign, minus_sign, slash, percent_sign, shift_left_sign, shift_right_sign, less_sign, greater_sign, less_equal_sign, greater_equal_sign, equal_sign, not_equal_sign, caret, bar, and_sign, or_sign, question_mark, equals_sign, star_equals, slash_equals, percent_equals, plus_equals, minus_equals, shift_left_equals, shift_right_equals, ampersand_equals, caret_equals, bar_equals, comma_sign}
 
 -- what a token makes of the expression before it
 pub data LinkKind : Type 0 where
@@ -26,52 +27,52 @@ pub data LinkKind : Type 0 where
   Assign : (op : AssignOperator) → LinkKind
 
 abbrev pub sign_of_link : LinkKind → ℕ
-sign_of_link Index = 0
-sign_of_link Call = 2
+sign_of_link Index = open_bracket
+sign_of_link Call = open_parenthesis
 sign_of_link (Select op) = member_sign op
 sign_of_link (Step op) = postfix_sign op
 sign_of_link (Operate op) = binary_sign op
-sign_of_link Question = 30
+sign_of_link Question = question_mark
 sign_of_link (Assign op) = assign_sign op
 
 abbrev pub link_of_sign : ℕ → Option LinkKind
 link_of_sign k =
-    if k == 0 then Some Index
-    else (if k == 2 then Some Call
-    else (if k == 6 then Some (Select member.Dot)
-    else (if k == 7 then Some (Select member.Arrow)
-    else (if k == 8 then Some (Step postfix.Increment)
-    else (if k == 9 then Some (Step postfix.Decrement)
-    else (if k == 10 then Some (Operate binary.BitAnd)
-    else (if k == 11 then Some (Operate binary.Multiply)
-    else (if k == 12 then Some (Operate binary.Add)
-    else (if k == 13 then Some (Operate binary.Subtract)
-    else (if k == 16 then Some (Operate binary.Divide)
-    else (if k == 17 then Some (Operate binary.Remainder)
-    else (if k == 18 then Some (Operate binary.ShiftLeft)
-    else (if k == 19 then Some (Operate binary.ShiftRight)
-    else (if k == 20 then Some (Operate binary.Less)
-    else (if k == 21 then Some (Operate binary.Greater)
-    else (if k == 22 then Some (Operate binary.LessEqual)
-    else (if k == 23 then Some (Operate binary.GreaterEqual)
-    else (if k == 24 then Some (Operate binary.Equal)
-    else (if k == 25 then Some (Operate binary.NotEqual)
-    else (if k == 26 then Some (Operate binary.BitXor)
-    else (if k == 27 then Some (Operate binary.BitOr)
-    else (if k == 28 then Some (Operate binary.And)
-    else (if k == 29 then Some (Operate binary.Or)
-    else (if k == 30 then Some Question
-    else (if k == 34 then Some (Assign assign.Plain)
-    else (if k == 35 then Some (Assign assign.Multiply)
-    else (if k == 36 then Some (Assign assign.Divide)
-    else (if k == 37 then Some (Assign assign.Remainder)
-    else (if k == 38 then Some (Assign assign.Add)
-    else (if k == 39 then Some (Assign assign.Subtract)
-    else (if k == 40 then Some (Assign assign.ShiftLeft)
-    else (if k == 41 then Some (Assign assign.ShiftRight)
-    else (if k == 42 then Some (Assign assign.BitAnd)
-    else (if k == 43 then Some (Assign assign.BitXor)
-    else (if k == 44 then Some (Assign assign.BitOr) else None)))))))))))))))))))))))))))))))))))
+    if k == open_bracket then Some Index
+    else (if k == open_parenthesis then Some Call
+    else (if k == dot_sign then Some (Select member.Dot)
+    else (if k == arrow_sign then Some (Select member.Arrow)
+    else (if k == increment_sign then Some (Step postfix.Increment)
+    else (if k == decrement_sign then Some (Step postfix.Decrement)
+    else (if k == ampersand then Some (Operate binary.BitAnd)
+    else (if k == star_sign then Some (Operate binary.Multiply)
+    else (if k == plus_sign then Some (Operate binary.Add)
+    else (if k == minus_sign then Some (Operate binary.Subtract)
+    else (if k == slash then Some (Operate binary.Divide)
+    else (if k == percent_sign then Some (Operate binary.Remainder)
+    else (if k == shift_left_sign then Some (Operate binary.ShiftLeft)
+    else (if k == shift_right_sign then Some (Operate binary.ShiftRight)
+    else (if k == less_sign then Some (Operate binary.Less)
+    else (if k == greater_sign then Some (Operate binary.Greater)
+    else (if k == less_equal_sign then Some (Operate binary.LessEqual)
+    else (if k == greater_equal_sign then Some (Operate binary.GreaterEqual)
+    else (if k == equal_sign then Some (Operate binary.Equal)
+    else (if k == not_equal_sign then Some (Operate binary.NotEqual)
+    else (if k == caret then Some (Operate binary.BitXor)
+    else (if k == bar then Some (Operate binary.BitOr)
+    else (if k == and_sign then Some (Operate binary.And)
+    else (if k == or_sign then Some (Operate binary.Or)
+    else (if k == question_mark then Some Question
+    else (if k == equals_sign then Some (Assign assign.Plain)
+    else (if k == star_equals then Some (Assign assign.Multiply)
+    else (if k == slash_equals then Some (Assign assign.Divide)
+    else (if k == percent_equals then Some (Assign assign.Remainder)
+    else (if k == plus_equals then Some (Assign assign.Add)
+    else (if k == minus_equals then Some (Assign assign.Subtract)
+    else (if k == shift_left_equals then Some (Assign assign.ShiftLeft)
+    else (if k == shift_right_equals then Some (Assign assign.ShiftRight)
+    else (if k == ampersand_equals then Some (Assign assign.BitAnd)
+    else (if k == caret_equals then Some (Assign assign.BitXor)
+    else (if k == bar_equals then Some (Assign assign.BitOr) else None)))))))))))))))))))))))))))))))))))
 
 abbrev pub link_of : Lexeme → Option LinkKind
 link_of (Sign k) = link_of_sign k
@@ -83,23 +84,23 @@ link_of (Text b) = None
 
 -- the rank that it needs before it
 abbrev pub needed : LinkKind → ℕ
-needed Index = 15
-needed Call = 15
-needed (Select op) = 15
-needed (Step op) = 15
+needed Index = postfix_level
+needed Call = postfix_level
+needed (Select op) = postfix_level
+needed (Step op) = postfix_level
 needed (Operate op) = level_of op
 needed Question = 3
-needed (Assign op) = 14
+needed (Assign op) = unary_level
 
 -- the rank of what it makes
 abbrev pub made : LinkKind → ℕ
-made Index = 15
-made Call = 15
-made (Select op) = 15
-made (Step op) = 15
+made Index = postfix_level
+made Call = postfix_level
+made (Select op) = postfix_level
+made (Step op) = postfix_level
 made (Operate op) = level_of op
-made Question = 2
-made (Assign op) = 1
+made Question = conditional_level
+made (Assign op) = assignment_level
 
 abbrev pub links : ℕ → ℕ → Option LinkKind → Bool
 links level rank None = false
@@ -122,18 +123,18 @@ abbrev mutual
   behind (Selected l op a n) t = false
   behind (Stepped l op a) t = false
   behind (Prefixed l op a) t = extends (operand_level op) (rank a) t || behind a t
-  behind (SizedExpr l a) t = extends 14 (rank a) t || behind a t
+  behind (SizedExpr l a) t = extends unary_level (rank a) t || behind a t
   behind (SizedType l n) t = false
-  behind (Converted l n a) t = extends 13 (rank a) t || behind a t
+  behind (Converted l n a) t = extends cast_level (rank a) t || behind a t
   behind (Combined l op a b) t = extends (level_of op + 1) (rank b) t || behind b t
-  behind (Chosen l a b c) t = extends 2 (rank c) t || behind c t
-  behind (Assigned l op a b) t = extends 1 (rank b) t || behind b t
+  behind (Chosen l a b c) t = extends conditional_level (rank c) t || behind c t
+  behind (Assigned l op a b) t = extends assignment_level (rank b) t || behind b t
   behind (Sequence l es) t = behind_last es t false
 
   -- the last one's, where there is one
   pub behind_last : ExprTrees → Lexeme → Bool → Bool
   behind_last NoExprs t other = other
-  behind_last (Exprs e es) t other = behind_last es t (extends 1 (rank e) t || behind e t)
+  behind_last (Exprs e es) t other = behind_last es t (extends assignment_level (rank e) t || behind e t)
 
 -- the token goes on from the expression, which is of the level, 1 or more
 abbrev pub goes_on : ℕ → ExprTree → Lexeme → Bool
@@ -141,7 +142,7 @@ goes_on level e t = extends level (rank e) t || behind e t
 
 -- the same of an expression of level 0, from which a comma goes on
 abbrev pub goes_on_whole : ExprTree → Lexeme → Bool
-goes_on_whole e t = is_sign 45 t || goes_on 1 e t
+goes_on_whole e t = is_sign comma_sign t || goes_on assignment_level e t
 
 -- what is next doesn't go on from the expression
 abbrev pub Stops : ℕ → ExprTree → List Mark → Type 0

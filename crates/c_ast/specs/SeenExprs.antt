@@ -35,11 +35,11 @@ pub form_index : (a : _) (i : _) (line : ℕ) → expr_form_seen (expr_form.Inde
 unfolding expr_seen expr_form_seen type_name_seen
 form_index a i line = ap (λ (g : ℕ → ExprTree). g line) (is_index a i)
 
-pub form_call : (f : _) (es : _) (line : ℕ) → expr_form_seen (expr_form.Call f es) line ≡ Called line (expr_seen f.value) (exprs_of (map expr_seen es))
+pub form_call : (f : _) (es : _) (line : ℕ) → expr_form_seen (expr_form.Call f es) line ≡ Called line (expr_seen f.value) (exprs_of (map expr_seen es.value))
 unfolding expr_seen expr_form_seen type_name_seen
 form_call f es line = ap (λ (g : ℕ → ExprTree). g line) (is_call f es)
 
-pub form_selected : (op : _) (a : _) (n : _) (line : ℕ) → expr_form_seen (expr_form.Member op a n) line ≡ Selected line op (expr_seen a.value) n
+pub form_selected : (op : _) (a : _) (n : _) (line : ℕ) → expr_form_seen (expr_form.Member op a n) line ≡ Selected line op (expr_seen a.value) n.value
 unfolding expr_seen expr_form_seen type_name_seen
 form_selected op a n line = ap (λ (g : ℕ → ExprTree). g line) (is_selected op a n)
 

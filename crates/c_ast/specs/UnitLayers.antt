@@ -37,13 +37,13 @@ is_default s = ap statement_form_of (sym (statement_form.rolls-Default s)) ∙ f
 pub is_expression : (e : _) → statement_form_of (statement_form.Expression e) ≡ λ line. Evaluate line (maybe_of e)
 is_expression e = ap statement_form_of (sym (statement_form.rolls-Expression e)) ∙ fold-roll-StatementForm (ℕ → StatementTree) BlockTree StatementTree statement_form_layer block_layer statement_layer (StatementForm-F.Expression e)
 
-pub is_block : (b : _) → statement_form_of (statement_form.Block b) ≡ λ line. Compound line (block_of b)
+pub is_block : (b : _) → statement_form_of (statement_form.Block b) ≡ λ line. Compound line (block_of b.value)
 is_block b = ap statement_form_of (sym (statement_form.rolls-Block b)) ∙ fold-roll-StatementForm (ℕ → StatementTree) BlockTree StatementTree statement_form_layer block_layer statement_layer (StatementForm-F.Block b)
 
-pub is_if : (e : _) (s : _) → statement_form_of (statement_form.If e s None) ≡ λ line. If line (expr_of e) (statement_of s.value)
+pub is_if : (e : _) (s : _) → statement_form_of (statement_form.If e s None) ≡ λ line. If line (expr_of e.value) (statement_of s.value)
 is_if e s = ap statement_form_of (sym (statement_form.rolls-If e s None)) ∙ fold-roll-StatementForm (ℕ → StatementTree) BlockTree StatementTree statement_form_layer block_layer statement_layer (StatementForm-F.If e s None)
 
-pub is_if_else : (e : _) (s : _) (t : _) → statement_form_of (statement_form.If e s (Some t)) ≡ λ line. IfElse line (expr_of e) (statement_of s.value) (statement_of t.value)
+pub is_if_else : (e : _) (s : _) (t : _) → statement_form_of (statement_form.If e s (Some t)) ≡ λ line. IfElse line (expr_of e.value) (statement_of s.value) (statement_of t.value)
 is_if_else e s t = ap statement_form_of (sym (statement_form.rolls-If e s (Some t))) ∙ fold-roll-StatementForm (ℕ → StatementTree) BlockTree StatementTree statement_form_layer block_layer statement_layer (StatementForm-F.If e s (Some t))
 
 pub is_switch : (e : _) (s : _) → statement_form_of (statement_form.Switch e s) ≡ λ line. Switch line (expr_of e) (statement_of s.value)

@@ -11,6 +11,8 @@ use Rattle.c_ast.specs.declared.unit.FunctionDefinition.{FunctionDefinition}
 use Rattle.c_ast.specs.UnitViews.{initialiser_of, init_of, declaration_of, statement_of, block_of, external_of}
 use Rattle.c_ast.specs.ValueTexts.{shown_if_any, specifiers_shown, declarator_shown}
 use Rattle.c_ast.specs.TreeTexts.{initialiser_text, init_text, declaration_text, statement_text, block_text, external_text, sign_text, word_text}
+use Rattle.c_ast.specs.Signs.{equals_sign}
+use Rattle.c_ast.specs.Keywords.{else_word}
 
 unfoldable pub initialiser_shown : Initialiser → List ℕ
 initialiser_shown v = initialiser_text (initialiser_of v)
@@ -37,8 +39,8 @@ external_shown v = external_text (external_of v)
 -- what may be left out, with the token before it
 abbrev pub shown_initialiser : Option (Box Initialiser) → List ℕ
 shown_initialiser None = []
-shown_initialiser (Some i) = sign_text 34 ++ initialiser_shown i.value
+shown_initialiser (Some i) = sign_text equals_sign ++ initialiser_shown i.value
 
 abbrev pub shown_else : Option (Box Statement) → List ℕ
 shown_else None = []
-shown_else (Some s) = word_text 9 ++ statement_shown s.value
+shown_else (Some s) = word_text else_word ++ statement_shown s.value

@@ -31,9 +31,9 @@ pub enum ExprForm {
     /// `a[i]`
     Index(Box<Expr>, Box<Expr>),
     /// `f(a, b)`
-    Call(Box<Expr>, Items<Expr>),
+    Call(Box<Expr>, Box<Items<Expr>>),
     /// `a.m` or `a->m`
-    Member(MemberOperator, Box<Expr>, Bytes),
+    Member(MemberOperator, Box<Expr>, Box<Bytes>),
     /// `a++` or `a--`
     Postfix(PostfixOperator, Box<Expr>),
     /// An operator before an operand.

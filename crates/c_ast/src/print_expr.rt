@@ -2,6 +2,7 @@
 ghost use Rattle.std.specs.Prelude.{◌≡◌, ◌<◌, ◌++◌, flat_map, OnOk};
 ghost use Rattle.c_ast.specs.TreeTexts.{listed, sign_text, name_text, literal_text, pointer_text, tag_text, end_text, dots_text};
 ghost use Rattle.c_ast.specs.ValueTexts.{shown_if_any, shown_behind, core_shown, expr_shown, type_name_shown, specifiers_shown, specifier_shown, member_shown, field_shown, enumerator_shown, declarator_shown, suffix_shown, parameter_shown};
+ghost use Rattle.c_ast.specs.Signs.{open_parenthesis, close_parenthesis};
 
 use crate::expr::{
     Declarator, DeclaratorCore, Enumerator, Expr, ExprForm, Member, MemberDeclarator, Parameter,
@@ -148,7 +149,7 @@ fn push_texts(out: &mut Bytes, texts: &[Bytes]) -> Result<(), Memory>
 #[cycle(print)]
 #[tactic(auto, using(std::proofs::lemmas::Grind::common_steps, crate::proofs::ShownValues::type_name_parts))]
 fn push_enclosed_type(out: &mut Bytes, name: &TypeName) -> Result<(), Memory>
-    ensures { OnOk result (out.new ≡ out.old ++ (sign_text 2 ++ type_name_shown name.now ++ sign_text 3)) }
+    ensures { OnOk result (out.new ≡ out.old ++ (sign_text open_parenthesis ++ type_name_shown name.now ++ sign_text close_parenthesis)) }
 {
     push_sign(out, sign::OPEN)?;
     push_specifiers(out, &name.specifiers)?;

@@ -5,6 +5,8 @@ ghost use Rattle.c_ast.specs.TreeTexts.{listed, name_text, sign_text, word_text}
 ghost use Rattle.c_ast.specs.ValueTexts.{shown_if_any, expr_shown, specifiers_shown};
 ghost use Rattle.c_ast.specs.UnitValueTexts.{initialiser_shown, shown_initialiser, init_shown, declaration_shown, statement_shown, shown_else, block_shown, function_shown, external_shown};
 ghost use Rattle.c_ast.specs.UnitViews.{unit_of};
+ghost use Rattle.c_ast.specs.Signs.{open_parenthesis, close_parenthesis, semicolon};
+ghost use Rattle.c_ast.specs.Keywords.{for_word, goto_word, return_word};
 
 use crate::expr::{Expr, Specifiers};
 use crate::print_expr::{push_declarator, push_end, push_expr, push_maybe, push_specifiers};
@@ -113,7 +115,7 @@ fn push_declarations(out: &mut Bytes, declarations: &[Declaration]) -> Result<()
 /// Adds a keyword, and an expression in parentheses.
 fn push_test(out: &mut Bytes, word: u8, e: &Expr) -> Result<(), Memory>
     requires { word < 32 }
-    ensures { OnOk result (out.new ≡ out.old ++ (word_text word ++ sign_text 2 ++ expr_shown e.now ++ sign_text 3)) }
+    ensures { OnOk result (out.new ≡ out.old ++ (word_text word ++ sign_text open_parenthesis ++ expr_shown e.now ++ sign_text close_parenthesis)) }
 {
     push_keyword(out, word)?;
     push_sign(out, sign::OPEN)?;
@@ -123,7 +125,7 @@ fn push_test(out: &mut Bytes, word: u8, e: &Expr) -> Result<(), Memory>
 
 /// Adds `goto`, a label and a semicolon.
 fn push_goto(out: &mut Bytes, label: &Bytes) -> Result<(), Memory>
-    ensures { OnOk result (out.new ≡ out.old ++ (word_text 14 ++ name_text label.now ++ sign_text 32)) }
+    ensures { OnOk result (out.new ≡ out.old ++ (word_text goto_word ++ name_text label.now ++ sign_text semicolon)) }
 {
     push_keyword(out, keyword::GOTO)?;
     push_name(out, label)?;
@@ -133,7 +135,7 @@ fn push_goto(out: &mut Bytes, label: &Bytes) -> Result<(), Memory>
 /// Adds a keyword and a semicolon.
 fn push_alone(out: &mut Bytes, word: u8) -> Result<(), Memory>
     requires { word < 32 }
-    ensures { OnOk result (out.new ≡ out.old ++ (word_text word ++ sign_text 32)) }
+    ensures { OnOk result (out.new ≡ out.old ++ (word_text word ++ sign_text semicolon)) }
 {
     push_keyword(out, word)?;
     push_sign(out, sign::SEMICOLON)
@@ -141,7 +143,7 @@ fn push_alone(out: &mut Bytes, word: u8) -> Result<(), Memory>
 
 /// Adds `return`, an expression if there is one, and a semicolon.
 fn push_return(out: &mut Bytes, e: &Option<Expr>) -> Result<(), Memory>
-    ensures { OnOk result (out.new ≡ out.old ++ (word_text 19 ++ shown_if_any expr_shown e.now ++ sign_text 32)) }
+    ensures { OnOk result (out.new ≡ out.old ++ (word_text return_word ++ shown_if_any expr_shown e.now ++ sign_text semicolon)) }
 {
     push_keyword(out, keyword::RETURN)?;
     push_maybe(out, e)?;
@@ -222,7 +224,7 @@ fn push_else(out: &mut Bytes, otherwise: &Option<Box<Statement>>) -> Result<(), 
 
 /// Adds `for` and its three expressions in parentheses.
 fn push_for(out: &mut Bytes, head: &ForHead) -> Result<(), Memory>
-    ensures { OnOk result (out.new ≡ out.old ++ (word_text 13 ++ sign_text 2 ++ shown_if_any expr_shown head.now.first ++ sign_text 32 ++ shown_if_any expr_shown head.now.test ++ sign_text 32 ++ shown_if_any expr_shown head.now.last ++ sign_text 3)) }
+    ensures { OnOk result (out.new ≡ out.old ++ (word_text for_word ++ sign_text open_parenthesis ++ shown_if_any expr_shown head.now.first ++ sign_text semicolon ++ shown_if_any expr_shown head.now.test ++ sign_text semicolon ++ shown_if_any expr_shown head.now.last ++ sign_text close_parenthesis)) }
 {
     push_keyword(out, keyword::FOR)?;
     push_sign(out, sign::OPEN)?;

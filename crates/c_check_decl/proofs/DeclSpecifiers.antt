@@ -26,7 +26,7 @@ use Rattle.c_check_expr.specs.Known.{state_of}
 use Rattle.c_check_expr.specs.Kept.{keeps_itself}
 use Rattle.c_check_expr.specs.PartsSeen.{specified_seen}
 use Rattle.c_check_expr.specs.TypedIn.{specifiers_in}
-use Rattle.c_check_expr.specs.Walking.{first_stops, walk_as, walk_then}
+use Rattle.c_check_expr.proofs.lemmas.Walking.{first_stops, walk_as, walk_then}
 use Rattle.c_check_expr.specs.Walks.{IsSpecifiedIn, Walks}
 use Rattle.c_check_decl.specs.DeclaredIn.{inside_in, own_specifiers_in}
 use Rattle.c_check_decl.specs.LoneTags.{is_lone_tag}

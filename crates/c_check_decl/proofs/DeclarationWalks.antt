@@ -28,7 +28,7 @@ use Rattle.c_check_expr.specs.Kept.{keeps_itself}
 use Rattle.c_check_expr.specs.Known.{AreSymbolsIn, state_of}
 use Rattle.c_check_expr.specs.PartsSeen.{specified_seen}
 use Rattle.c_check_expr.specs.Told.{breaks, passes, relates}
-use Rattle.c_check_expr.specs.Walking.{both_go, first_stops, second_stops, walk_as}
+use Rattle.c_check_expr.proofs.lemmas.Walking.{both_go, first_stops, second_stops, walk_as}
 use Rattle.c_check_expr.specs.Walks.{IsSpecifiedIn, Walks}
 use Rattle.c_check_decl.specs.declared.declares.Declares.{Declares}
 use Rattle.c_check_decl.specs.Declares.{AreDeclaredIn, declares_in}

@@ -16,8 +16,8 @@ use Rattle.c_check_expr.specs.declared.parts.Specified.{Specified}
 use Rattle.c_check_expr.specs.Keeps.{Keeps}
 use Rattle.c_check_expr.specs.Known.{AreSymbolsIn, state_of}
 use Rattle.c_check_expr.specs.PartsSeen.{specified_seen}
-use Rattle.c_check_expr.specs.Walking.{passed, walk_stop}
-use Rattle.c_check_expr.specs.WalkLists.{Going, folded, going_ends, going_on, going_starts, going_stops, then_fine, then_same, then_then}
+use Rattle.c_check_expr.proofs.lemmas.Walking.{passed, walk_stop}
+use Rattle.c_check_expr.proofs.lemmas.WalkLists.{Going, folded, going_ends, going_on, going_starts, going_stops, then_fine, then_same, then_then}
 use Rattle.c_check_expr.specs.Walks.{Walks}
 use Rattle.c_check_decl.specs.declared.declares.Declares.{Declares}
 use Rattle.c_check_decl.specs.Declares.{AreDeclaredIn, declares_in}

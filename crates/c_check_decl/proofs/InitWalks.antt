@@ -18,7 +18,7 @@ use Rattle.c_meaning.specs.TypeRows.{Specified}
 use Rattle.c_meaning.specs.Typing.{Outcome, then_do}
 use Rattle.c_values.specs.declared.check_fault.CheckFault.{CheckFault}
 use Rattle.c_check_expr.specs.Known.{state_of}
-use Rattle.c_check_expr.specs.Walking.{first_stops, walk_as, walk_then}
+use Rattle.c_check_expr.proofs.lemmas.Walking.{first_stops, walk_as, walk_then}
 use Rattle.c_check_expr.specs.Walks.{Walks}
 use Rattle.c_initialisers.specs.declared.filled.Filled.{Filled}
 use Rattle.c_initialisers.specs.declared.public.Initialised.{Initialised}

@@ -21,7 +21,7 @@ use Rattle.c_check_expr.specs.Keeps.{Keeps}
 use Rattle.c_check_expr.specs.Kept.{keeps_itself}
 use Rattle.c_check_expr.specs.Known.{AreSymbolsIn, state_of}
 use Rattle.c_check_expr.specs.PartsSeen.{specified_seen}
-use Rattle.c_check_expr.specs.Walking.{first_stops, walk_as, walk_grown, walk_then}
+use Rattle.c_check_expr.proofs.lemmas.Walking.{first_stops, walk_as, walk_grown, walk_then}
 use Rattle.c_check_expr.specs.Walks.{IsBelow, IsSpecifiedIn, Walks}
 use Rattle.c_check_decl.specs.LoneTags.{lone_tag_in}
 use Rattle.c_check_decl.proofs.LoneTagNodes.{alone_known, alone_new, alone_other, lone_tag_is}

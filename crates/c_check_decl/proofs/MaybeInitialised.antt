@@ -21,7 +21,7 @@ use Rattle.c_values.specs.declared.check_fault.CheckFault.TheVariants.{Constrain
 use Rattle.c_check_expr.specs.AtNode.{Tells}
 use Rattle.c_check_expr.specs.Keeps.{Keeps}
 use Rattle.c_check_expr.specs.Known.{AreSymbolsIn, state_of}
-use Rattle.c_check_expr.specs.Walking.{first_stops, walk_as, walk_none, walk_then}
+use Rattle.c_check_expr.proofs.lemmas.Walking.{first_stops, walk_as, walk_none, walk_then}
 use Rattle.c_check_expr.specs.Walks.{Walks}
 use Rattle.c_initialisers.specs.declared.filled.Filled.{Filled}
 use Rattle.c_initialisers.specs.Objects.{IsFilledIn, filled_in}

@@ -28,7 +28,7 @@ use Rattle.c_check_expr.specs.Kept.{below_later, keeps_grown, keeps_itself, keep
 use Rattle.c_check_expr.specs.PartsSeen.{declared_seen, shaped_seen, specified_seen}
 use Rattle.c_check_expr.specs.SymbolsStay.{state_stays}
 use Rattle.c_check_expr.specs.TypedIn.{declarator_in}
-use Rattle.c_check_expr.specs.Walking.{first_stops, passed, walk_as, walk_then}
+use Rattle.c_check_expr.proofs.lemmas.Walking.{first_stops, passed, walk_as, walk_then}
 use Rattle.c_check_expr.specs.Walks.{IsDeclaredIn, Walks}
 use Rattle.c_check_decl.specs.declared.naming.Naming.{Naming}
 use Rattle.c_check_decl.specs.DeclaredIn.{name_in, named_at}

@@ -8,7 +8,7 @@ use Rattle.c_types.specs.Table.{Table, type_at, types}
 use Rattle.c_meaning.specs.Linkage.{Linkage, linked_by, linked_class}
 use Rattle.c_meaning.specs.State.{link_or_next}
 use Rattle.c_check_expr.specs.Known.{state_of}
-use Rattle.c_check_expr.specs.KnownSymbols.{length-all_known, state-link}
+use Rattle.c_check_expr.proofs.lemmas.KnownSymbols.{length-all_known, state-link}
 
 -- the symbol of all declarations of a name
 abbrev pub linked_symbol : Storage → ℕ → ℕ → Symbol

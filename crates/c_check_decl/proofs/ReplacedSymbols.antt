@@ -12,7 +12,7 @@ use Rattle.c_meaning.specs.State.{Known, State, place_of, replaced}
 use Rattle.c_check_expr.specs.Keeps.{Keeps}
 use Rattle.c_check_expr.specs.Kept.{keeps_later, keeps_on}
 use Rattle.c_check_expr.specs.Known.{AreSymbolsIn, known_of, state_of}
-use Rattle.c_check_expr.specs.KnownSymbols.{known_there, state-replace, symbols_in-set}
+use Rattle.c_check_expr.proofs.lemmas.KnownSymbols.{known_there, state-replace, symbols_in-set}
 use Rattle.c_check_expr.specs.SymbolsStay.{state_stays}
 use Rattle.c_values.specs.Stays.{extends_itself}
 

@@ -25,7 +25,7 @@ use Rattle.c_check_expr.specs.Calling.{call_broken}
 use Rattle.c_check_expr.specs.SomeDeep.{AreTooDeep}
 use Rattle.c_check_expr.proofs.ChangeNodes.{broken_by}
 use Rattle.c_check_expr.proofs.NodeLimits.{AreShallow, AreSmall, IsShallow, IsSmall, basic_small, depth_passed, node_fine, node_passed, none_passed, unqualified_shallow, unqualified_small, value_small, within_shallow, within_small}
-use Rattle.c_values.specs.ManyValues.{count_seen, count_values}
+use Rattle.c_values.proofs.lemmas.ManyValues.{count_seen, count_values}
 use Rattle.c_values.specs.Stays.{all_stay, type_in_table, type_seen}
 
 -- ---- the types of several expressions

@@ -16,7 +16,7 @@ use Rattle.c_meaning.specs.Rows.{row}
 use Rattle.c_meaning.specs.State.{State}
 use Rattle.c_meaning.specs.Types.{pointer_to}
 use Rattle.c_meaning.specs.Typing.{Fine, Bad, at_expr}
-use Rattle.c_values.specs.Qualified.{extent_qualify}
+use Rattle.c_values.proofs.lemmas.Qualified.{extent_qualify}
 use Rattle.c_meaning.specs.Values.{CoreTree, is_lvalue, is_place, value_by, value_type}
 
 -- ---- types that pass no limit on sizes and nesting, and none on depth

@@ -14,7 +14,7 @@ use Rattle.c_check_expr.specs.Known.{state_of}
 use Rattle.c_check_expr.specs.PartsSeen.{shaped_seen, specified_seen}
 use Rattle.c_check_expr.specs.TypedIn.{declared_in, shape_in, specifiers_in}
 use Rattle.c_check_expr.specs.Walks.{IsBelow, IsShapeIn, IsSpecifiedIn, Walks}
-use Rattle.c_check_expr.specs.Walking.{both_go, first_stops, second_stops, walk_none}
+use Rattle.c_check_expr.proofs.lemmas.Walking.{both_go, first_stops, second_stops, walk_none}
 
 -- ---- declared types
 

@@ -21,7 +21,7 @@ use Rattle.c_values.specs.declared.check_fault.CheckFault.TheVariants.{Constrain
 use Rattle.c_values.specs.declared.value_type.QualifiedType.{QualifiedType}
 use Rattle.c_values.specs.Valued.{qualified_in}
 use Rattle.c_check_expr.proofs.NodeLimits.{AreSmall, IsShallow, IsSmall, depth_passed, depth_qualify, node_passed, within_shallow, within_small}
-use Rattle.c_values.specs.Qualified.{extent_qualify}
+use Rattle.c_values.proofs.lemmas.Qualified.{extent_qualify}
 
 -- what the table says of its types
 abbrev pub AreLimited : Table → Type 0

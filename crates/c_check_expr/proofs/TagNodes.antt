@@ -14,7 +14,7 @@ use Rattle.c_meaning.specs.TypeRows.{enumerated, enumeration_type, named, record
 use Rattle.c_meaning.specs.Typing.{Bad, Fine, Outcome, at_tag}
 use Rattle.c_check_expr.specs.Known.{all_known}
 use Rattle.c_check_expr.specs.Listed.{is_listed}
-use Rattle.c_check_expr.specs.KnownSymbols.{known_nowhere}
+use Rattle.c_check_expr.proofs.lemmas.KnownSymbols.{known_nowhere}
 use Rattle.c_check_expr.proofs.TypeNodes.{node_breaks, node_fine}
 
 -- a name that no scope has isn't in the innermost

@@ -8,7 +8,7 @@ use Rattle.c_types.specs.Layout.{Tag}
 use Rattle.c_types.specs.Table.{Adds, Completed, Extends, Table, is_tagged, tag_of, tagged, tags, tags_of}
 use Rattle.c_meaning.specs.State.{counted}
 use Rattle.c_check_expr.specs.Known.{AreSymbolsIn, state_of}
-use Rattle.c_check_expr.specs.KnownSymbols.{tagged-append}
+use Rattle.c_check_expr.proofs.lemmas.KnownSymbols.{tagged-append}
 use Rattle.c_check_expr.specs.SymbolsStay.{symbols_stay}
 
 length-tags_of : (t : Table) (cs : List Completed) → length (tags_of t cs) ≡ length cs

@@ -42,7 +42,7 @@ use Rattle.c_check_expr.specs.Walks.{IsDeclaredIn, IsParameterIn, IsShapeIn, IsS
 use Rattle.c_values.specs.Stays.{extends_itself}
 use Rattle.c_check_expr.specs.Kept.{keeps_grown}
 use Rattle.c_check_expr.proofs.WalkStays.{steps_append, steps_in_append, steps_later, steps_stay}
-use Rattle.c_check_expr.specs.Walking.{both_go, first_stops, second_stops, walk_none, walk_then}
+use Rattle.c_check_expr.proofs.lemmas.Walking.{both_go, first_stops, second_stops, walk_none, walk_then}
 
 -- ---- declarators
 

@@ -22,9 +22,9 @@ use Rattle.c_check_expr.specs.Known.{AreSymbolsIn, state_of}
 use Rattle.c_check_expr.specs.TypedIn.{callee_in, expr_in, exprs_in, name_in, pair_in}
 use Rattle.c_check_expr.specs.Walks.{AreCoresIn, IsBelow, IsPairIn, Walks, core, cores, pair}
 use Rattle.c_values.specs.Stays.{in_later, seen_stays}
-use Rattle.c_check_expr.specs.WalkLists.{then_same, then_then}
+use Rattle.c_check_expr.proofs.lemmas.WalkLists.{then_same, then_then}
 use Rattle.c_check_expr.specs.Kept.{keeps_itself}
-use Rattle.c_check_expr.specs.Walking.{both_go, first_stops, second_stops, walk_as, walk_node, walk_none, walk_then}
+use Rattle.c_check_expr.proofs.lemmas.Walking.{both_go, first_stops, second_stops, walk_as, walk_node, walk_none, walk_then}
 
 -- what a node's function ensures of it
 pub record IsNodeOf (a b : Table) (line : ℕ) (n : ExprNode) (r : Result (CoreOf ℕ) CheckFault) : Type 0 where

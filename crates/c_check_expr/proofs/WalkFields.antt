@@ -33,9 +33,9 @@ use Rattle.c_check_expr.specs.PartsSeen.{AreParametersIn, IsSizeIn, IsStepIn, pa
 use Rattle.c_check_expr.specs.TypedIn.{enumerator_in, field_in, maybe_expr_in, parameters_in, shape_in, suffix_in}
 use Rattle.c_check_expr.specs.Walks.{IsAnyNumber, IsShapeIn, Walks, members, next_number, numbered, with_field}
 use Rattle.c_values.specs.Stays.{extends_itself}
-use Rattle.c_check_expr.specs.WalkLists.{then_same, then_then}
+use Rattle.c_check_expr.proofs.lemmas.WalkLists.{then_same, then_then}
 use Rattle.c_check_expr.proofs.WalkStays.{members_later, members_stay}
-use Rattle.c_check_expr.specs.Walking.{both_go, first_stops, passed, second_stops, tells_first, walk_as, walk_then}
+use Rattle.c_check_expr.proofs.lemmas.Walking.{both_go, first_stops, passed, second_stops, tells_first, walk_as, walk_then}
 
 -- ---- members
 

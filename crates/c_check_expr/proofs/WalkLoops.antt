@@ -25,10 +25,10 @@ use Rattle.c_check_expr.specs.Known.{AreSymbolsIn, state_of}
 use Rattle.c_check_expr.specs.PartsSeen.{AreParametersIn, ArePartsIn, AreStepsIn, IsPartIn, IsStepIn, parameter_seen, parameters_seen, part_seen, parts_seen, step_seen, steps_seen}
 use Rattle.c_check_expr.specs.TypedIn.{enumerator_in, enumerators_in, expr_in, exprs_in, field_in, fields_in, member_in, members_in, parameter_in, parameters_in, part_in, parts_in, suffix_in, suffixes_in}
 use Rattle.c_check_expr.specs.Walks.{AreCoresIn, IsAnyNumber, IsParameterIn, Walks, core, cores, members, next_number}
-use Rattle.c_check_expr.specs.WalkLists.{Going, adds, each, each_is, going_ends, going_on, going_starts, going_stops, push_on, push_stops}
+use Rattle.c_check_expr.proofs.lemmas.WalkLists.{Going, adds, each, each_is, going_ends, going_on, going_starts, going_stops, push_on, push_stops}
 use Rattle.c_check_expr.proofs.WalkStays.{cores_mapped}
 use Rattle.c_check_expr.proofs.WalkViews.{core_list, cores_known, enumerator_step, enumerators_typed, exprs_typed, field_step, fields_typed, member_step, members_typed, one_expr, one_parameter, one_part, one_suffix, parameters_known, parameters_typed, parts_known, parts_typed, steps_known, suffixes_typed}
-use Rattle.c_check_expr.specs.Walking.{passed, tells_first, tells_same}
+use Rattle.c_check_expr.proofs.lemmas.Walking.{passed, tells_first, tells_same}
 
 -- ---- expressions
 

@@ -33,7 +33,7 @@ use Rattle.c_check_expr.specs.TypedIn.{enumerators_in, fields_in, member_in, mem
 use Rattle.c_check_expr.specs.Walks.{IsAnyNumber, IsSpecifiedIn, Walks, members, next_number}
 use Rattle.c_check_expr.specs.Kept.{keeps_on}
 use Rattle.c_check_expr.proofs.WalkStays.{members_stay}
-use Rattle.c_check_expr.specs.Walking.{first_stops, passed, tells_first, walk_none, walk_then}
+use Rattle.c_check_expr.proofs.lemmas.Walking.{first_stops, passed, tells_first, walk_none, walk_then}
 
 -- ---- specifiers
 

@@ -30,7 +30,7 @@ use Rattle.c_check_expr.specs.TypedIn.{declarator_in, expr_in, maybe_expr_in, na
 use Rattle.c_check_expr.specs.Walks.{IsBelow, IsDeclaredIn, IsShapeIn, IsSpecifiedIn, Walks, core}
 use Rattle.c_check_expr.specs.SymbolsStay.{state_stays}
 use Rattle.c_check_expr.specs.Kept.{keeps_grown}
-use Rattle.c_check_expr.specs.Walking.{both_go, first_stops, second_stops, walk_none, walk_then}
+use Rattle.c_check_expr.proofs.lemmas.Walking.{both_go, first_stops, second_stops, walk_none, walk_then}
 
 -- ---- a node that changes nothing of what is known, whatever else is
 

@@ -22,7 +22,7 @@ use Rattle.c_check_expr.specs.declared.parts.NamedParameter.{NamedParameter}
 use Rattle.c_check_expr.specs.declared.parts.Step.{Step}
 use Rattle.c_check_expr.specs.PartsSeen.{AreParametersIn, ArePartsIn, AreStepsIn, IsPartIn, IsStepIn, parameter_seen, parameters_seen, part_seen, parts_seen, step_seen, steps_seen}
 use Rattle.c_check_expr.specs.Walks.{AreCoresIn, IsParameterIn, core, numbered, with_field}
-use Rattle.c_check_expr.specs.WalkLists.{IsSeenAsList, each, folded, then_same, then_then}
+use Rattle.c_check_expr.proofs.lemmas.WalkLists.{IsSeenAsList, each, folded, then_same, then_then}
 use Rattle.c_check_expr.proofs.WalkStays.{core_pushed, cores_later, cores_stay, parameters_pushed, parameters_stay, parameters_within, parts_pushed, parts_stay, parts_within, steps_append, steps_stay, steps_within}
 
 -- ---- seen

@@ -1,1 +1,4 @@
 pub mod StepLimits
+pub mod Walking
+pub mod WalkLists
+pub mod KnownSymbols

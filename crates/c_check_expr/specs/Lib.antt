@@ -6,7 +6,6 @@ pub mod Counted
 pub mod Keeps
 pub mod Known
 pub mod KnownLaws
-pub mod KnownSymbols
 pub mod Listed
 pub mod MemberNames
 pub mod Operators
@@ -21,5 +20,3 @@ pub mod Walks
 pub mod Told
 pub mod SymbolsStay
 pub mod Kept
-pub mod Walking
-pub mod WalkLists

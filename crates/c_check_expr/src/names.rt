@@ -15,7 +15,7 @@ ghost use Rattle.c_check_expr.specs.Redeclared.{IsRedeclared};
 
 use crate::outline;
 use c_ast::IntKind;
-use c_meaning::{CoreExpr, CoreKind};
+use c_meaning::{CoreExpr, CoreKind, LiteralText};
 use c_symbols::{Scopes, Storage, Symbol, SymbolId};
 use c_types::{TypeForm, TypeId, TypeTable};
 use c_values::CheckFault;
@@ -264,7 +264,10 @@ pub(crate) fn text(
     let of = types.basic_type(CHAR);
     let length = Some(length as u32 + 1);
     match types.add(TypeForm::Array { of, length }) {
-        Ok(of) => Ok(leaf(alloc, CoreKind::Literal(bytes), of, line)),
+        Ok(of) => {
+            let text = LiteralText::new(alloc, bytes)?;
+            Ok(leaf(alloc, CoreKind::Literal(text), of, line))
+        }
         // So many chars pass no limit.
         Err(_) => Err(CheckFault::Memory),
     }

@@ -78,7 +78,7 @@ pub fn expression(
 }
 
 /// A character constant.
-#[tactic(auto, using(crate::specs::Walking::signed_rules))]
+#[tactic(auto, using(crate::proofs::lemmas::Walking::signed_rules))]
 fn character(
     alloc: Global,
     types: &TypeTable,

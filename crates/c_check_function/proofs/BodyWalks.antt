@@ -17,7 +17,7 @@ use Rattle.c_values.specs.declared.check_fault.CheckFault.TheVariants.{Constrain
 use Rattle.c_check_expr.specs.Keeps.{Keeps}
 use Rattle.c_check_expr.specs.Known.{state_of}
 use Rattle.c_check_expr.specs.Kept.{below_later, keeps_itself, keeps_on}
-use Rattle.c_check_expr.specs.Walking.{first_stops, walk_as, walk_then}
+use Rattle.c_check_expr.proofs.lemmas.Walking.{first_stops, walk_as, walk_then}
 use Rattle.c_check_expr.specs.Walks.{Walks}
 use Rattle.c_check_decl.specs.Named.{linked, naming_in}
 use Rattle.c_units.specs.Bodies.{Typed, Within as WithinTrees, typed_block}

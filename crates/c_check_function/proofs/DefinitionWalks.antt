@@ -28,7 +28,7 @@ use Rattle.c_check_expr.specs.PartsSeen.{AreStepsIn, declared_seen, specified_se
 use Rattle.c_check_expr.specs.StepFaults.{IsFault, steps_passed}
 use Rattle.c_check_expr.specs.SymbolsStay.{state_stays}
 use Rattle.c_check_expr.specs.TypedIn.{declarator_in}
-use Rattle.c_check_expr.specs.Walking.{first_stops, passed, walk_as, walk_then}
+use Rattle.c_check_expr.proofs.lemmas.Walking.{first_stops, passed, walk_as, walk_then}
 use Rattle.c_check_expr.specs.Walks.{IsDeclaredIn, Walks}
 use Rattle.c_check_decl.specs.Named.{linked, naming_in}
 use Rattle.c_units.specs.Definitions.{Definition as DefinitionTrees, definition_constraints, definition_fault, definition_limit, has_many_names, or_which, own_step}

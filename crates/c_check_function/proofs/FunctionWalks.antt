@@ -14,8 +14,8 @@ use Rattle.c_check_expr.specs.declared.parts.Specified.{Specified}
 use Rattle.c_check_expr.specs.Keeps.{Keeps}
 use Rattle.c_check_expr.specs.Known.{state_of}
 use Rattle.c_check_expr.specs.PartsSeen.{specified_seen}
-use Rattle.c_check_expr.specs.Walking.{both_go, first_stops, second_stops, tells_first, walk_as}
-use Rattle.c_check_expr.specs.WalkLists.{then_same, then_then}
+use Rattle.c_check_expr.proofs.lemmas.Walking.{both_go, first_stops, second_stops, tells_first, walk_as}
+use Rattle.c_check_expr.proofs.lemmas.WalkLists.{then_same, then_then}
 use Rattle.c_check_expr.specs.Walks.{IsSpecifiedIn, Walks}
 use Rattle.c_check_decl.specs.Named.{naming_in}
 use Rattle.c_units.specs.Definitions.{Definition as DefinitionTrees, names_of, own_step}

@@ -21,8 +21,8 @@ use Rattle.c_check_expr.specs.Kept.{keeps_itself}
 use Rattle.c_check_expr.specs.Keeps.{Keeps}
 use Rattle.c_check_expr.specs.Known.{AreSymbolsIn, state_of}
 use Rattle.c_check_expr.specs.PartsSeen.{specified_seen}
-use Rattle.c_check_expr.specs.Walking.{both_go, first_stops, passed, second_stops, walk_as}
-use Rattle.c_check_expr.specs.WalkLists.{Going, folded, going_ends, going_on, going_starts, going_stops, then_same}
+use Rattle.c_check_expr.proofs.lemmas.Walking.{both_go, first_stops, passed, second_stops, walk_as}
+use Rattle.c_check_expr.proofs.lemmas.WalkLists.{Going, folded, going_ends, going_on, going_starts, going_stops, then_same}
 use Rattle.c_check_expr.specs.Walks.{IsSpecifiedIn, Walks}
 use Rattle.c_check_decl.specs.DeclaredIn.{inside_in}
 use Rattle.c_units.specs.Functions.{has_other, is_some_init, old_declaration_constraint, old_declaration_fault, typed_old, typed_old_declaration, typed_old_declarations, typed_olds}

@@ -26,7 +26,7 @@ use Rattle.c_check_expr.specs.PartsSeen.{declared_seen, specified_seen}
 use Rattle.c_check_expr.specs.StepFaults.{IsFault}
 use Rattle.c_check_expr.specs.SymbolsStay.{state_stays}
 use Rattle.c_check_expr.specs.TypedIn.{declarator_in}
-use Rattle.c_check_expr.specs.Walking.{first_stops, passed, walk_as, walk_then}
+use Rattle.c_check_expr.proofs.lemmas.Walking.{first_stops, passed, walk_as, walk_then}
 use Rattle.c_check_expr.specs.Walks.{IsDeclaredIn, Walks}
 use Rattle.c_units.specs.Definitions.{OldParameter as OldTrees, parameter_constraints, parameter_fault}
 use Rattle.c_units.specs.Functions.{old_parameter, with_old}

@@ -20,7 +20,7 @@ use Rattle.c_check_expr.specs.Known.{AreSymbolsIn, state_of}
 use Rattle.c_check_expr.specs.Kept.{keeps_itself}
 use Rattle.c_check_expr.specs.PartsSeen.{specified_seen}
 use Rattle.c_check_expr.specs.TypedIn.{specifiers_in}
-use Rattle.c_check_expr.specs.Walking.{first_stops, walk_as, walk_then}
+use Rattle.c_check_expr.proofs.lemmas.Walking.{first_stops, walk_as, walk_then}
 use Rattle.c_check_expr.specs.Walks.{IsSpecifiedIn, Walks}
 use Rattle.c_check_function.specs.FunctionsSeen.{result_in}
 

@@ -24,7 +24,7 @@ use Rattle.c_units.specs.Statements as node
 use Rattle.c_stmt_parts.specs.declared.around.Within.{Within}
 use Rattle.c_stmt_parts.specs.declared.body.Body.{Body}
 use Rattle.c_stmt_parts.specs.BodiesSeen.{IsBodyIn, body_in, within_in}
-use Rattle.c_stmt_parts.specs.BodiesStay.{body_later, body_stays}
+use Rattle.c_stmt_parts.proofs.lemmas.BodiesStay.{body_later, body_stays}
 use Rattle.c_stmt_parts.specs.StatementsIn.{WalksStmt, code_in, statement_in}
 use Rattle.c_stmt_parts.proofs.lemmas.BehindWalks.{do_behind, do_rest_is, else_behind_first, else_parts, later, same}
 use Rattle.c_stmt_parts.proofs.lemmas.StatementNodes.{beside}

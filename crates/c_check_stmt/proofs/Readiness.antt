@@ -11,12 +11,12 @@ use Rattle.c_values.specs.declared.check_fault.CheckFault.{CheckFault}
 use Rattle.c_values.specs.declared.check_fault.CheckFault.TheVariants.{Memory}
 use Rattle.c_check_expr.specs.Keeps.{Keeps}
 use Rattle.c_check_expr.specs.Kept.{below_later}
-use Rattle.c_check_expr.specs.Walking.{memory_stops}
+use Rattle.c_check_expr.proofs.lemmas.Walking.{memory_stops}
 use Rattle.c_units.specs.Bodies.{Typed}
 use Rattle.c_stmt_parts.specs.declared.around.Within.{Within}
 use Rattle.c_stmt_parts.specs.declared.body.Body.{Body}
 use Rattle.c_stmt_parts.specs.BodiesSeen.{IsBodyIn}
-use Rattle.c_stmt_parts.specs.BodiesStay.{body_later}
+use Rattle.c_stmt_parts.proofs.lemmas.BodiesStay.{body_later}
 use Rattle.c_stmt_parts.specs.StatementsIn.{AreCodesIn, IsCodeIn, WalksStmt, WalksStmts, code_in, codes_in, with_body}
 use Rattle.c_stmt_parts.proofs.lemmas.StatementWalks.{with_err}
 use Rattle.c_check_stmt.specs.Ready.{IsReady}

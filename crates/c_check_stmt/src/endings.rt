@@ -90,10 +90,11 @@ pub(crate) fn end_if(
     ensures { Ends types.old line (node.Test (core types.old e)) (tree.If (value (core types.old e)) (stmt_in types.old code) (stmt_in types.old other)) types.new result }
 {
     let test = test(alloc, types, line, e)?;
+    let boxed = Box::new(alloc, test)?;
     let then = Box::new(alloc, code)?;
     let otherwise = Box::new(alloc, other)?;
     Ok(CoreStmt::If {
-        test,
+        test: boxed,
         then,
         otherwise,
     })
@@ -113,10 +114,11 @@ pub(crate) fn end_switch(
     ensures { Ends types.old line (node.Switch (core types.old e)) (tree.Switch (promoted_value (value (core types.old e))) own.cases own.default (stmt_in types.old code)) types.new result }
 {
     let value = switched(alloc, types, line, e)?;
+    let boxed_value = Box::new(alloc, value)?;
     let cases = own.cases.into_list(alloc)?;
     let boxed = Box::new(alloc, code)?;
     Ok(CoreStmt::Switch {
-        value,
+        value: boxed_value,
         cases,
         default: own.default,
         body: boxed,

@@ -16,7 +16,7 @@ use crate::loops::{do_, for_, while_};
 use crate::spot::Spot;
 use c_ast::{Block, Statement, StatementForm};
 use c_meaning::CoreStmt;
-use c_stmt_parts::{Around, Body, Within, break_, continue_, declarations, goto, push_all};
+use c_stmt_parts::{Around, Body, Within, behind, break_, continue_, declarations, goto};
 use c_symbols::Scopes;
 use c_types::TypeTable;
 use c_values::CheckFault;
@@ -131,18 +131,6 @@ fn end_block(
         locals: small(count)?,
         statements: behind(fills, codes)?,
     })
-}
-
-/// Statements behind others.
-fn behind(first: Items<CoreStmt>, more: Items<CoreStmt>) -> Result<Items<CoreStmt>, Memory>
-    ensures { IfOk result (λ all. all ≡ first ++ more) }
-{
-    if first.is_empty() {
-        return Ok(more);
-    }
-    let mut all = first;
-    push_all(&mut all, more)?;
-    Ok(all)
 }
 
 /// A number of locals.

@@ -15,8 +15,8 @@ use Rattle.c_meaning.specs.State.{State}
 use Rattle.c_meaning.specs.Typing.{Outcome, Fine, then_do}
 use Rattle.c_values.specs.declared.check_fault.CheckFault.{CheckFault}
 use Rattle.c_check_expr.specs.Known.{AreSymbolsIn, state_of}
-use Rattle.c_check_expr.specs.Walking.{first_stops, walk_as, walk_none}
-use Rattle.c_check_expr.specs.WalkLists.{then_then}
+use Rattle.c_check_expr.proofs.lemmas.Walking.{first_stops, walk_as, walk_none}
+use Rattle.c_check_expr.proofs.lemmas.WalkLists.{then_then}
 use Rattle.c_check_expr.specs.Walks.{Walks}
 use Rattle.c_check_decl.specs.declared.declares.Declares.{Declares}
 use Rattle.c_check_decl.specs.Declares.{AreDeclaredIn, declares_in}

@@ -8,8 +8,8 @@ use Rattle.c_meaning.specs.State.{State}
 use Rattle.c_meaning.specs.Typing.{Outcome}
 use Rattle.c_values.specs.declared.check_fault.CheckFault.{CheckFault}
 use Rattle.c_check_expr.specs.Known.{AreSymbolsIn, state_of}
-use Rattle.c_check_expr.specs.Walking.{passed}
-use Rattle.c_check_expr.specs.WalkLists.{Going, folded, going_ends, going_on, going_starts, going_stops, then_same}
+use Rattle.c_check_expr.proofs.lemmas.Walking.{passed}
+use Rattle.c_check_expr.proofs.lemmas.WalkLists.{Going, folded, going_ends, going_on, going_starts, going_stops, then_same}
 use Rattle.c_check_expr.specs.Walks.{Walks}
 use Rattle.c_units.specs.Externals.{Parts, no_parts, typed_external, typed_externals}
 use Rattle.c_unit_parts.specs.declared.UnitParts.{UnitParts}

@@ -21,7 +21,7 @@ use Rattle.c_values.specs.declared.check_fault.CheckFault.TheVariants.{Constrain
 use Rattle.c_check_expr.specs.AtNode.{Tells}
 use Rattle.c_check_expr.specs.Known.{state_of}
 use Rattle.c_check_expr.specs.Told.{breaks, passes}
-use Rattle.c_check_expr.specs.Walking.{tells_first, tells_same}
+use Rattle.c_check_expr.proofs.lemmas.Walking.{tells_first, tells_same}
 use Rattle.c_stmt_parts.specs.StatementsSeen.{block_seen}
 use Rattle.c_units.specs.Externals.{Parts, no_parts, typed_externals}
 use Rattle.c_units.specs.Typing.{at_first, typed_unit}

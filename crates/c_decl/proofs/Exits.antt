@@ -11,7 +11,7 @@ use Rattle.c_lexer.specs.SourceUnits.{bytes_of}
 use Rattle.c_readings.specs.Reading.{State, answer, beyond}
 use Rattle.c_expr.specs.Answers.{comma_end}
 use Rattle.c_expr.specs.State.{MParser, ahead}
-use Rattle.c_decl.specs.GoingLaws.{no_sign, some_sign}
+use Rattle.c_decl.proofs.lemmas.GoingLaws.{no_sign, some_sign}
 
 -- `}`, with a comma before it where b says so
 pub no_brace : {A : Type 0} (x : A) (s t : State) (b : Bool) → b ≡ answer (IsSign 45) s → (b ≡ true → t ≡ beyond s) → (b ≡ false → t ≡ s) → answer (IsSign 5) t ≡ false → comma_end x s ≡ None

@@ -1,3 +1,4 @@
+pub mod lemmas
 mod Places
 mod OldParameters
 mod Exits

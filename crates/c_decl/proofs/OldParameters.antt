@@ -9,9 +9,9 @@ use Rattle.c_readings.specs.Reading.{Read, bind}
 use Rattle.c_readings.specs.Readers.{readers}
 use Rattle.c_readings.specs.DeclarationReaders as reader
 use Rattle.c_readings.specs.Exact.{Exact, Finds, nothing_more}
-use Rattle.c_decl.specs.OldParametersLaws.{ended, piece_by}
+use Rattle.c_decl.proofs.lemmas.OldParametersLaws.{ended, piece_by}
 use Rattle.c_decl.specs.Productions as production
-use Rattle.c_decl.specs.TakingLaws.{IsExact}
+use Rattle.c_decl.proofs.lemmas.TakingLaws.{IsExact}
 
 found_by : (o : Read (List DeclarationTree)) (xs : List DeclarationTree) (r : List Mark) → Finds o xs (Ask (IsSpecifier false) false ∷ r) → Finds (bind o ended) xs r
 found_by None xs r f = f

@@ -35,7 +35,7 @@ places_weighed (x ∷ xs) = ap (λ ys. filled_of x ∷ ys) (places_weighed xs)
 
 -- ---- forms
 
-pub is_if : (e : CoreOf ℕ) (s u : Box CoreStmt) → stmt_of (stmt.If e s u) ≡ If e (stmt_of s.value) (stmt_of u.value)
+pub is_if : (e : Box (CoreOf ℕ)) (s u : Box CoreStmt) → stmt_of (stmt.If e s u) ≡ If e.value (stmt_of s.value) (stmt_of u.value)
 is_if e s u = ap stmt_of (sym (stmt.rolls-If e s u)) ∙ fold-roll-CoreStmt (StmtOf ℕ) stmt_layer (CoreStmt-F.If e s u)
 
 pub is_while : (e : CoreOf ℕ) (s : Box CoreStmt) → stmt_of (stmt.While e s) ≡ While e (stmt_of s.value)
@@ -47,7 +47,7 @@ is_expression e = ap stmt_of (sym (stmt.rolls-Expression e)) ∙ fold-roll-CoreS
 pub is_for : (h : Box CoreForHead) (s : Box CoreStmt) → stmt_of (stmt.For h s) ≡ For h.value.first h.value.test h.value.last (stmt_of s.value)
 is_for h s = ap stmt_of (sym (stmt.rolls-For h s)) ∙ fold-roll-CoreStmt (StmtOf ℕ) stmt_layer (CoreStmt-F.For h s)
 
-pub is_switch : (e : CoreOf ℕ) (cases : List CoreCase) (default : Option ℕ) (s : Box CoreStmt) → stmt_of (stmt.Switch e cases default s) ≡ Switch e cases default (stmt_of s.value)
+pub is_switch : (e : Box (CoreOf ℕ)) (cases : List CoreCase) (default : Option ℕ) (s : Box CoreStmt) → stmt_of (stmt.Switch e cases default s) ≡ Switch e.value cases default (stmt_of s.value)
 is_switch e cases default s = ap stmt_of (sym (stmt.rolls-Switch e cases default s)) ∙ fold-roll-CoreStmt (StmtOf ℕ) stmt_layer (CoreStmt-F.Switch e cases default s)
 
 pub is_block : (first locals : ℕ) (ss : List CoreStmt) → stmt_of (stmt.Block first locals ss) ≡ Block first locals (stmts_of (map stmt_of ss))

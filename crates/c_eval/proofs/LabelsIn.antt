@@ -58,16 +58,16 @@ has_in_block p s first locals xs ys l h e =
     ∙ ap (λ ss. any_has ss l) (all_trees p xs)
     ∙ sym (ap (λ (x : CoreStmt). has (statement p x) l) h ∙ ap (λ (x : StmtOf ℕ). has (stmt_tree p x) l) (is_block first locals xs))
 
-has_in_if : (p : Program) (s : CoreStmt) (e : CoreOf ℕ) (a b : Box CoreStmt) (l : ℕ) → s ≡ stmt.If e a b → has (statement p s) l ≡ (has (statement p a.value) l || has (statement p b.value) l)
+has_in_if : (p : Program) (s : CoreStmt) (e : Box (CoreOf ℕ)) (a b : Box CoreStmt) (l : ℕ) → s ≡ stmt.If e a b → has (statement p s) l ≡ (has (statement p a.value) l || has (statement p b.value) l)
 has_in_if p s e a b l h =
     ap (λ (x : CoreStmt). has (statement p x) l) h ∙ ap (λ (x : StmtOf ℕ). has (stmt_tree p x) l) (is_if e a b)
     ∙ among_both l (labels (statement p a.value)) (labels (statement p b.value))
 
-pub has_first : (p : Program) (s x : CoreStmt) (e : CoreOf ℕ) (a b : Box CoreStmt) (l : ℕ) (r : Bool) → s ≡ stmt.If e a b → x ≡ a.value → r ≡ has (statement p x) l → r ≡ true → r ≡ has (statement p s) l
+pub has_first : (p : Program) (s x : CoreStmt) (e : Box (CoreOf ℕ)) (a b : Box CoreStmt) (l : ℕ) (r : Bool) → s ≡ stmt.If e a b → x ≡ a.value → r ≡ has (statement p x) l → r ≡ true → r ≡ has (statement p s) l
 has_first p s x e a b l r h i f t =
     t ∙ sym (has_in_if p s e a b l h ∙ or_here (has (statement p a.value) l) (has (statement p b.value) l) (sym (ap (λ (y : CoreStmt). has (statement p y) l) i) ∙ sym f ∙ t))
 
-pub has_second : (p : Program) (s x y : CoreStmt) (e : CoreOf ℕ) (a b : Box CoreStmt) (l : ℕ) (q r : Bool) → s ≡ stmt.If e a b → x ≡ a.value → y ≡ b.value → q ≡ has (statement p x) l → q ≡ false → r ≡ has (statement p y) l → r ≡ has (statement p s) l
+pub has_second : (p : Program) (s x y : CoreStmt) (e : Box (CoreOf ℕ)) (a b : Box CoreStmt) (l : ℕ) (q r : Bool) → s ≡ stmt.If e a b → x ≡ a.value → y ≡ b.value → q ≡ has (statement p x) l → q ≡ false → r ≡ has (statement p y) l → r ≡ has (statement p s) l
 has_second p s x y e a b l q r h i j f t g =
     g ∙ ap (λ (z : CoreStmt). has (statement p z) l) j
     ∙ sym (has_in_if p s e a b l h ∙ or_beyond (has (statement p a.value) l) (has (statement p b.value) l) (sym (ap (λ (z : CoreStmt). has (statement p z) l) i) ∙ sym f ∙ t))

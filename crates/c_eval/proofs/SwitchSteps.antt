@@ -90,12 +90,12 @@ pointer_over (Function f) cases default body line k w h = refl
 line_seen : (p : Program) (c : CoreOf ℕ) → line_of (tree p c) ≡ line_of c
 line_seen p (Core what of line kids) = refl
 
-pub pointer_meets : (p : Program) (old : Machine) (s : CoreStmt) (y : CoreOf ℕ) (cases : List CoreCase) (default : Option ℕ) (b : Box CoreStmt) (v : Value) (line : ℕ) (t : List Event)
-    → s ≡ form.Switch y cases default b → line ≡ line_of y → ((n : ℕ) → v ≡ Number n → ⊥)
+pub pointer_meets : (p : Program) (old : Machine) (s : CoreStmt) (y : Box (CoreOf ℕ)) (cases : List CoreCase) (default : Option ℕ) (b : Box CoreStmt) (v : Value) (line : ℕ) (t : List Event)
+    → s ≡ form.Switch y cases default b → line ≡ line_of y.value → ((n : ℕ) → v ≡ Number n → ⊥)
     → final (Undefines PointerNumber line) (output_of t) ≡ ends_of p old (OfStatement (switched_from (own p) (statement p s) (Gives v old.turns (shown old.world t))))
 pointer_meets p old s y cases default b v line t h l e =
-    ap (λ m. final (Undefines PointerNumber m) (output_of t)) (l ∙ sym (line_seen p y))
-    ∙ sym (over_of p old.world.locals.below (frames old.stack) (Undefines PointerNumber (line_of (tree p y))) (shown old.world t))
-    ∙ ap (λ (o : Out). ends_of p old (OfStatement o)) (sym (pointer_over v cases default (λ l k w. exec (own p) (stmt_tree p (stmt_of b.value)) (At l) k w) (line_of (tree p y)) old.turns (shown old.world t) e))
+    ap (λ m. final (Undefines PointerNumber m) (output_of t)) (l ∙ sym (line_seen p y.value))
+    ∙ sym (over_of p old.world.locals.below (frames old.stack) (Undefines PointerNumber (line_of (tree p y.value))) (shown old.world t))
+    ∙ ap (λ (o : Out). ends_of p old (OfStatement o)) (sym (pointer_over v cases default (λ l k w. exec (own p) (stmt_tree p (stmt_of b.value)) (At l) k w) (line_of (tree p y.value)) old.turns (shown old.world t) e))
     ∙ ap (λ (z : StmtOf ℕ). ends_of p old (OfStatement (switched_from (own p) (stmt_tree p z) (Gives v old.turns (shown old.world t))))) (sym (is_switch y cases default b))
     ∙ ap (λ (z : CoreStmt). ends_of p old (OfStatement (switched_from (own p) (statement p z) (Gives v old.turns (shown old.world t))))) (sym h)

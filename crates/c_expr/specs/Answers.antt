@@ -3,6 +3,7 @@
 use Rattle.std.specs.Prelude.{◌≡◌, ◌⊎◌, ℕ, Bool, true, false, None, List}
 use Rattle.c_ast.specs.InForce.{InForce}
 use Rattle.c_ast.specs.Marks.{IsSign}
+use Rattle.c_ast.specs.Signs.{close_parenthesis, close_brace, ellipsis, comma_sign}
 use Rattle.c_lexer.specs.declared.token.Token.{Token}
 use Rattle.c_lexer.specs.PlacedTokens.{placed}
 use Rattle.c_readings.specs.Reading.{State, Read, gives, ask, beyond, one_sign}
@@ -19,8 +20,8 @@ Fails e o = (e ≡ Memory) ⊎ (o ≡ None)
 
 -- behind the last of a list in braces: `}`, perhaps with a comma before it
 abbrev pub comma_end : {A : Type 0} → A → State → Read (A × Bool)
-comma_end x s = ask (IsSign 45) s (one_sign 5 (beyond s) (λ t. gives (x, true) t)) (one_sign 5 s (λ t. gives (x, false) t))
+comma_end x s = ask (IsSign comma_sign) s (one_sign close_brace (beyond s) (λ t. gives (x, true) t)) (one_sign close_brace s (λ t. gives (x, false) t))
 
 -- behind the last parameter: `)`, perhaps with `, ...` before it
 abbrev pub dots_end : {A : Type 0} → A → State → Read (A × Bool)
-dots_end x s = ask (IsSign 45) s (one_sign 33 (beyond s) (λ t. one_sign 3 t (λ u. gives (x, true) u))) (one_sign 3 s (λ t. gives (x, false) t))
+dots_end x s = ask (IsSign comma_sign) s (one_sign ellipsis (beyond s) (λ t. one_sign close_parenthesis t (λ u. gives (x, true) u))) (one_sign close_parenthesis s (λ t. gives (x, false) t))

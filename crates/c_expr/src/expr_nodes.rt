@@ -125,8 +125,8 @@ pub(crate) fn linked(alloc: Global, line: u32, left: Expr, link: Link) -> Result
     let left = Box::new(alloc, left)?;
     let form = match link {
         Link::Index(inside) => ExprForm::Index(left, Box::new(alloc, inside)?),
-        Link::Call(arguments) => ExprForm::Call(left, arguments),
-        Link::Select(operator, name) => ExprForm::Member(operator, left, name),
+        Link::Call(arguments) => ExprForm::Call(left, Box::new(alloc, arguments)?),
+        Link::Select(operator, name) => { ExprForm::Member(operator, left, Box::new(alloc, name)?) }
         Link::Step(operator) => ExprForm::Postfix(operator, left),
         Link::Operate(operator, right) => {
             ExprForm::Binary(operator, left, Box::new(alloc, right)?)

@@ -1,2 +1,3 @@
 mod SoundExamples
 mod FollowingExamples
+mod FitLawExamples

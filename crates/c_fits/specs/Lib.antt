@@ -3,4 +3,3 @@ pub mod Sound
 pub mod OpenPlaces
 pub mod OpenDeclares
 pub mod Laws
-pub mod FitLawExamples

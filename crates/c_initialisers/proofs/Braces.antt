@@ -16,7 +16,7 @@ use Rattle.c_values.specs.declared.check_fault.CheckFault.{CheckFault}
 use Rattle.c_values.specs.declared.check_fault.CheckFault.TheVariants.{Constraint, Limit, Memory}
 use Rattle.c_check_expr.specs.AtNode.{Tells}
 use Rattle.c_check_expr.specs.Known.{state_of}
-use Rattle.c_check_expr.specs.Walking.{passed, tells_first}
+use Rattle.c_check_expr.proofs.lemmas.Walking.{passed, tells_first}
 use Rattle.c_check_expr.specs.Walks.{Walks}
 use Rattle.c_initialisers.specs.declared.nodes.Standing.{Standing}
 use Rattle.c_initialisers.specs.declared.opening.Opened.{Opened}

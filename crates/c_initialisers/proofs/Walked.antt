@@ -23,8 +23,8 @@ use Rattle.c_values.specs.declared.check_fault.CheckFault.{CheckFault}
 use Rattle.c_values.specs.declared.check_fault.CheckFault.TheVariants.{Constraint, Limit, Memory}
 use Rattle.c_check_expr.specs.AtNode.{Tells}
 use Rattle.c_check_expr.specs.Known.{AreSymbolsIn, state_of}
-use Rattle.c_check_expr.specs.WalkLists.{Going, folded, going_ends, going_on, going_starts, going_stops, then_same, then_then}
-use Rattle.c_check_expr.specs.Walking.{first_stops, passed, walk_as, walk_grown, walk_then}
+use Rattle.c_check_expr.proofs.lemmas.WalkLists.{Going, folded, going_ends, going_on, going_starts, going_stops, then_same, then_then}
+use Rattle.c_check_expr.proofs.lemmas.Walking.{first_stops, passed, walk_as, walk_grown, walk_then}
 use Rattle.c_check_expr.specs.Walks.{Walks, core}
 use Rattle.c_initialisers.specs.declared.stored.Filling.{Filling}
 use Rattle.c_initialisers.specs.declared.walk.Listing.{Listing}

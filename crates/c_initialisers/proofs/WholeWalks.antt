@@ -25,7 +25,7 @@ use Rattle.c_values.specs.declared.check_fault.CheckFault.{CheckFault}
 use Rattle.c_values.specs.declared.check_fault.CheckFault.TheVariants.{Constraint, Limit}
 use Rattle.c_check_expr.specs.AtNode.{Tells}
 use Rattle.c_check_expr.specs.Known.{state_of}
-use Rattle.c_check_expr.specs.Walking.{first_stops, walk_as, walk_grown, walk_then}
+use Rattle.c_check_expr.proofs.lemmas.Walking.{first_stops, walk_as, walk_grown, walk_then}
 use Rattle.c_check_expr.specs.Told.{breaks, passes, relates}
 use Rattle.c_check_expr.specs.Walks.{Walks, core}
 use Rattle.c_initialisers.specs.declared.filled.Filled.{Filled}

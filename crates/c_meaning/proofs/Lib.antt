@@ -1,2 +1,3 @@
+mod examples
 pub mod lemmas
 pub mod Copies

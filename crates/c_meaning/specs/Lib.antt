@@ -34,16 +34,4 @@ pub mod DeclaringRelation
 pub mod DeclaringNodes
 pub mod Laws
 pub mod Samples
-pub mod ExprExamples
-pub mod OperandExamples
-pub mod TypeExamples
-pub mod RowExamples
-pub mod ConstantExamples
-pub mod FitExamples
-pub mod UnitExamples
-pub mod TypingExamples
-pub mod AddressExamples
-pub mod FillingExamples
 pub mod DeclarationSamples
-pub mod DeclarationExamples
-pub mod DeclaredExamples

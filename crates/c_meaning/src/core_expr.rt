@@ -1,7 +1,8 @@
 use crate::built_in::BuiltIn;
+use crate::literal_text::LiteralText;
 use c_symbols::SymbolId;
 use c_types::TypeId;
-use lcc_base::{Bytes, Items};
+use lcc_base::Items;
 use objects::{Binary, Comparison, Scalar, Unary};
 use std::marker::Model;
 
@@ -38,7 +39,7 @@ pub enum CoreKind {
     Text(u32),
     /// A place: the array of a string literal with these bytes and a null behind them, while the unit
     /// isn't whole.
-    Literal(Bytes),
+    Literal(LiteralText),
     /// A place, or a function: what a symbol stands for, while the unit isn't whole.
     Symbol(SymbolId),
     /// A function of the unit.

@@ -38,7 +38,7 @@ pub enum CoreStmt {
         statements: Items<CoreStmt>,
     },
     If {
-        test: CoreExpr,
+        test: Box<CoreExpr>,
         then: Box<CoreStmt>,
         otherwise: Box<CoreStmt>,
     },
@@ -57,7 +57,7 @@ pub enum CoreStmt {
     /// The value is of a promoted type. The cases stand in the order of the text, no two with one
     /// number. Where none fits, the body is entered at the default's label, if there is one.
     Switch {
-        value: CoreExpr,
+        value: Box<CoreExpr>,
         cases: Items<CoreCase>,
         default: Option<u32>,
         body: Box<CoreStmt>,

@@ -8,6 +8,7 @@ mod core_stmt;
 mod core_unit;
 mod filled_place;
 mod laws;
+mod literal_text;
 
 pub use built_in::BuiltIn;
 pub use core_expr::{Change, Conversion, CoreExpr, CoreKind};
@@ -18,3 +19,4 @@ pub use laws::{
     copies_have_locals, declaring_is_a_function, declaring_is_decided, typing_is_a_function,
     typing_is_decided,
 };
+pub use literal_text::LiteralText;

@@ -1,3 +1,4 @@
+pub mod lemmas
 mod Steps
 mod Lists
 mod Operators

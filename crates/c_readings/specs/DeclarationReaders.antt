@@ -6,6 +6,8 @@ use Rattle.c_ast.specs.Marks.{IsSign, IsDeclaration}
 use Rattle.c_ast.specs.ExprMarks.{declared_name, has_typedef}
 use Rattle.c_ast.specs.UnitViews.{initialisers_of}
 use Rattle.c_ast.specs.Trees.{SpecifiersTree, DeclaratorTree, InitialiserTree, ByExpr, Braced, InitialiserTrees, InitTree, DeclarationTree}
+use Rattle.c_ast.specs.Signs.{open_brace, close_brace, semicolon, equals_sign, comma_sign}
+use Rattle.c_ast.specs.Operators.{assignment_level}
 use Rattle.c_readings.specs.Reading.{State, Read, gives, bind, ask, answer, here, beyond, one_sign, put_state, forget_state, all_of, commas}
 use Rattle.c_readings.specs.Readers.{Readers, specifiers, goes_on_without}
 use Rattle.c_readings.specs.Exact.{where_left}
@@ -15,23 +17,23 @@ use Rattle.c_readings.specs.Exact.{where_left}
 -- behind `{`, and whether a comma stands before `}`
 unfoldable pub initialisers : (State → Read InitialiserTree) → State → Read (InitialiserTrees × Bool)
 initialisers item s =
-    bind (item s) (λ i t. bind (all_of (λ b u. goes_on_without 5 u) (λ b u. item (beyond u)) (λ b x. b) true t) (λ is u.
-    ask (IsSign 45) u
-    (one_sign 5 (beyond u) (λ v. gives (initialisers_of (i ∷ is), true) v))
-    (one_sign 5 u (λ v. gives (initialisers_of (i ∷ is), false) v))))
+    bind (item s) (λ i t. bind (all_of (λ b u. goes_on_without close_brace u) (λ b u. item (beyond u)) (λ b x. b) true t) (λ is u.
+    ask (IsSign comma_sign) u
+    (one_sign close_brace (beyond u) (λ v. gives (initialisers_of (i ∷ is), true) v))
+    (one_sign close_brace u (λ v. gives (initialisers_of (i ∷ is), false) v))))
 
 abbrev pub initialiser_above : (ℕ → Readers) → ℕ → (State → Read InitialiserTree) → State → Read InitialiserTree
 initialiser_above R n item s =
-    ask (IsSign 4) s
+    ask (IsSign open_brace) s
     (bind (initialisers item (beyond s)) (λ is t. gives (Braced (here s) is.0 is.1) t))
-    (bind ((R n).piece 1 s) (λ e t. gives (ByExpr (here s) e) t))
+    (bind ((R n).piece assignment_level s) (λ e t. gives (ByExpr (here s) e) t))
 
 unfoldable pub initialiser : (ℕ → Readers) → ℕ → State → Read InitialiserTree
 initialiser R zero s = None
 initialiser R (suc n) s = initialiser_above R n (λ t. initialiser R n t) s
 
 unfoldable pub maybe_initialiser : (ℕ → Readers) → ℕ → State → Read (Option InitialiserTree)
-maybe_initialiser R n s = ask (IsSign 34) s (bind (initialiser R n (beyond s)) (λ i t. gives (Some i) t)) (gives None s)
+maybe_initialiser R n s = ask (IsSign equals_sign) s (bind (initialiser R n (beyond s)) (λ i t. gives (Some i) t)) (gives None s)
 
 -- ---- declarators
 
@@ -50,11 +52,11 @@ init R n typedef s = bind (whole_declarator R n typedef s) (λ d t. init_behind 
 -- the rest of a declaration behind its first declarator
 unfoldable pub inits_behind : (ℕ → Readers) → ℕ → Bool → ℕ → DeclaratorTree → State → Read (List InitTree)
 inits_behind R n typedef line d s =
-    bind (init_behind R n line d s) (λ i t. bind (commas (init R n typedef) t) (λ is u. one_sign 32 u (λ v. gives (i ∷ is) v)))
+    bind (init_behind R n line d s) (λ i t. bind (commas (init R n typedef) t) (λ is u. one_sign semicolon u (λ v. gives (i ∷ is) v)))
 
 unfoldable pub inits : (ℕ → Readers) → ℕ → Bool → State → Read (List InitTree)
 inits R n typedef s =
-    ask (IsSign 32) s
+    ask (IsSign semicolon) s
     (gives [] (beyond s))
     (bind (whole_declarator R n typedef s) (λ d t. inits_behind R n typedef (here s) d t))
 

@@ -4,7 +4,6 @@ pub mod Words
 pub mod Readers
 pub mod Exact
 pub mod Fronts
-pub mod Loops
 pub mod DeclarationReaders
 pub mod StatementReaders
 pub mod UnitReaders

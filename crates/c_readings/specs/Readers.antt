@@ -9,13 +9,15 @@ use Rattle.c_ast.specs.declared.specifier.Qualifier.TheVariants as qualifier
 use Rattle.c_ast.specs.Lexemes.{Lexeme, Name, Keyword, Integer, Character, Text, Sign, Placed}
 use Rattle.c_ast.specs.InForce.{InForce, put, is_typedef}
 use Rattle.c_ast.specs.Marks.{IsSpecifier, IsSized, IsDeclarator, IsCore, IsSuffix, IsSign, lexemes, first_is, is_sign}
-use Rattle.c_ast.specs.Operators.{level_of, operand_level}
+use Rattle.c_ast.specs.Operators.{level_of, operand_level, assignment_level, conditional_level, cast_level, unary_level}
 use Rattle.c_ast.specs.ExprMarks.{says_type, has_typedef, is_own, maybe_name}
 use Rattle.c_ast.specs.Levels.{rank, is_named, is_abstract}
 use Rattle.c_ast.specs.Heights.{height}
 use Rattle.c_ast.specs.Views.{exprs_of, specifier_list_of, members_of, fields_of, enumerators_of, suffixes_of, parameters_of}
 use Rattle.c_ast.specs.Reach.{LinkKind, Index, Call, Select, Step, Operate, Question, Assign}
 use Rattle.c_ast.specs.Trees.{ExprTree, Variable, IntegerConstant, CharacterConstant, Literal, Enclosed, Prefixed, SizedExpr, SizedType, Converted, Sequence, ExprTrees, NoExprs, MaybeExpr, NoExpr, AnExpr, TypeNameTree, TypeNamed, SpecifiersTree, Specified, SpecifierTree, Stored, Qualified, Basic, Record, RecordTag, Enumeration, EnumerationTag, NamedType, MemberTree, Members, MemberTrees, FieldTree, Field, FieldTrees, EnumeratorTree, Enumerator, EnumeratorTrees, DeclaratorTree, Declarator, MaybeDeclarator, NoDeclarator, ADeclarator, CoreTree, Named, Inner, Omitted, SuffixTree, ArraySuffix, Prototype, NameList, NoParameters, SuffixTrees, ParameterTree, Parameter, ParameterTrees}
+use Rattle.c_ast.specs.Signs.{open_bracket, close_bracket, open_parenthesis, close_parenthesis, open_brace, close_brace, star_sign, colon_sign, semicolon, ellipsis, equals_sign, comma_sign}
+use Rattle.c_ast.specs.Keywords.{const_word, sizeof_word, volatile_word}
 use Rattle.c_readings.specs.Links.{LinkTree, Indexed, Arguments, Member, Postfix, Operand, Choices, Value, linked, kind_at}
 use Rattle.c_readings.specs.Words.{Word, StorageWord, QualifierWord, BasicWord, RecordWord, EnumWord, word_of, prefix_of}
 use Rattle.c_readings.specs.Reading.{State, Read, gives, bind, answer, ask, here, tail, beyond, with_first, one_sign, one_name, put_state, open_state, close_state, all_of, commas}
@@ -58,7 +60,7 @@ bare (Some n) f s = gives (f n) s
 
 -- an expression behind this sign, if it is next
 unfoldable pub piece_behind : Readers → ℕ → State → Read MaybeExpr
-piece_behind R k s = ask (IsSign k) s (bind (R.piece 2 (beyond s)) (λ e t. gives (AnExpr e) t)) (gives NoExpr s)
+piece_behind R k s = ask (IsSign k) s (bind (R.piece conditional_level (beyond s)) (λ e t. gives (AnExpr e) t)) (gives NoExpr s)
 
 unfoldable pub maybe_declarator : Readers → Bool → State → Read MaybeDeclarator
 maybe_declarator R free s = ask IsDeclarator s (bind (R.declarator free false s) (λ d t. gives (ADeclarator d) t)) (gives NoDeclarator s)
@@ -71,21 +73,21 @@ one_of_both (ADeclarator d) w = true
 
 unfoldable pub field : Readers → State → Read FieldTree
 field R s =
-    bind (maybe_declarator R false s) (λ d t. bind (piece_behind R 31 t) (λ w u.
+    bind (maybe_declarator R false s) (λ d t. bind (piece_behind R colon_sign t) (λ w u.
     if one_of_both d w then gives (Field (here s) d w) u else None))
 
 unfoldable pub fields : Readers → State → Read FieldTrees
-fields R s = bind (some_commas (field R) s) (λ fs t. one_sign 32 t (λ u. gives (fields_of fs) u))
+fields R s = bind (some_commas (field R) s) (λ fs t. one_sign semicolon t (λ u. gives (fields_of fs) u))
 
 -- behind `{`
 unfoldable pub members : Readers → State → Read MemberTrees
 members R s =
-    bind (R.member s) (λ m t. bind (all_of (λ b u. not (answer (IsSign 5) u)) (λ b u. R.member u) (λ b x. b) true t) (λ ms u.
-    one_sign 5 u (λ v. gives (members_of (m ∷ ms)) v)))
+    bind (R.member s) (λ m t. bind (all_of (λ b u. not (answer (IsSign close_brace) u)) (λ b u. R.member u) (λ b x. b) true t) (λ ms u.
+    one_sign close_brace u (λ v. gives (members_of (m ∷ ms)) v)))
 
 abbrev pub record_behind : Readers → ℕ → RecordKind → Option (List ℕ) × State → Read SpecifierTree
 record_behind R line k p =
-    ask (IsSign 4) p.1
+    ask (IsSign open_brace) p.1
     (bind (members R (beyond p.1)) (λ ms t. gives (Record line k p.0 ms) t))
     (bare p.0 (λ n. RecordTag line k n) p.1)
 
@@ -95,24 +97,24 @@ record_of R line k s = record_behind R line k (tag s)
 
 unfoldable pub enumerator : Readers → State → Read EnumeratorTree
 enumerator R s =
-    one_name s (λ n t. bind (piece_behind R 34 t) (λ v u.
+    one_name s (λ n t. bind (piece_behind R equals_sign t) (λ v u.
     gives (Enumerator (here s) n v) record { names = put u.names n false; rest = u.rest }))
 
 -- behind a comma the list goes on, where this sign isn't next there
 abbrev pub goes_on_without : ℕ → State → Bool
-goes_on_without k s = answer (IsSign 45) s && not (answer (IsSign k) (beyond s))
+goes_on_without k s = answer (IsSign comma_sign) s && not (answer (IsSign k) (beyond s))
 
 -- behind `{`, and whether a comma stands before `}`
 unfoldable pub enumerators : Readers → State → Read (EnumeratorTrees × Bool)
 enumerators R s =
-    bind (enumerator R s) (λ e t. bind (all_of (λ b u. goes_on_without 5 u) (λ b u. enumerator R (beyond u)) (λ b x. b) true t) (λ es u.
-    ask (IsSign 45) u
-    (one_sign 5 (beyond u) (λ v. gives (enumerators_of (e ∷ es), true) v))
-    (one_sign 5 u (λ v. gives (enumerators_of (e ∷ es), false) v))))
+    bind (enumerator R s) (λ e t. bind (all_of (λ b u. goes_on_without close_brace u) (λ b u. enumerator R (beyond u)) (λ b x. b) true t) (λ es u.
+    ask (IsSign comma_sign) u
+    (one_sign close_brace (beyond u) (λ v. gives (enumerators_of (e ∷ es), true) v))
+    (one_sign close_brace u (λ v. gives (enumerators_of (e ∷ es), false) v))))
 
 abbrev pub enumeration_behind : Readers → ℕ → Option (List ℕ) × State → Read SpecifierTree
 enumeration_behind R line p =
-    ask (IsSign 4) p.1
+    ask (IsSign open_brace) p.1
     (bind (enumerators R (beyond p.1)) (λ es t. gives (Enumeration line p.0 es.0 es.1) t))
     (bare p.0 (λ n. EnumerationTag line n) p.1)
 
@@ -164,7 +166,7 @@ type_name R s =
 
 -- the qualifier that the token is
 abbrev pub qualifier_of : Lexeme → Option Qualifier
-qualifier_of (Keyword k) = if k == 4 then Some qualifier.Const else (if k == 30 then Some qualifier.Volatile else None)
+qualifier_of (Keyword k) = if k == const_word then Some qualifier.Const else (if k == volatile_word then Some qualifier.Volatile else None)
 qualifier_of (Name n) = None
 qualifier_of (Integer v k) = None
 qualifier_of (Character v) = None
@@ -184,7 +186,7 @@ qualifiers_on (t ∷ ts) = qualified_by (qualifier_of t.lexeme) (qualifiers_on t
 unfoldable pub pointers_in : ℕ → List Placed → List (List Qualifier) × List Placed
 pointers_in zero ts = ([], ts)
 pointers_in (suc m) ts =
-    if first_is (is_sign 11) (lexemes ts)
+    if first_is (is_sign star_sign) (lexemes ts)
     then ((qualifiers_on (tail ts)).0 ∷ (pointers_in m (qualifiers_on (tail ts)).1).0, (pointers_in m (qualifiers_on (tail ts)).1).1)
     else ([], ts)
 
@@ -193,7 +195,7 @@ pointers_on ts = pointers_in (length ts) ts
 
 abbrev pub core_by : Readers → Bool → Bool → Lexeme → State → Read CoreTree
 core_by R free outer (Name n) s = gives (Named n) s
-core_by R free outer (Sign k) s = if k == 2 then bind (R.declarator free outer s) (λ d t. one_sign 3 t (λ u. gives (Inner d) u)) else None
+core_by R free outer (Sign k) s = if k == open_parenthesis then bind (R.declarator free outer s) (λ d t. one_sign close_parenthesis t (λ u. gives (Inner d) u)) else None
 core_by R free outer (Keyword k) s = None
 core_by R free outer (Integer v k) s = None
 core_by R free outer (Character v) s = None
@@ -206,9 +208,9 @@ core R free outer s = if free && not (answer IsCore s) then gives Omitted s else
 -- behind `[`
 unfoldable pub size : Readers → ℕ → State → Read SuffixTree
 size R line s =
-    ask (IsSign 1) s
+    ask (IsSign close_bracket) s
     (gives (ArraySuffix line NoExpr) (beyond s))
-    (bind (R.piece 2 s) (λ e t. one_sign 1 t (λ u. gives (ArraySuffix line (AnExpr e)) u)))
+    (bind (R.piece conditional_level s) (λ e t. one_sign close_bracket t (λ u. gives (ArraySuffix line (AnExpr e)) u)))
 
 abbrev pub is_plain : InForce → Lexeme → Bool
 is_plain names (Name n) = not (is_typedef names n)
@@ -224,7 +226,7 @@ parameter_name s = one_name s (λ n t. gives n record { names = put t.names n fa
 
 -- names with commas between, and `)`
 unfoldable pub name_list : State → Read (List (List ℕ))
-name_list s = bind (some_commas parameter_name s) (λ ns t. one_sign 3 t (λ u. gives ns u))
+name_list s = bind (some_commas parameter_name s) (λ ns t. one_sign close_parenthesis t (λ u. gives ns u))
 
 -- with a name or without one and without a list of names
 abbrev pub either : MaybeDeclarator → Bool
@@ -239,15 +241,15 @@ parameter R s =
 -- parameters with commas between, perhaps `, ...`, and `)`
 unfoldable pub parameters : Readers → State → Read (ParameterTrees × Bool)
 parameters R s =
-    bind (parameter R s) (λ p t. bind (all_of (λ b u. goes_on_without 33 u) (λ b u. parameter R (beyond u)) (λ b x. b) true t) (λ ps u.
-    ask (IsSign 45) u
-    (one_sign 33 (beyond u) (λ v. one_sign 3 v (λ w. gives (parameters_of (p ∷ ps), true) w)))
-    (one_sign 3 u (λ v. gives (parameters_of (p ∷ ps), false) v))))
+    bind (parameter R s) (λ p t. bind (all_of (λ b u. goes_on_without ellipsis u) (λ b u. parameter R (beyond u)) (λ b x. b) true t) (λ ps u.
+    ask (IsSign comma_sign) u
+    (one_sign ellipsis (beyond u) (λ v. one_sign close_parenthesis v (λ w. gives (parameters_of (p ∷ ps), true) w)))
+    (one_sign close_parenthesis u (λ v. gives (parameters_of (p ∷ ps), false) v))))
 
 -- behind `(`, where the scope is open
 unfoldable pub parameter_list : Readers → ℕ → State → Read SuffixTree
 parameter_list R line s =
-    ask (IsSign 3) s
+    ask (IsSign close_parenthesis) s
     (gives (NoParameters line) (beyond s))
     (if first_is (is_plain s.names) (lexemes s.rest)
     then bind (name_list s) (λ ns t. gives (NameList line ns) t)
@@ -256,9 +258,9 @@ parameter_list R line s =
 -- own: its parameters' names are kept
 unfoldable pub suffix : Readers → Bool → State → Read SuffixTree
 suffix R own s =
-    ask (IsSign 0) s
+    ask (IsSign open_bracket) s
     (size R (here s) (beyond s))
-    (one_sign 2 s (λ t. bind (parameter_list R (here s) (open_state t)) (λ x u. gives x (close_state own u))))
+    (one_sign open_parenthesis s (λ t. bind (parameter_list R (here s) (open_state t)) (λ x u. gives x (close_state own u))))
 
 unfoldable pub suffixes : Readers → Bool → State → Read SuffixTrees
 suffixes R own s =
@@ -285,23 +287,23 @@ prefixed_by R line (Some op) s = bind (R.piece (operand_level op) s) (λ a t. gi
 
 -- behind `(`, where no type's name is next
 unfoldable pub enclosed : Readers → ℕ → State → Read ExprTree
-enclosed R line s = bind (R.whole s) (λ e t. one_sign 3 t (λ u. gives (Enclosed line e) u))
+enclosed R line s = bind (R.whole s) (λ e t. one_sign close_parenthesis t (λ u. gives (Enclosed line e) u))
 
 -- behind `(`, where a type's name is next
 unfoldable pub cast : Readers → ℕ → State → Read ExprTree
 cast R line s =
-    bind (type_name R s) (λ n t. one_sign 3 t (λ u. bind (R.piece 13 u) (λ a v. gives (Converted line n a) v)))
+    bind (type_name R s) (λ n t. one_sign close_parenthesis t (λ u. bind (R.piece cast_level u) (λ a v. gives (Converted line n a) v)))
 
 -- behind `sizeof`
 unfoldable pub sized : Readers → ℕ → State → Read ExprTree
 sized R line s =
     ask IsSized s
-    (bind (type_name R (beyond s)) (λ n t. one_sign 3 t (λ u. gives (SizedType line n) u)))
-    (bind (R.piece 14 s) (λ a t. gives (SizedExpr line a) t))
+    (bind (type_name R (beyond s)) (λ n t. one_sign close_parenthesis t (λ u. gives (SizedType line n) u)))
+    (bind (R.piece unary_level s) (λ a t. gives (SizedExpr line a) t))
 
 abbrev pub signed_by : Readers → ℕ → ℕ → ℕ → State → Read ExprTree
 signed_by R level line k s =
-    if k == 2
+    if k == open_parenthesis
     then ask (IsSpecifier false) s (if nat_le level 13 then cast R line s else None) (enclosed R line s)
     else (if nat_le level 14 then prefixed_by R line (prefix_of k) s else None)
 
@@ -310,7 +312,7 @@ head_by R level line (Name n) s = if is_typedef s.names n then None else gives (
 head_by R level line (Integer v k) s = gives (IntegerConstant line v k) s
 head_by R level line (Character v) s = gives (CharacterConstant line v) s
 head_by R level line (Text b) s = gives (Literal line (b ∷ (texts_on s.rest).0)) record { names = s.names; rest = (texts_on s.rest).1 }
-head_by R level line (Keyword k) s = if k == 22 && nat_le level 14 then sized R line s else None
+head_by R level line (Keyword k) s = if k == sizeof_word && nat_le level unary_level then sized R line s else None
 head_by R level line (Sign k) s = signed_by R level line k s
 
 -- what stands before the first operator
@@ -320,19 +322,19 @@ head R level s = with_first s (head_by R level (here s))
 -- behind `(` of a call
 unfoldable pub arguments : Readers → State → Read ExprTrees
 arguments R s =
-    ask (IsSign 3) s
+    ask (IsSign close_parenthesis) s
     (gives NoExprs (beyond s))
-    (bind (some_commas (R.piece 1) s) (λ es t. one_sign 3 t (λ u. gives (exprs_of es) u)))
+    (bind (some_commas (R.piece assignment_level) s) (λ es t. one_sign close_parenthesis t (λ u. gives (exprs_of es) u)))
 
 -- what stands behind the token of a kind
 unfoldable pub link : Readers → LinkKind → State → Read LinkTree
-link R Index s = bind (R.whole s) (λ i t. one_sign 1 t (λ u. gives (Indexed i) u))
+link R Index s = bind (R.whole s) (λ i t. one_sign close_bracket t (λ u. gives (Indexed i) u))
 link R Call s = bind (arguments R s) (λ es t. gives (Arguments es) t)
 link R (Select op) s = one_name s (λ n t. gives (Member op n) t)
 link R (Step op) s = gives (Postfix op) s
 link R (Operate op) s = bind (R.piece (level_of op + 1) s) (λ b t. gives (Operand op b) t)
-link R Question s = bind (R.whole s) (λ b t. one_sign 31 t (λ u. bind (R.piece 2 u) (λ c v. gives (Choices b c) v)))
-link R (Assign op) s = bind (R.piece 1 s) (λ b t. gives (Value op b) t)
+link R Question s = bind (R.whole s) (λ b t. one_sign colon_sign t (λ u. bind (R.piece conditional_level u) (λ c v. gives (Choices b c) v)))
+link R (Assign op) s = bind (R.piece assignment_level s) (λ b t. gives (Value op b) t)
 
 abbrev pub kind_on : ℕ → ℕ → List Placed → Option LinkKind
 kind_on level rank [] = None
@@ -355,9 +357,9 @@ piece_above R level s = bind (head R level s) (λ a t. chain (length t.rest + 1)
 
 unfoldable pub whole_above : Readers → State → Read ExprTree
 whole_above R s =
-    bind (piece_above R 1 s) (λ a t.
-    ask (IsSign 45) t
-    (if nat_le (height a) R.limit then bind (commas (R.piece 1) t) (λ es u. gives (Sequence (here s) (exprs_of (a ∷ es))) u) else None)
+    bind (piece_above R assignment_level s) (λ a t.
+    ask (IsSign comma_sign) t
+    (if nat_le (height a) R.limit then bind (commas (R.piece assignment_level) t) (λ es u. gives (Sequence (here s) (exprs_of (a ∷ es))) u) else None)
     (gives a t))
 
 abbrev pub declarator_behind : Readers → Bool → Bool → ℕ → List (List Qualifier) × List Placed → InForce → Read DeclaratorTree

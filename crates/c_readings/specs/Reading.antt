@@ -3,6 +3,7 @@ use Rattle.std.specs.Prelude.{ℕ, zero, suc, nat_le, Bool, true, false, if◌th
 use Rattle.c_ast.specs.Lexemes.{Lexeme, Name, Keyword, Integer, Character, Text, Sign, Placed}
 use Rattle.c_ast.specs.InForce.{InForce, put, opened, closed, closed_kept, reopened, forgotten}
 use Rattle.c_ast.specs.Marks.{Test, IsSign, holds, lexemes}
+use Rattle.c_ast.specs.Signs.{comma_sign}
 
 pub record State : Type 0 where
   pub names : InForce
@@ -106,4 +107,4 @@ all_of go item next b s = many go item next (length s.rest + 1) b s
 
 -- an item for each comma
 abbrev pub commas : {A : Type 0} → (State → Read A) → State → Read (List A)
-commas item s = all_of (λ b t. answer (IsSign 45) t) (λ b t. item (beyond t)) (λ b x. b) true s
+commas item s = all_of (λ b t. answer (IsSign comma_sign) t) (λ b t. item (beyond t)) (λ b x. b) true s

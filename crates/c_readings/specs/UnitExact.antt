@@ -7,6 +7,7 @@ use Rattle.c_ast.specs.UnitMarks as marks
 use Rattle.c_ast.specs.Levels.{FitsInitialiser, FitsDeclaration, FitsDeclarations, FitsStatement, FitsUnit}
 use Rattle.c_ast.specs.Heights.{initialiser_height, declaration_height, declarations_height, statement_height, unit_height}
 use Rattle.c_ast.specs.Reach.{goes_on}
+use Rattle.c_ast.specs.Operators.{assignment_level}
 use Rattle.c_readings.specs.Reading.{State}
 use Rattle.c_readings.specs.Readers.{Readers}
 use Rattle.c_readings.specs.Exact.{RunsOn, Exact, nothing_more}
@@ -16,7 +17,7 @@ use Rattle.c_readings.specs.UnitReaders.{unit}
 
 -- the token goes on from the initialiser's expression
 abbrev pub goes_on_initialiser : InitialiserTree → Lexeme → Bool
-goes_on_initialiser (ByExpr l e) t = goes_on 1 e t
+goes_on_initialiser (ByExpr l e) t = goes_on assignment_level e t
 goes_on_initialiser (Braced l is comma) t = false
 
 -- with R, the readers up to n give pieces alone, and each piece; a unit's goes up to the end

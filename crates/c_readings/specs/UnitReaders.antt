@@ -8,6 +8,7 @@ use Rattle.c_ast.specs.ExprMarks.{has_typedef}
 use Rattle.c_ast.specs.UnitMarks.{maybe_typedef}
 use Rattle.c_ast.specs.Heights.{specifiers_height, declarator_height}
 use Rattle.c_ast.specs.Trees.{SpecifiersTree, DeclaratorTree, BlockTree, ExternalTree, Function, Declares, Empty, UnitTree}
+use Rattle.c_ast.specs.Signs.{open_brace, semicolon, equals_sign, comma_sign}
 use Rattle.c_readings.specs.Reading.{State, Read, gives, bind, ask, answer, here, beyond, one_sign, reopen_state, all_of}
 use Rattle.c_readings.specs.Readers.{Readers}
 use Rattle.c_readings.specs.DeclarationReaders.{low_specifiers, whole_declarator, inits_behind, declarations}
@@ -16,7 +17,7 @@ use Rattle.c_readings.specs.StatementReaders.{block_inside, statement}
 -- the parameters' scope is the body's
 unfoldable pub function_body : (ℕ → Readers) → ℕ → State → Read BlockTree
 function_body R zero s = None
-function_body R (suc n) s = one_sign 4 s (λ t. block_inside R n (statement R n) (here s) t)
+function_body R (suc n) s = one_sign open_brace s (λ t. block_inside R n (statement R n) (here s) t)
 
 -- behind the declarator of a function: declarations of its parameters, and its body
 unfoldable pub function : (ℕ → Readers) → ℕ → ℕ → Option SpecifiersTree → DeclaratorTree → State → Read ExternalTree
@@ -43,7 +44,7 @@ declares R n line (Some ss) at d s =
 
 -- behind a first declarator: a declaration goes on
 abbrev pub is_declaring : State → Bool
-is_declaring s = answer (IsSign 34) s || (answer (IsSign 45) s || answer (IsSign 32) s)
+is_declaring s = answer (IsSign equals_sign) s || (answer (IsSign comma_sign) s || answer (IsSign semicolon) s)
 
 -- behind a first declarator, which stands on this line
 unfoldable pub external_by : (ℕ → Readers) → ℕ → ℕ → Option SpecifiersTree → ℕ → DeclaratorTree → State → Read ExternalTree
@@ -55,7 +56,7 @@ external_by R n line ss at d s =
 -- behind specifiers, or none
 unfoldable pub external_behind : (ℕ → Readers) → ℕ → ℕ → Option SpecifiersTree → State → Read ExternalTree
 external_behind R n line ss s =
-    ask (IsSign 32) s
+    ask (IsSign semicolon) s
     (declares_none n line ss (beyond s))
     (bind (whole_declarator R n (maybe_typedef ss) s) (λ d t. external_by R n line ss (here s) d t))
 
@@ -66,7 +67,7 @@ maybe_specifiers R n s = ask (IsSpecifier false) s (bind (low_specifiers R n s) 
 unfoldable pub external : (ℕ → Readers) → ℕ → Bool → State → Read ExternalTree
 external R zero first s = None
 external R (suc n) first s =
-    ask (IsSign 32) s
+    ask (IsSign semicolon) s
     (if first then None else gives (Empty (here s)) (beyond s))
     (bind (maybe_specifiers R n s) (λ ss t. external_behind R n (here s) ss t))
 

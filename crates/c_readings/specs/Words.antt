@@ -11,6 +11,8 @@ use Rattle.c_ast.specs.declared.specifier.BasicType.{BasicType}
 use Rattle.c_ast.specs.declared.specifier.BasicType.TheVariants as basic
 use Rattle.c_ast.specs.declared.specifier.RecordKind.{RecordKind}
 use Rattle.c_ast.specs.declared.specifier.RecordKind.TheVariants as record_kind
+use Rattle.c_ast.specs.Signs.{increment_sign, decrement_sign, ampersand, star_sign, plus_sign, minus_sign, tilde, exclamation_mark}
+use Rattle.c_ast.specs.Keywords.{auto_word, char_word, const_word, double_word, enum_word, extern_word, float_word, int_word, long_word, register_word, short_word, signed_word, static_word, struct_word, typedef_word, union_word, unsigned_word, void_word, volatile_word}
 
 pub data Word : Type 0 where
   StorageWord : (s : Storage) → Word
@@ -21,33 +23,33 @@ pub data Word : Type 0 where
 
 abbrev pub word_of : ℕ → Option Word
 word_of k =
-    if k == 0 then Some (StorageWord storage.Auto)
-    else (if k == 3 then Some (BasicWord basic.Char)
-    else (if k == 4 then Some (QualifierWord qualifier.Const)
-    else (if k == 8 then Some (BasicWord basic.Double)
-    else (if k == 10 then Some EnumWord
-    else (if k == 11 then Some (StorageWord storage.Extern)
-    else (if k == 12 then Some (BasicWord basic.Float)
-    else (if k == 16 then Some (BasicWord basic.Int)
-    else (if k == 17 then Some (BasicWord basic.Long)
-    else (if k == 18 then Some (StorageWord storage.Register)
-    else (if k == 20 then Some (BasicWord basic.Short)
-    else (if k == 21 then Some (BasicWord basic.Signed)
-    else (if k == 23 then Some (StorageWord storage.Static)
-    else (if k == 24 then Some (RecordWord record_kind.Struct)
-    else (if k == 26 then Some (StorageWord storage.Typedef)
-    else (if k == 27 then Some (RecordWord record_kind.Union)
-    else (if k == 28 then Some (BasicWord basic.Unsigned)
-    else (if k == 29 then Some (BasicWord basic.Void)
-    else (if k == 30 then Some (QualifierWord qualifier.Volatile) else None))))))))))))))))))
+    if k == auto_word then Some (StorageWord storage.Auto)
+    else (if k == char_word then Some (BasicWord basic.Char)
+    else (if k == const_word then Some (QualifierWord qualifier.Const)
+    else (if k == double_word then Some (BasicWord basic.Double)
+    else (if k == enum_word then Some EnumWord
+    else (if k == extern_word then Some (StorageWord storage.Extern)
+    else (if k == float_word then Some (BasicWord basic.Float)
+    else (if k == int_word then Some (BasicWord basic.Int)
+    else (if k == long_word then Some (BasicWord basic.Long)
+    else (if k == register_word then Some (StorageWord storage.Register)
+    else (if k == short_word then Some (BasicWord basic.Short)
+    else (if k == signed_word then Some (BasicWord basic.Signed)
+    else (if k == static_word then Some (StorageWord storage.Static)
+    else (if k == struct_word then Some (RecordWord record_kind.Struct)
+    else (if k == typedef_word then Some (StorageWord storage.Typedef)
+    else (if k == union_word then Some (RecordWord record_kind.Union)
+    else (if k == unsigned_word then Some (BasicWord basic.Unsigned)
+    else (if k == void_word then Some (BasicWord basic.Void)
+    else (if k == volatile_word then Some (QualifierWord qualifier.Volatile) else None))))))))))))))))))
 
 abbrev pub prefix_of : ℕ → Option PrefixOperator
 prefix_of k =
-    if k == 8 then Some prefix.Increment
-    else (if k == 9 then Some prefix.Decrement
-    else (if k == 10 then Some prefix.Address
-    else (if k == 11 then Some prefix.Indirect
-    else (if k == 12 then Some prefix.Plus
-    else (if k == 13 then Some prefix.Minus
-    else (if k == 14 then Some prefix.Complement
-    else (if k == 15 then Some prefix.Not else None)))))))
+    if k == increment_sign then Some prefix.Increment
+    else (if k == decrement_sign then Some prefix.Decrement
+    else (if k == ampersand then Some prefix.Address
+    else (if k == star_sign then Some prefix.Indirect
+    else (if k == plus_sign then Some prefix.Plus
+    else (if k == minus_sign then Some prefix.Minus
+    else (if k == tilde then Some prefix.Complement
+    else (if k == exclamation_mark then Some prefix.Not else None)))))))

@@ -1,3 +1,4 @@
+mod examples
 pub mod Equations
 pub mod Growing
 pub mod Alike

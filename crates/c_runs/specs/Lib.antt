@@ -11,12 +11,4 @@ pub mod Room
 pub mod Laws
 pub mod Soundness
 pub mod Locals
-pub mod RowExamples
 pub mod Samples
-pub mod CauseExamples
-pub mod ExpressionExamples
-pub mod StatementExamples
-pub mod CallExamples
-pub mod CountExamples
-pub mod LocalExamples
-pub mod RunExamples

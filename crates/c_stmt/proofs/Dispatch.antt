@@ -5,7 +5,7 @@ use Rattle.c_ast.specs.Marks.{IsLabel, IsSign}
 use Rattle.c_ast.specs.Trees.{Compound}
 use Rattle.c_expr.specs.declared.syntax_fault.SyntaxFault.{SyntaxFault}
 use Rattle.c_decl.specs.Going.{Fails}
-use Rattle.c_decl.specs.GoingLaws.{err}
+use Rattle.c_decl.proofs.lemmas.GoingLaws.{err}
 use Rattle.c_readings.specs.Reading.{State, Read, answer, beyond, bind, gives, here, open_state}
 use Rattle.c_readings.specs.Readers.{Readers}
 use Rattle.c_readings.specs.StatementReaders.{StatementWord, word_at, statement, statement_above, labelled, by_word, compound, block_inside, evaluate}

@@ -8,7 +8,7 @@ use Rattle.c_readings.specs.Reading.{State, Read, answer, bind, gives, reopen_st
 use Rattle.c_readings.specs.Readers.{readers}
 use Rattle.c_readings.specs.UnitReaders.{function, function_body}
 use Rattle.c_decl.specs.OldParameters.{old_parameters}
-use Rattle.c_decl.specs.OldParametersLaws.{none_behind}
+use Rattle.c_decl.proofs.lemmas.OldParametersLaws.{none_behind}
 
 -- a specifier is no brace
 no_brace_by : (names : InForce) (l : Lexeme) → is_specifier names false l ≡ true → is_sign 4 l ≡ false

@@ -49,15 +49,15 @@ pub form_expression : (e : _) (line : ℕ) → statement_form_seen (statement_fo
 unfolding statement_form_seen
 form_expression e line = ap (λ (g : ℕ → StatementTree). g line) (is_expression e) ∙ ap (Evaluate line) (any_expr e)
 
-pub form_block : (b : _) (line : ℕ) → statement_form_seen (statement_form.Block b) line ≡ Compound line (block_seen b)
+pub form_block : (b : _) (line : ℕ) → statement_form_seen (statement_form.Block b) line ≡ Compound line (block_seen b.value)
 unfolding statement_form_seen block_seen
 form_block b line = ap (λ (g : ℕ → StatementTree). g line) (is_block b)
 
-pub form_if : (e : _) (s : _) (line : ℕ) → statement_form_seen (statement_form.If e s None) line ≡ If line (expr_seen e) (statement_seen s.value)
+pub form_if : (e : _) (s : _) (line : ℕ) → statement_form_seen (statement_form.If e s None) line ≡ If line (expr_seen e.value) (statement_seen s.value)
 unfolding statement_form_seen statement_seen expr_seen
 form_if e s line = ap (λ (g : ℕ → StatementTree). g line) (is_if e s)
 
-pub form_if_else : (e : _) (s : _) (t : _) (line : ℕ) → statement_form_seen (statement_form.If e s (Some t)) line ≡ IfElse line (expr_seen e) (statement_seen s.value) (statement_seen t.value)
+pub form_if_else : (e : _) (s : _) (t : _) (line : ℕ) → statement_form_seen (statement_form.If e s (Some t)) line ≡ IfElse line (expr_seen e.value) (statement_seen s.value) (statement_seen t.value)
 unfolding statement_form_seen statement_seen expr_seen
 form_if_else e s t line = ap (λ (g : ℕ → StatementTree). g line) (is_if_else e s t)
 

@@ -4,6 +4,7 @@ ghost use Rattle.c_ast.specs.Marks.{IsSign};
 ghost use Rattle.c_ast.specs.UnitMarks.{maybe_typedef as has_any_typedef};
 ghost use Rattle.c_ast.specs.UnitViews.{option_of};
 ghost use Rattle.c_ast.specs.Seen.{declarator_seen, specifiers_seen};
+ghost use Rattle.c_ast.specs.Signs.{semicolon};
 ghost use Rattle.c_readings.specs.Reading.{answer, beyond};
 ghost use Rattle.c_readings.specs.Readers.{readers};
 ghost use Rattle.c_readings.specs.UnitReaders as reader;
@@ -81,7 +82,7 @@ fn declares_none_at(
 ) -> Result<External, SyntaxFault>
     requires sound { p.old.fault ≡ None }
     requires limit { limit ≤ 500 }
-    requires next { answer (IsSign 32) (ahead p.old) ≡ true }
+    requires next { answer (IsSign semicolon) (ahead p.old) ≡ true }
     ensures ok { IfOk result (λ x. reader.declares_none limit line (option_of specifiers_seen specifiers) (beyond (ahead p.old)) ≡ Some (external_seen x, ahead p.new)) }
     ensures none { IfErr result (λ e. Fails e (reader.declares_none limit line (option_of specifiers_seen specifiers) (beyond (ahead p.old)))) }
     ensures going { IfOk result (λ x. Goes 1 p.old p.new) }

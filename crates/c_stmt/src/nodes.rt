@@ -59,8 +59,8 @@ pub(crate) fn evaluate(line: u32, expression: Option<Expr>) -> Statement
 
 /// A block.
 #[tactic(auto, using(crate::proofs::SeenNodes::statement_forms))]
-pub(crate) fn compound(line: u32, block: Block) -> Statement
-    ensures { statement_seen result ≡ Compound line (block_seen block) }
+pub(crate) fn compound(line: u32, block: Box<Block>) -> Statement
+    ensures { statement_seen result ≡ Compound line (block_seen block.value) }
 {
     Statement {
         line,
@@ -70,8 +70,8 @@ pub(crate) fn compound(line: u32, block: Block) -> Statement
 
 /// An `if` with no `else`.
 #[tactic(auto, using(crate::proofs::SeenNodes::statement_forms))]
-pub(crate) fn choice(line: u32, condition: Expr, inner: Box<Statement>) -> Statement
-    ensures { statement_seen result ≡ If line (expr_seen condition) (statement_seen inner.value) }
+pub(crate) fn choice(line: u32, condition: Box<Expr>, inner: Box<Statement>) -> Statement
+    ensures { statement_seen result ≡ If line (expr_seen condition.value) (statement_seen inner.value) }
 {
     Statement {
         line,
@@ -83,11 +83,11 @@ pub(crate) fn choice(line: u32, condition: Expr, inner: Box<Statement>) -> State
 #[tactic(auto, using(crate::proofs::SeenNodes::statement_forms))]
 pub(crate) fn choices(
     line: u32,
-    condition: Expr,
+    condition: Box<Expr>,
     inner: Box<Statement>,
     other: Box<Statement>,
 ) -> Statement
-    ensures { statement_seen result ≡ IfElse line (expr_seen condition) (statement_seen inner.value) (statement_seen other.value) }
+    ensures { statement_seen result ≡ IfElse line (expr_seen condition.value) (statement_seen inner.value) (statement_seen other.value) }
 {
     Statement {
         line,

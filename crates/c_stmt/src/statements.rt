@@ -3,6 +3,7 @@ ghost use Rattle.std.specs.Prelude.{◌≡◌, ◌≤◌, not, map, None, Some, 
 ghost use Rattle.c_ast.specs.Marks.{IsSign};
 ghost use Rattle.c_ast.specs.Trees.{Compound};
 ghost use Rattle.c_ast.specs.Seen.{expr_seen};
+ghost use Rattle.c_ast.specs.Signs.{close_brace};
 ghost use Rattle.c_readings.specs.Reading.{answer, bind, gives, open_state};
 ghost use Rattle.c_readings.specs.Readers.{readers};
 ghost use Rattle.c_readings.specs.StatementReaders as reader;
@@ -204,11 +205,12 @@ fn if_at(p: &mut Parser, limit: u32, line: u32) -> Result<Statement, SyntaxFault
     ensures broken { IfErr result (λ e. Breaks p.old p.new e) }
 {
     let guarded = guarded_at(p, limit)?;
+    let condition = boxed(p, guarded.condition)?;
     if takes_keyword(p, keyword::ELSE) {
         let other = inner_at(p, limit)?;
-        return Ok(choices(line, guarded.condition, guarded.inner, other));
+        return Ok(choices(line, condition, guarded.inner, other));
     }
-    Ok(choice(line, guarded.condition, guarded.inner))
+    Ok(choice(line, condition, guarded.inner))
 }
 
 /// What stands behind `do`.
@@ -278,12 +280,13 @@ fn compound_at(p: &mut Parser, limit: u32, line: u32) -> Result<Statement, Synta
 {
     open_scope(p)?;
     let block = block_inside(p, limit, line)?;
+    let block = boxed(p, block)?;
     Ok(compound(line, block))
 }
 
 /// Whether another statement stands before the `}` of a block.
 fn goes_on(p: &Parser) -> bool
-    ensures { result ≡ not (answer (IsSign 5) (ahead p.now)) }
+    ensures { result ≡ not (answer (IsSign close_brace) (ahead p.now)) }
 {
     !is_sign(p, sign::CLOSE_BRACE)
 }

@@ -11,8 +11,8 @@ use Rattle.c_meaning.specs.State.{State}
 use Rattle.c_meaning.specs.Typing.{Outcome, Fine, then_do}
 use Rattle.c_values.specs.declared.check_fault.CheckFault.{CheckFault}
 use Rattle.c_check_expr.specs.Known.{AreSymbolsIn, state_of}
-use Rattle.c_check_expr.specs.Walking.{passed, walk_stop}
-use Rattle.c_check_expr.specs.WalkLists.{Going, folded, going_ends, going_on, going_starts, going_stops, then_fine, then_same, then_then}
+use Rattle.c_check_expr.proofs.lemmas.Walking.{passed, walk_stop}
+use Rattle.c_check_expr.proofs.lemmas.WalkLists.{Going, folded, going_ends, going_on, going_starts, going_stops, then_fine, then_same, then_then}
 use Rattle.c_check_expr.specs.Walks.{Walks}
 use Rattle.c_units.specs.Bodies.{typed_declarations}
 use Rattle.c_check_decl.specs.declared.declares.Declares.{Declares}

@@ -122,15 +122,15 @@ plain_marks n v (inr (inr (inr (inr h)))) = leaf_marks v _ _ h.1 (form_return h.
 
 -- ---- an `if`, perhaps with an `else`
 
-if_labels : (v : Statement) (e : Expr) (s : Box Statement) (o : Option (Box Statement)) (n : ℕ) → (out-Statement v).form ≡ form.If e s o → labels n (statement_seen v) ≡ labels n (statement_seen s.value) ++ else_labels (n + marks (statement_seen s.value)) o
+if_labels : (v : Statement) (e : Box Expr) (s : Box Statement) (o : Option (Box Statement)) (n : ℕ) → (out-Statement v).form ≡ form.If e s o → labels n (statement_seen v) ≡ labels n (statement_seen s.value) ++ else_labels (n + marks (statement_seen s.value)) o
 if_labels v e s None n i = ap (labels n) (seen_by v _ _ i (form_if e s (out-Statement v).line)) ∙ sym (append-nil (labels n (statement_seen s.value)))
 if_labels v e s (Some u) n i = ap (labels n) (seen_by v _ _ i (form_if_else e s u (out-Statement v).line))
 
-if_marks : (v : Statement) (e : Expr) (s : Box Statement) (o : Option (Box Statement)) → (out-Statement v).form ≡ form.If e s o → marks (statement_seen v) ≡ marks (statement_seen s.value) + else_marks o
+if_marks : (v : Statement) (e : Box Expr) (s : Box Statement) (o : Option (Box Statement)) → (out-Statement v).form ≡ form.If e s o → marks (statement_seen v) ≡ marks (statement_seen s.value) + else_marks o
 if_marks v e s None i = let k : marks (statement_seen v) ≡ marks (statement_seen s.value) = ap marks (seen_by v _ _ i (form_if e s (out-Statement v).line)) in omega arith
 if_marks v e s (Some u) i = ap marks (seen_by v _ _ i (form_if_else e s u (out-Statement v).line))
 
-module _ (v : Statement) (e : Expr) (s : Box Statement) (o : Option (Box Statement)) (i : (out-Statement v).form ≡ form.If e s o) (x : Statement) (same : statement_seen x ≡ statement_seen s.value) where
+module _ (v : Statement) (e : Box Expr) (s : Box Statement) (o : Option (Box Statement)) (i : (out-Statement v).form ≡ form.If e s o) (x : Statement) (same : statement_seen x ≡ statement_seen s.value) where
   pub both_labels : (found mid new : List (List ℕ × ℕ)) (n m : ℕ) → mid ≡ firsts found (labels n (statement_seen x)) → m ≡ n + marks (statement_seen x) → new ≡ firsts mid (else_labels m o) → new ≡ firsts found (labels n (statement_seen v))
   both_labels found mid new n m d k g =
       g ∙ ap (λ ls. firsts ls (else_labels m o)) (d ∙ ap (λ u. firsts found (labels n u)) same)

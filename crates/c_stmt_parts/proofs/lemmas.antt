@@ -5,3 +5,5 @@ pub mod BlockWalks
 pub mod HeadWalks
 pub mod BehindWalks
 pub mod FormWalks
+pub mod StatementLayers
+pub mod BodiesStay

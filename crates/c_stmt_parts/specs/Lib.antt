@@ -5,5 +5,3 @@ pub mod BodiesSeen
 pub mod StatementsIn
 pub mod Asked
 pub mod Heads
-pub mod StatementLayers
-pub mod BodiesStay

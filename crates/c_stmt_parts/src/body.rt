@@ -132,3 +132,18 @@ pub fn push_all<T: Drop>(items: &mut Items<T>, more: Items<T>) -> Result<(), Mem
     }
     Ok(())
 }
+
+/// Items behind others, in the memory of the last ones, which may be many.
+pub fn behind<T: Drop>(first: Items<T>, more: Items<T>) -> Result<Items<T>, Memory>
+    ensures { IfOk result (λ all. all ≡ first ++ more) }
+{
+    if first.is_empty() {
+        return Ok(more);
+    }
+    let count = first.len();
+    let mut all = more;
+    push_all(&mut all, first)?;
+    let mut list = all.into_vec();
+    list.rotate_right(count);
+    Ok(Items::from_vec(list))
+}

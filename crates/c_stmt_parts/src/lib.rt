@@ -13,7 +13,7 @@ mod tests;
 
 pub use around::{Around, Within};
 pub use block_declarations::declarations;
-pub use body::{Body, push_all};
+pub use body::{Body, behind, push_all};
 pub use cases::Cases;
 pub use label_numbers::labels;
 pub use leaves::{break_, case, continue_, default, goto, is_again, label, number_of};

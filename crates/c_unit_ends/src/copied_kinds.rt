@@ -1,7 +1,7 @@
 //! Kinds of expressions, copied.
 ghost use Rattle.std.specs.Prelude.{◌≡◌, IfOk};
 
-use c_meaning::CoreKind;
+use c_meaning::{CoreKind, LiteralText};
 use lcc_base::{Bytes, Memory};
 use std::alloc::Global;
 
@@ -10,7 +10,10 @@ pub(crate) fn copied(alloc: Global, what: &CoreKind) -> Result<CoreKind, Memory>
     ensures { IfOk result (λ k. k ≡ what.now) }
 {
     match what {
-        CoreKind::Literal(text) => Ok(CoreKind::Literal(Bytes::copied(alloc, text.as_slice())?)),
+        CoreKind::Literal(text) => {
+            let bytes = Bytes::copied(alloc, text.as_slice())?;
+            Ok(CoreKind::Literal(LiteralText::new(alloc, bytes)?))
+        }
         CoreKind::Local { place, register } => Ok(CoreKind::Local {
             place: *place,
             register: *register,

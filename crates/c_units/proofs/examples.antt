@@ -1,3 +1,4 @@
 pub mod StatementExamples
 pub mod DefinitionExamples
 pub mod EndExamples
+mod UnitExamples

@@ -11,4 +11,3 @@ pub mod BodiesRelation
 pub mod UnitsRelation
 pub mod UnitNodes
 pub mod UnitSamples
-pub mod UnitExamples

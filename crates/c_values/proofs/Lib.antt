@@ -1,3 +1,4 @@
+pub mod lemmas
 mod Valuing
 mod Folding
 mod Integers

@@ -1,8 +1,6 @@
 pub mod Valued
 pub mod Folding
 pub mod Signs
-pub mod ManyValues
-pub mod Qualified
 pub mod Stays
 pub mod PlainTypes
 pub mod TooDeep

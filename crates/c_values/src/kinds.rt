@@ -196,7 +196,7 @@ pub fn conversion(types: &TypeTable, id: TypeId) -> Conversion
     }
 }
 
-#[tactic(auto, using(crate::specs::Qualified::extent_qualify))]
+#[tactic(auto, using(crate::proofs::lemmas::Qualified::extent_qualify))]
 /// Whether an object of the type has a size: it is neither a function nor incomplete.
 pub fn has_size(types: &TypeTable, of: QualifiedType) -> bool
     requires { of.of < length types.now.forms }

@@ -66,7 +66,7 @@ filled_texts (p ∷ ps) = ap (λ ts. texts_of_expr p.value ++ ts) (filled_texts 
 pub initialise_texts : (local : ℕ) (zero : Bool) (ps : List FilledPlace) → texts_of_stmt (stmt.Initialise local zero ps) ≡ texts_of_places ps
 initialise_texts local zero ps = layer _ _ (is_initialise local zero ps) ∙ filled_texts ps
 
-pub if_texts : (e : CoreOf ℕ) (s u : Box CoreStmt) → texts_of_stmt (stmt.If e s u) ≡ texts_of_expr e ++ texts_of_stmt s.value ++ texts_of_stmt u.value
+pub if_texts : (e : Box (CoreOf ℕ)) (s u : Box CoreStmt) → texts_of_stmt (stmt.If e s u) ≡ texts_of_expr e.value ++ texts_of_stmt s.value ++ texts_of_stmt u.value
 if_texts e s u = layer _ _ (is_if e s u)
 
 pub while_texts : (e : CoreOf ℕ) (s : Box CoreStmt) → texts_of_stmt (stmt.While e s) ≡ texts_of_expr e ++ texts_of_stmt s.value
@@ -78,7 +78,7 @@ do_texts s e = layer _ _ (is_do s e)
 pub for_texts : (h : Box CoreForHead) (s : Box CoreStmt) → texts_of_stmt (stmt.For h s) ≡ texts_of_some h.value.first ++ texts_of_some h.value.test ++ texts_of_some h.value.last ++ texts_of_stmt s.value
 for_texts h s = layer _ _ (is_for h s)
 
-pub switch_texts : (e : CoreOf ℕ) (cases : List CoreCase) (default : Option ℕ) (s : Box CoreStmt) → texts_of_stmt (stmt.Switch e cases default s) ≡ texts_of_expr e ++ texts_of_stmt s.value
+pub switch_texts : (e : Box (CoreOf ℕ)) (cases : List CoreCase) (default : Option ℕ) (s : Box CoreStmt) → texts_of_stmt (stmt.Switch e cases default s) ≡ texts_of_expr e.value ++ texts_of_stmt s.value
 switch_texts e cases default s = layer _ _ (is_switch e cases default s)
 
 -- a statement whose parts' literals are noted in turn

@@ -63,10 +63,10 @@ module _ (most left : ℕ) (less : left + 1 ≡ most) where
     for_counted t s a b c h =
         subst (IsCounted most end') (sym (is_for t s)) (λ f. (let e = (h f).0 in omega (arith, e, less), (some_words f t.value.first a, (some_words f t.value.test b, (some_words f t.value.last c, (h f).1)))))
 
-    pub switch_counted : (e : CoreOf ℕ) (cases : List CoreCase) (default : Option ℕ) (s : Box CoreStmt) → ExprHasWords e → IsCounted left end' (stmt_of s.value) → IsCounted most end' (stmt_of (stmt.Switch e cases default s))
+    pub switch_counted : (e : Box (CoreOf ℕ)) (cases : List CoreCase) (default : Option ℕ) (s : Box CoreStmt) → ExprHasWords e.value → IsCounted left end' (stmt_of s.value) → IsCounted most end' (stmt_of (stmt.Switch e cases default s))
     switch_counted e cases default s w h = subst (IsCounted most end') (sym (is_switch e cases default s)) (λ f. (let e = (h f).0 in omega (arith, e, less), (w f, (h f).1)))
 
-    pub if_counted : (between : ℕ) (e : CoreOf ℕ) (s t : Box CoreStmt) → ExprHasWords e → IsCounted left between (stmt_of s.value) → IsCounted between end' (stmt_of t.value) → IsCounted most end' (stmt_of (stmt.If e s t))
+    pub if_counted : (between : ℕ) (e : Box (CoreOf ℕ)) (s t : Box CoreStmt) → ExprHasWords e.value → IsCounted left between (stmt_of s.value) → IsCounted between end' (stmt_of t.value) → IsCounted most end' (stmt_of (stmt.If e s t))
     if_counted between e s t w h k =
         subst (IsCounted most end') (sym (is_if e s t)) (λ f. (let a = (h f).0 in let b = (k f).0 in omega (arith, a, b, less), (w f, ((h f).1, (k f).1))))
 

@@ -11,10 +11,10 @@ use Rattle.c_meaning.specs.declared.core_stmt.CoreForHead.{CoreForHead}
 use Rattle.c_meaning.specs.declared.core_stmt.CoreStmt.{CoreStmt}
 use Rattle.c_meaning.specs.declared.core_stmt.CoreStmt.TheVariants as stmt
 use Rattle.c_meaning.specs.Copies.{maybe, expressions, copies_in, all_copies}
-use Rattle.c_meaning.specs.CoreTrees.{CoreOf}
+use Rattle.c_meaning.specs.CoreTrees.{CoreOf, seen}
 use Rattle.c_meaning.specs.StmtTrees.{FilledOf, StmtOf, Initialise, If, While, Do, For, Switch, Label, IsStmtIn, filled_of, maybe_seen, place_seen, stmt_of, stmt_seen}
 use Rattle.c_meaning.specs.Values.{CoreTree}
-use Rattle.c_units.specs.Wholes.{some_copies, stmt_copies, placed, some_placed, placed_stmt, some_whole, whole_places, whole_stmt}
+use Rattle.c_units.specs.Wholes.{some_copies, stmt_copies, placed, some_placed, placed_stmt, some_whole, whole, whole_places, whole_stmt}
 use Rattle.c_wholes.specs.Placing.{Grows, Placing, IsPlaced, ArePlacesPlaced, IsHeadPlaced, IsStmtPlaced}
 use Rattle.c_wholes.proofs.KindTrees.{filled_seen}
 use Rattle.c_wholes.proofs.Layers.{is_initialise, is_if, is_while, is_do, is_for, is_switch, is_label}
@@ -57,7 +57,7 @@ module _ (t : Table) where
         is_in = (p.is_in, q.is_in);
       })
 
-  pub switch_placed : (a b c : List ℕ) (e : CoreTree) (cases : List CoreCase) (default : Option ℕ) (s : StmtOf CType) (d : CoreOf ℕ) (u : Box CoreStmt) → IsPlaced t a b e d → IsStmtPlaced t b c s u.value → IsStmtPlaced t a c (Switch e cases default s) (stmt.Switch d cases default u)
+  pub switch_placed : (a b c : List ℕ) (e : CoreTree) (cases : List CoreCase) (default : Option ℕ) (s : StmtOf CType) (d : Box (CoreOf ℕ)) (u : Box CoreStmt) → IsPlaced t a b e d.value → IsStmtPlaced t b c s u.value → IsStmtPlaced t a c (Switch e cases default s) (stmt.Switch d cases default u)
   switch_placed a b c e cases default s d u p q =
       layered a c (Switch e cases default s) _ _ (is_switch d cases default u)
       (record {
@@ -77,7 +77,7 @@ module _ (t : Table) where
         is_in = (p.is_in, q.is_in);
       })
 
-  pub if_placed : (a b c d : List ℕ) (e : CoreTree) (s u : StmtOf CType) (x : CoreOf ℕ) (y z : Box CoreStmt) → IsPlaced t a b e x → IsStmtPlaced t b c s y.value → IsStmtPlaced t c d u z.value → IsStmtPlaced t a d (If e s u) (stmt.If x y z)
+  pub if_placed : (a b c d : List ℕ) (e : CoreTree) (s u : StmtOf CType) (x : Box (CoreOf ℕ)) (y z : Box CoreStmt) → IsPlaced t a b e x.value → IsStmtPlaced t b c s y.value → IsStmtPlaced t c d u z.value → IsStmtPlaced t a d (If e s u) (stmt.If x y z)
   if_placed a b c d e s u x y z p q r =
       let m = count t _ a b p.grows in
       let n = count t _ b c q.grows ∙ ap (λ k. k + stmt_copies s) m in
@@ -126,6 +126,9 @@ initialise_seen t meant texts a b local zero ps qs p =
 -- ---- from where the parts stood
 
 module _ (t : Table) (meant : ℕ → CoreKind) (texts : List (List ℕ)) where
+  pub from_value : (a b : List ℕ) (x y d : CoreOf ℕ) → x ≡ y → IsPlaced t a b (whole meant texts (seen (type_at t) x)) d → IsPlaced t a b (whole meant texts (seen (type_at t) y)) d
+  from_value a b x y d e p = subst (λ z. IsPlaced t a b (whole meant texts (seen (type_at t) z)) d) e p
+
   pub from_head : (a b : List ℕ) (x y d : CoreForHead) → x ≡ y → IsHeadPlaced t a b (some_whole meant texts) x d → IsHeadPlaced t a b (some_whole meant texts) y d
   from_head a b x y d e p = subst (λ z. IsHeadPlaced t a b (some_whole meant texts) z d) e p
 

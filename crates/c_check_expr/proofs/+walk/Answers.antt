@@ -25,7 +25,7 @@ use Rattle.c_check_expr.proofs.WalkParts.{enumeration_stops, line_goes, line_sto
 use Rattle.c_check_expr.specs.Kept.{below_later, keeps_itself, keeps_on}
 use Rattle.c_check_expr.proofs.WalkStays.{members_later}
 use Rattle.c_check_expr.proofs.WalkFields.{enumerator_goes, enumerator_stops, enumerator_stops_behind, field_goes, field_stops, field_stops_node, field_stops_second, prototype_goes, prototype_stops}
-use Rattle.c_check_expr.specs.Walking.{memory_stops}
+use Rattle.c_check_expr.proofs.lemmas.Walking.{memory_stops}
 use Rattle.c_check_expr.proofs.WalkTypes.{maybe_goes, maybe_none, maybe_stops, name_goes as type_name_goes, name_stops, name_stops_second, shape_goes, shape_none, shape_stops, specifiers_go, specifiers_stop}
 use Rattle.c_check_expr.proofs.+walk.Goals as goal
 
@@ -69,7 +69,7 @@ pub walk_expr::expression-returns-in-Comma : goal.walk_expr::expression-returns-
 walk_expr::expression-returns-in-Comma t c = let e = c.args.e.now in let h = c.in-Comma in seen_as e _ _ h.is (cc (form_comma h.parts e.line)) c.comma.ensures
 
 pub walk_expr::expression-returns-in_err-a-in-Member : goal.walk_expr::expression-returns-in_err-a-in-Member
-walk_expr::expression-returns-in_err-a-in-Member t c = let e = c.args.e.now in let x = expr_seen c.deref-in-Member.result.now in let h = c.in-Member in seen_as e _ _ h.is (cc (form_selected h.op h.a h.name e.line)) (one_stops (Selected e.line h.op x h.name) x e.line (λ y. node.Select h.op y h.name) (λ m. refl) c.from_residual.result c.from_residual.ensures.1 c.in_err-a-in-Member.ensures)
+walk_expr::expression-returns-in_err-a-in-Member t c = let e = c.args.e.now in let x = expr_seen c.deref-in-Member.result.now in let h = c.in-Member in seen_as e _ _ h.is (cc (form_selected h.op h.a h.name e.line)) (one_stops (Selected e.line h.op x h.name.value) x e.line (λ y. node.Select h.op y h.name.value) (λ m. refl) c.from_residual.result c.from_residual.ensures.1 c.in_err-a-in-Member.ensures)
 
 pub walk_expr::expression-returns-in_ok-a-in-Member : goal.walk_expr::expression-returns-in_ok-a-in-Member
 walk_expr::expression-returns-in_ok-a-in-Member t c = let e = c.args.e.now in let x = expr_seen c.deref-in-Member.result.now in let n = c.as_slice-in-Member.result.now in let h = c.in-Member in seen_as e _ _ h.is (cc (form_selected h.op h.a h.name e.line)) (one_goes (Selected e.line h.op x n) x e.line (λ y. node.Select h.op y n) (λ m. refl) c.in_ok-a-in-Member.ensures (record { ok = c.select.ensures.ok; err = c.select.ensures.err; within = c.select.ensures.within; grows = c.select.ensures.grows }))

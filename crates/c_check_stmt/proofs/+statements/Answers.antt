@@ -18,8 +18,8 @@ use Rattle.c_check_expr.specs.Walks.{core}
 use Rattle.c_units.specs.Bodies.{done, is_case_again, with_case, with_cases}
 use Rattle.c_units.specs.Statements as node
 use Rattle.c_stmt_parts.specs.BodiesSeen.{around_seen, body_in, within_in}
-use Rattle.c_stmt_parts.specs.BodiesStay.{body_stays}
-use Rattle.c_stmt_parts.specs.StatementLayers.{nothing_seen, nothing_within}
+use Rattle.c_stmt_parts.proofs.lemmas.BodiesStay.{body_stays}
+use Rattle.c_stmt_parts.proofs.lemmas.StatementLayers.{nothing_seen, nothing_within}
 use Rattle.c_stmt_parts.specs.StatementsSeen.{block_seen, form_block, form_break, form_case, form_continue, form_default, form_do, form_expression, form_for, form_goto, form_if, form_if_else, form_label, form_return, form_switch, form_while, statement_seen}
 use Rattle.c_stmt_parts.proofs.lemmas.BehindWalks.{do_stops, do_stops_behind, if_stops, if_stops_behind, if_stops_inside}
 use Rattle.c_stmt_parts.proofs.lemmas.BlockWalks.{block_as, block_goes, block_stops, block_stops_second, compound_goes, is_more}

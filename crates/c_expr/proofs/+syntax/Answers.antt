@@ -10,7 +10,7 @@ use Rattle.c_expr.specs.Links.{seen_kind}
 use Rattle.c_ast.specs.Seen.{expr_seen, specifier_seen, member_seen, field_seen, enumerator_seen, suffix_seen, parameter_seen}
 use Rattle.c_expr.proofs.Exits.{err, if_err, passed, limit_is, whole_alone, whole_high}
 use Rattle.c_expr.proofs.Chained.{chain_go, chain_stop, chain_high, chain_end, linked_high, most_next, most_one}
-use Rattle.c_readings.specs.Loops.{starts_behind, goes, stops, ends, commas_go, commas_stop, commas_end, before_none, seen_more, one_longer}
+use Rattle.c_readings.proofs.lemmas.Loops.{starts_behind, goes, stops, ends, commas_go, commas_stop, commas_end, before_none, seen_more, one_longer}
 use Rattle.c_expr.proofs.Loops.{filled, emptied, some_specified, fewer}
 use Rattle.c_expr.proofs.+syntax.Goals as goal
 

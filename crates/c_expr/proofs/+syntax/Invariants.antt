@@ -10,7 +10,7 @@ use Rattle.c_readings.specs.Readers.{readers, specifiers, specifier, some_specif
 use Rattle.c_expr.specs.Answers.{at, comma_end, dots_end}
 use Rattle.c_ast.specs.Seen.{expr_seen, specifier_seen, member_seen, field_seen, enumerator_seen, suffix_seen, parameter_seen}
 use Rattle.c_expr.proofs.Chained.{ChainLeft}
-use Rattle.c_readings.specs.Loops.{Left, CommasLeft}
+use Rattle.c_readings.proofs.lemmas.Loops.{Left, CommasLeft}
 use Rattle.c_expr.proofs.+syntax.Given as goal
 
 abbrev pub decreases-heads::head_at : goal.decreases-heads::head_at

@@ -25,7 +25,7 @@ use Rattle.c_units.specs.Statements as node
 use Rattle.c_stmt_parts.specs.declared.around.Within.{Within}
 use Rattle.c_stmt_parts.specs.declared.body.Body.{Body}
 use Rattle.c_stmt_parts.specs.BodiesSeen.{IsBodyIn, body_in, within_in}
-use Rattle.c_stmt_parts.specs.BodiesStay.{body_stays, within_stays}
+use Rattle.c_stmt_parts.proofs.lemmas.BodiesStay.{body_stays, within_stays}
 use Rattle.c_stmt_parts.specs.StatementsIn.{WalksStmt, code_in, statement_in}
 use Rattle.c_stmt_parts.proofs.lemmas.StatementNodes.{do_is, if_else_is}
 use Rattle.c_stmt_parts.proofs.lemmas.StatementWalks.{Parts, inner_goes, inner_stops, part_stops, parts_stop_inside, single_stops, walk_nothing}

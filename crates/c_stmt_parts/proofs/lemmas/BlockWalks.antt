@@ -20,7 +20,7 @@ use Rattle.c_meaning.specs.declared.core_stmt.CoreStmt.TheVariants as stmt
 use Rattle.c_values.specs.declared.check_fault.CheckFault.{CheckFault}
 use Rattle.c_check_expr.specs.Keeps.{Keeps}
 use Rattle.c_check_expr.specs.Known.{state_of}
-use Rattle.c_check_expr.specs.Walking.{first_stops, passed, tells_first, walk_as, walk_then}
+use Rattle.c_check_expr.proofs.lemmas.Walking.{first_stops, passed, tells_first, walk_as, walk_then}
 use Rattle.c_check_expr.specs.Walks.{Walks}
 use Rattle.c_check_decl.specs.declared.declares.Declares.{Declares}
 use Rattle.c_check_decl.specs.Declares.{AreDeclaredIn, AreFillsIn, declares_in, stmt_in}
@@ -30,9 +30,9 @@ use Rattle.c_units.specs.Statements.{Around as AroundTrees}
 use Rattle.c_stmt_parts.specs.declared.around.Within.{Within}
 use Rattle.c_stmt_parts.specs.declared.body.Body.{Body}
 use Rattle.c_stmt_parts.specs.BodiesSeen.{IsBodyIn, body_in, within_in}
-use Rattle.c_stmt_parts.specs.BodiesStay.{body_stays, within_stays}
-use Rattle.c_stmt_parts.specs.StatementLayers.{block_within}
-use Rattle.c_stmt_parts.specs.StatementLayers as layer
+use Rattle.c_stmt_parts.proofs.lemmas.BodiesStay.{body_stays, within_stays}
+use Rattle.c_stmt_parts.proofs.lemmas.StatementLayers.{block_within}
+use Rattle.c_stmt_parts.proofs.lemmas.StatementLayers as layer
 use Rattle.c_stmt_parts.specs.StatementsIn.{AreStmtsBelow, IsCodeIn, WalksStmt, WalksStmts, block_in, code_in, codes_in, declarations_in, statement_in, statements_in, stmts_in, with_body}
 use Rattle.c_stmt_parts.specs.StatementsSeen.{block_parts, block_seen, statement_seen}
 use Rattle.c_stmt_parts.proofs.lemmas.StatementLists.{below_behind}

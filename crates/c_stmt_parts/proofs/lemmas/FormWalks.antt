@@ -15,7 +15,7 @@ use Rattle.c_values.specs.Stays.{grows_itself}
 use Rattle.c_values.specs.declared.check_fault.CheckFault.{CheckFault}
 use Rattle.c_check_expr.specs.Known.{AreSymbolsIn, state_of}
 use Rattle.c_check_expr.specs.Kept.{keeps_itself}
-use Rattle.c_check_expr.specs.Walking.{walk_as}
+use Rattle.c_check_expr.proofs.lemmas.Walking.{walk_as}
 use Rattle.c_meaning.specs.Typing.{Fine}
 use Rattle.c_check_decl.specs.Declares.{stmt_in}
 use Rattle.c_units.specs.Bodies.{Body as BodyTrees, Typed, Within as WithinTrees, at_stmt, done, goto}
@@ -25,7 +25,7 @@ use Rattle.c_stmt_parts.specs.declared.around.Within.{Within}
 use Rattle.c_stmt_parts.specs.declared.body.Body.{Body}
 use Rattle.c_stmt_parts.specs.Asked.{IsSound, IsToldAt}
 use Rattle.c_stmt_parts.specs.BodiesSeen.{IsBodyIn, body_in, within_in}
-use Rattle.c_stmt_parts.specs.StatementLayers.{break_seen, break_within, continue_seen, continue_within, nothing_seen, nothing_within}
+use Rattle.c_stmt_parts.proofs.lemmas.StatementLayers.{break_seen, break_within, continue_seen, continue_within, nothing_seen, nothing_within}
 use Rattle.c_stmt_parts.specs.StatementsIn.{IsCodeIn, WalksStmt, statement_in}
 use Rattle.c_stmt_parts.specs.StatementsSeen.{statement_form_seen, statement_parts, statement_seen}
 use Rattle.c_stmt_parts.proofs.lemmas.StatementNodes.{break_is, continue_is, goto_is, is_goto_within, nothing_is}

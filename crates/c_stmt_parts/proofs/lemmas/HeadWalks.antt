@@ -15,8 +15,8 @@ use Rattle.c_check_expr.specs.Kept.{keeps_itself}
 use Rattle.c_check_expr.specs.Known.{state_of}
 use Rattle.c_check_expr.specs.PartsSeen.{IsSizeIn, size_seen}
 use Rattle.c_check_expr.specs.TypedIn.{maybe_expr_in}
-use Rattle.c_check_expr.specs.Walking.{first_stops, walk_as, walk_then}
-use Rattle.c_check_expr.specs.WalkLists.{then_same, then_then}
+use Rattle.c_check_expr.proofs.lemmas.Walking.{first_stops, walk_as, walk_then}
+use Rattle.c_check_expr.proofs.lemmas.WalkLists.{then_same, then_then}
 use Rattle.c_check_expr.specs.Walks.{Walks}
 use Rattle.c_check_decl.specs.StmtsStay.{maybe_stays}
 use Rattle.c_meaning.specs.declared.core_stmt.CoreForHead.{CoreForHead}

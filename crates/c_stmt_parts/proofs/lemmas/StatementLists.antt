@@ -14,8 +14,8 @@ use Rattle.c_meaning.specs.declared.core_stmt.CoreStmt.{CoreStmt}
 use Rattle.c_values.specs.declared.check_fault.CheckFault.{CheckFault}
 use Rattle.c_check_expr.specs.Keeps.{Keeps}
 use Rattle.c_check_expr.specs.Known.{AreSymbolsIn, state_of}
-use Rattle.c_check_expr.specs.Walking.{passed, walk_stop}
-use Rattle.c_check_expr.specs.WalkLists.{Going, folded, going_ends, going_on, going_starts, going_stops, then_fine, then_same, then_then}
+use Rattle.c_check_expr.proofs.lemmas.Walking.{passed, walk_stop}
+use Rattle.c_check_expr.proofs.lemmas.WalkLists.{Going, folded, going_ends, going_on, going_starts, going_stops, then_fine, then_same, then_then}
 use Rattle.c_check_expr.specs.Walks.{Walks}
 use Rattle.c_check_decl.specs.Declares.{stmt_in}
 use Rattle.c_units.specs.Bodies.{Typed, Within as WithinTrees, all_typed_stmts, done, joined, typed_stmt}
@@ -23,7 +23,7 @@ use Rattle.c_units.specs.Statements.{Around as AroundTrees}
 use Rattle.c_stmt_parts.specs.declared.around.Within.{Within}
 use Rattle.c_stmt_parts.specs.declared.body.Body.{Body}
 use Rattle.c_stmt_parts.specs.BodiesSeen.{IsBodyIn, body_in, within_in}
-use Rattle.c_stmt_parts.specs.BodiesStay.{statements_later, statements_stay, within_stays}
+use Rattle.c_stmt_parts.proofs.lemmas.BodiesStay.{statements_later, statements_stay, within_stays}
 use Rattle.c_stmt_parts.specs.StatementsIn.{AreCodesIn, AreStmtsBelow, WalksStmt, WalksStmts, codes_in, statement_in, statements_in, stmts_in, with_body}
 use Rattle.c_stmt_parts.specs.StatementsSeen.{statement_seen}
 use Rattle.c_stmt_parts.proofs.lemmas.StatementWalks.{with_err}

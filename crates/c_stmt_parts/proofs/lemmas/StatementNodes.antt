@@ -25,8 +25,8 @@ use Rattle.c_stmt_parts.specs.declared.body.Body.{Body}
 use Rattle.c_stmt_parts.specs.Asked.{maybe_core}
 use Rattle.c_stmt_parts.specs.Heads.{Heads, head_typed_in}
 use Rattle.c_stmt_parts.specs.BodiesSeen.{IsBodyIn, body_in, within_in}
-use Rattle.c_stmt_parts.specs.BodiesStay.{body_later, body_stays}
-use Rattle.c_stmt_parts.specs.StatementLayers.{expression_seen, expression_within, return_seen, return_within}
+use Rattle.c_stmt_parts.proofs.lemmas.BodiesStay.{body_later, body_stays}
+use Rattle.c_stmt_parts.proofs.lemmas.StatementLayers.{expression_seen, expression_within, return_seen, return_within}
 use Rattle.c_stmt_parts.specs.StatementsIn.{IsCodeIn, code_in, statement_in}
 use Rattle.c_stmt_parts.proofs.lemmas.HeadWalks.{head_then}
 use Rattle.c_stmt_parts.proofs.lemmas.StatementWalks.{Parts}

@@ -17,7 +17,7 @@ use Rattle.c_check_expr.specs.Kept.{keeps_grown, keeps_on}
 use Rattle.c_check_expr.specs.Known.{AreSymbolsIn, state_of}
 use Rattle.c_check_expr.specs.StepFaults.{IsFault}
 use Rattle.c_check_expr.specs.SymbolsStay.{state_stays}
-use Rattle.c_check_expr.specs.Walking.{both_go, first_stops, passed, second_stops, walk_as, walk_none, walk_then}
+use Rattle.c_check_expr.proofs.lemmas.Walking.{both_go, first_stops, passed, second_stops, walk_as, walk_none, walk_then}
 use Rattle.c_check_expr.specs.Walks.{Walks}
 use Rattle.c_units.specs.Bodies.{Body as BodyTrees, Typed, Within as WithinTrees, at_stmt, typed_stmt}
 use Rattle.c_units.specs.Statements.{Around as AroundTrees, StmtNode, stmt_fault}
@@ -25,7 +25,7 @@ use Rattle.c_stmt_parts.specs.declared.around.Within.{Within}
 use Rattle.c_stmt_parts.specs.declared.body.Body.{Body}
 use Rattle.c_stmt_parts.specs.Asked.{IsSound, IsToldAt}
 use Rattle.c_stmt_parts.specs.BodiesSeen.{body_in, within_in}
-use Rattle.c_stmt_parts.specs.BodiesStay.{within_stays}
+use Rattle.c_stmt_parts.proofs.lemmas.BodiesStay.{within_stays}
 use Rattle.c_stmt_parts.specs.StatementsIn.{IsCodeIn, WalksStmt, code_in, statement_in, with_body}
 
 -- ---- answers beside what the function has

@@ -1,5 +1,5 @@
 use Rattle.std.proofs.Common.{length}
-use Rattle.c_check_expr.specs.KnownSymbols.{symbol_in}
+use Rattle.c_check_expr.proofs.lemmas.KnownSymbols.{symbol_in}
 use Rattle.c_check_decl.proofs.ReplacedSymbols.{keeps_replaced, noted_there, revalued_symbol}
 use Rattle.c_check_decl.proofs.defining.note.Goals as goal
 

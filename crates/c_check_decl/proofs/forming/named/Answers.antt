@@ -6,7 +6,7 @@ use Rattle.c_check_expr.specs.Known.{state_of}
 use Rattle.c_check_expr.specs.Kept.{keeps_grown, keeps_on}
 use Rattle.c_check_expr.specs.PartsSeen.{declared_seen, shaped_seen, specified_seen, steps_seen}
 use Rattle.c_check_expr.specs.SymbolsStay.{symbols_in_later}
-use Rattle.c_check_expr.specs.Walking.{memory_stops}
+use Rattle.c_check_expr.proofs.lemmas.Walking.{memory_stops}
 use Rattle.c_check_decl.specs.DeclaredIn.{named_at}
 use Rattle.c_check_decl.specs.Named.{IsNamingIn, linked, naming_in}
 use Rattle.c_check_decl.proofs.NameWalks.{named_same, naming_as, shape_name, shape_type, walk_broken, walk_fine, walk_told}

@@ -1,6 +1,6 @@
 use Rattle.std.proofs.Common.{refl, arith}
 use Rattle.c_types.specs.Table.{types}
-use Rattle.c_check_expr.specs.KnownSymbols.{known_nowhere, known_there}
+use Rattle.c_check_expr.proofs.lemmas.KnownSymbols.{known_nowhere, known_there}
 use Rattle.c_check_decl.proofs.linkage.linkage_at.Goals as goal
 
 pub returns-in-Some-value : goal.returns-in-Some-value

@@ -1,6 +1,6 @@
 use Rattle.std.proofs.Common.{length}
 use Rattle.c_check_expr.specs.Kept.{keeps_grown}
-use Rattle.c_check_expr.specs.KnownSymbols.{symbol_in}
+use Rattle.c_check_expr.proofs.lemmas.KnownSymbols.{symbol_in}
 use Rattle.c_check_decl.proofs.ReplacedSymbols.{composed_there, keeps_composed, retyped_symbol}
 use Rattle.c_check_decl.proofs.linked.compose.Goals as goal
 

@@ -2,7 +2,7 @@ use Rattle.std.proofs.Common.{sym, ap, ◌∙◌, arith}
 use Rattle.c_types.specs.Table.{types}
 use Rattle.c_meaning.specs.Linkage.{class_linkage as linkage_of_class}
 use Rattle.c_meaning.specs.State.{Known}
-use Rattle.c_check_expr.specs.KnownSymbols.{known_nowhere, known_there}
+use Rattle.c_check_expr.proofs.lemmas.KnownSymbols.{known_nowhere, known_there}
 use Rattle.c_check_decl.proofs.name_faults.linkage_of.Goals as goal
 
 pub returns-then-id-count : goal.returns-then-id-count

@@ -6,7 +6,7 @@ use Rattle.c_meaning.specs.State.{counted, declared}
 use Rattle.c_meaning.specs.TypeRows.{tagged}
 use Rattle.c_check_expr.specs.Known.{state_of}
 use Rattle.c_check_expr.specs.Kept.{keeps_itself}
-use Rattle.c_check_expr.specs.Walking.{memory_stops}
+use Rattle.c_check_expr.proofs.lemmas.Walking.{memory_stops}
 use Rattle.c_check_expr.specs.Walks.{IsBelow}
 use Rattle.c_check_decl.specs.LoneTags.{lone_tag_in}
 use Rattle.c_check_decl.proofs.LoneTagWalks.{lone_known, lone_new, lone_other}

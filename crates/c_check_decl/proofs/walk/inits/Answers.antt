@@ -2,7 +2,7 @@ use Rattle.std.proofs.Common.{length, map, arith}
 use Rattle.c_ast.specs.SeenUnits.{init_seen}
 use Rattle.c_check_expr.specs.Kept.{below_later, keeps_itself, keeps_on}
 use Rattle.c_check_expr.specs.PartsSeen.{specified_seen}
-use Rattle.c_check_expr.specs.Walking.{memory_stops}
+use Rattle.c_check_expr.proofs.lemmas.Walking.{memory_stops}
 use Rattle.c_check_decl.specs.Declares.{AreDeclaredIn, declares_in}
 use Rattle.c_check_decl.specs.DeclaredIn.{inits_in}
 use Rattle.c_check_decl.proofs.InitLists.{inits_end, inits_on, inits_start, inits_stop}

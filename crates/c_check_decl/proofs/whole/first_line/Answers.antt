@@ -1,7 +1,7 @@
 use Rattle.std.proofs.Common.{sym, ap}
 use Rattle.c_types.specs.Table.{types}
 use Rattle.c_meaning.specs.State.{Known}
-use Rattle.c_check_expr.specs.KnownSymbols.{known_there}
+use Rattle.c_check_expr.proofs.lemmas.KnownSymbols.{known_there}
 use Rattle.c_check_decl.proofs.whole.first_line.Goals as goal
 
 pub returns-in-Some : goal.returns-in-Some

@@ -7,7 +7,7 @@ use mir.Val.{SFits}
 use Rattle.c_types.specs.Table.{types}
 use Rattle.c_meaning.specs.State.{nothing_known}
 use Rattle.c_check_expr.specs.Known.{known_of, state_of}
-use Rattle.c_check_expr.specs.KnownSymbols.{known_nowhere, known_there}
+use Rattle.c_check_expr.proofs.lemmas.KnownSymbols.{known_nowhere, known_there}
 use Rattle.c_check_decl.proofs.NameTests.{above_zero, defined_told}
 use Rattle.c_check_decl.proofs.whole_faults.is_defined.Goals as goal
 

@@ -2,7 +2,7 @@ use Rattle.std.proofs.Common.{length, sym, ap, ◌∙◌}
 use Rattle.std.specs.Prelude.{Some, nat_eq, nat_le}
 use Rattle.c_types.specs.Table.{parameters_in, types}
 use Rattle.c_meaning.specs.ExprConstraints.{are_as_many}
-use Rattle.c_values.specs.ManyValues.{as_many_closed, as_many_open}
+use Rattle.c_values.proofs.lemmas.ManyValues.{as_many_closed, as_many_open}
 use Rattle.c_check_expr.proofs.callees.are_as_many.Goals as goal
 
 pub returns-in-Some : goal.returns-in-Some

@@ -3,7 +3,7 @@ use Rattle.c_types.specs.Table.{type_at, types, types_in}
 use Rattle.c_meaning.specs.CoreTrees.{all_seen, cores_of}
 use Rattle.c_meaning.specs.ExprConstraints.{all_assignable}
 use Rattle.c_meaning.specs.Values.{values}
-use Rattle.c_values.specs.ManyValues.{no_items, none_assignable}
+use Rattle.c_values.proofs.lemmas.ManyValues.{no_items, none_assignable}
 use Rattle.c_check_expr.proofs.callees.are_assignable.Goals as goal
 
 pub returns-in_default : goal.returns-in_default

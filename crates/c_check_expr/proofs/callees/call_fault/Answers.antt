@@ -4,7 +4,7 @@ use Rattle.c_meaning.specs.CoreTrees.{all_seen, cores_of, seen}
 use Rattle.c_meaning.specs.Types.{is_pointer, target}
 use Rattle.c_meaning.specs.Values.{value_type, values}
 use Rattle.c_check_expr.proofs.CallNodes.{call_known}
-use Rattle.c_values.specs.ManyValues.{count_seen, count_values}
+use Rattle.c_values.proofs.lemmas.ManyValues.{count_seen, count_values}
 use Rattle.c_check_expr.proofs.callees.call_fault.Goals as goal
 
 pub returns-then-not-are_as_many-clause-is : goal.returns-then-not-are_as_many-clause-is

@@ -3,7 +3,7 @@ use Rattle.c_types.specs.Table.{tags, type_at}
 use Rattle.c_meaning.specs.CoreTrees.{IsIn, seen}
 use Rattle.c_meaning.specs.ExprConstraints.{is_open_record}
 use Rattle.c_meaning.specs.Values.{value_type}
-use Rattle.c_values.specs.ManyValues.{in_at, open_at}
+use Rattle.c_values.proofs.lemmas.ManyValues.{in_at, open_at}
 use Rattle.c_check_expr.proofs.calls.ends_open.Goals as goal
 
 pub value_type-requires : goal.value_type-requires

@@ -3,7 +3,7 @@ use Rattle.std.specs.Vec.Iter.{into_iter_items}
 use Rattle.c_types.specs.Table.{type_at}
 use Rattle.c_meaning.specs.CoreTrees.{AreIn, all_seen, cores_of}
 use Rattle.c_meaning.specs.Values.{values}
-use Rattle.c_values.specs.ManyValues.{before, pushed_in, turn_deep, turn_end, turn_left, turn_means}
+use Rattle.c_values.proofs.lemmas.ManyValues.{before, pushed_in, turn_deep, turn_end, turn_left, turn_means}
 use Rattle.c_values.specs.Stays.{all_in_later, grows_on, longer}
 use Rattle.c_check_expr.proofs.calls.into_values.Goals as goal
 

@@ -4,7 +4,7 @@ use Rattle.c_types.specs.Table.{Grows, type_at}
 use Rattle.c_meaning.specs.Constraints.{some_deep, value_types}
 use Rattle.c_meaning.specs.CoreTrees.{AreIn, all_seen, cores_of}
 use Rattle.c_meaning.specs.Values.{values}
-use Rattle.c_values.specs.ManyValues.{before}
+use Rattle.c_values.proofs.lemmas.ManyValues.{before}
 use Rattle.c_check_expr.proofs.calls.into_values.Given as goal
 
 -- the values so far, and the values of the expressions that are left

@@ -2,7 +2,7 @@ use Rattle.std.proofs.Common.{◌<◌, ◌-◌, length, sym, ap, ◌∙◌, subs
 use Rattle.c_types.specs.CType.{unqualified}
 use Rattle.c_types.specs.Table.{type_at}
 use Rattle.c_meaning.specs.CoreTrees.{IsIn, seen, type_of}
-use Rattle.c_values.specs.ManyValues.{in_at, last_type_at}
+use Rattle.c_values.proofs.lemmas.ManyValues.{in_at, last_type_at}
 use Rattle.c_values.specs.Stays.{type_in_table, type_seen}
 use Rattle.c_check_expr.proofs.calls.last_type.Goals as goal
 

@@ -1,6 +1,6 @@
 use Rattle.std.proofs.Common.{length}
 use Rattle.c_check_expr.specs.KnownLaws.{symbols_in-append}
-use Rattle.c_check_expr.specs.KnownSymbols.{state-declare}
+use Rattle.c_check_expr.proofs.lemmas.KnownSymbols.{state-declare}
 use Rattle.c_values.specs.Stays.{extends_itself}
 use Rattle.c_check_expr.proofs.declaring.declare.Goals as goal
 

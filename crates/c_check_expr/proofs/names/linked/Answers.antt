@@ -3,7 +3,7 @@ use Rattle.c_types.specs.Compatible.{compatible}
 use Rattle.c_types.specs.Table.{type_at, types}
 use Rattle.c_check_expr.specs.Known.{known_of, state_of}
 use Rattle.c_check_expr.specs.KnownLaws.{symbols_in-append}
-use Rattle.c_check_expr.specs.KnownSymbols.{known_there, length-all_known, state-link, symbol_in}
+use Rattle.c_check_expr.proofs.lemmas.KnownSymbols.{known_there, length-all_known, state-link, symbol_in}
 use Rattle.c_check_expr.proofs.LinkedNames.{differs_by}
 use Rattle.c_check_expr.proofs.names.linked.Goals as goal
 

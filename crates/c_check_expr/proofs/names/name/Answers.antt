@@ -1,7 +1,7 @@
 use Rattle.std.proofs.Common.{length, ◌∙◌, sym}
 use Rattle.c_types.specs.Table.{types}
 use Rattle.c_check_expr.specs.Known.{known_of, state_of}
-use Rattle.c_check_expr.specs.KnownSymbols.{known_there, symbol_in}
+use Rattle.c_check_expr.proofs.lemmas.KnownSymbols.{known_there, symbol_in}
 use Rattle.c_check_expr.proofs.NameNodes.{name_broken, name_fine}
 use Rattle.c_check_expr.proofs.names.name.Goals as goal
 

@@ -10,7 +10,7 @@ use Rattle.c_meaning.specs.State.{State, external, link_or_next, with_link}
 use Rattle.c_check_expr.specs.Known.{state_of}
 use Rattle.c_check_expr.specs.Redeclared.{IsRedeclared}
 use Rattle.c_check_expr.specs.KnownLaws.{symbols_in-append}
-use Rattle.c_check_expr.specs.KnownSymbols.{state-declare}
+use Rattle.c_check_expr.proofs.lemmas.KnownSymbols.{state-declare}
 use Rattle.c_check_expr.proofs.LinkedNames.{called_fine, called_state, redeclared_told, symbol_known}
 use Rattle.c_check_expr.specs.SymbolsStay.{state_stays, symbols_in_later}
 use Rattle.c_check_expr.proofs.names.new_function.Goals as goal

@@ -3,7 +3,7 @@ use Rattle.std.specs.Prelude.{is_some, nat_lt}
 use Rattle.std.proofs.lemmas.Bool.Decides.{nat_tests}
 use Rattle.c_types.specs.Table.{types}
 use Rattle.c_meaning.specs.State.{Known}
-use Rattle.c_check_expr.specs.KnownSymbols.{known_nowhere, known_there}
+use Rattle.c_check_expr.proofs.lemmas.KnownSymbols.{known_nowhere, known_there}
 use Rattle.c_check_expr.proofs.tags.has_stood.Goals as goal
 
 pub returns-then-id-count : goal.returns-then-id-count

@@ -3,7 +3,7 @@ use Rattle.c_types.specs.Table.{type_at, types}
 use Rattle.c_meaning.specs.State.{counted}
 use Rattle.c_meaning.specs.TypeConstraints.{is_enumeration}
 use Rattle.c_check_expr.specs.Known.{state_of}
-use Rattle.c_check_expr.specs.KnownSymbols.{state-replace, symbols_in-set}
+use Rattle.c_check_expr.proofs.lemmas.KnownSymbols.{state-replace, symbols_in-set}
 use Rattle.c_check_expr.proofs.TagNodes.{enumeration_there, tag_replaced}
 use Rattle.c_check_expr.specs.Kept.{keeps_later}
 use Rattle.c_check_expr.proofs.tags.listed.Goals as goal

@@ -1,7 +1,7 @@
 use Rattle.std.proofs.Common.{sym, ap, ◌∙◌, arith}
 use Rattle.c_types.specs.Table.{type_at, types}
 use Rattle.c_meaning.specs.State.{Known}
-use Rattle.c_check_expr.specs.KnownSymbols.{known_nowhere, known_there, symbol_in}
+use Rattle.c_check_expr.proofs.lemmas.KnownSymbols.{known_nowhere, known_there, symbol_in}
 use Rattle.c_check_expr.proofs.tags.symbol_type.Goals as goal
 
 pub returns-then-id-count-clause-means : goal.returns-then-id-count-clause-means

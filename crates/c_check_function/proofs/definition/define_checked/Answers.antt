@@ -12,7 +12,7 @@ use Rattle.c_check_expr.specs.Kept.{keeps_grown, keeps_on}
 use Rattle.c_check_expr.specs.PartsSeen.{declared_seen, specified_seen, steps_seen}
 use Rattle.c_check_expr.specs.StepFaults.{IsFault, steps_passed}
 use Rattle.c_check_expr.specs.SymbolsStay.{symbols_in_later}
-use Rattle.c_check_expr.specs.Walking.{memory_stops}
+use Rattle.c_check_expr.proofs.lemmas.Walking.{memory_stops}
 use Rattle.c_check_decl.specs.Named.{linked}
 use Rattle.c_check_function.specs.FunctionsSeen.{IsDefinitionIn, defined_at, definition_seen}
 use Rattle.c_check_function.specs.Headings.{heading_seen}

@@ -3,7 +3,7 @@ use Rattle.c_ast.specs.Seen.{declarator_seen}
 use Rattle.c_ast.specs.SeenUnits.{declaration_seen}
 use Rattle.c_check_expr.specs.Keeps.{Keeps}
 use Rattle.c_check_expr.specs.Kept.{keeps_on}
-use Rattle.c_check_expr.specs.Walking.{memory_stops}
+use Rattle.c_check_expr.proofs.lemmas.Walking.{memory_stops}
 use Rattle.c_stmt_parts.specs.StatementsSeen.{block_seen}
 use Rattle.c_check_function.specs.Defined.{AreDefinedIn, defines_in, function_in, function_seen}
 use Rattle.c_check_function.specs.FunctionsSeen.{maybe_specifiers_seen}

@@ -2,7 +2,7 @@ use Rattle.std.proofs.Common.{length, map, ap, sym, ◌∙◌}
 use Rattle.c_ast.specs.SeenUnits.{declaration_seen}
 use Rattle.c_meaning.specs.Linkage.{with_count}
 use Rattle.c_check_expr.specs.Kept.{keeps_on}
-use Rattle.c_check_expr.specs.Walking.{memory_stops, walk_as}
+use Rattle.c_check_expr.proofs.lemmas.Walking.{memory_stops, walk_as}
 use Rattle.c_stmt_parts.specs.StatementsSeen.{block_seen}
 use Rattle.c_check_function.specs.Defined.{AreDefinedIn, defines_in, in_scope_in}
 use Rattle.c_check_function.specs.FunctionsSeen.{old_declarations_in}

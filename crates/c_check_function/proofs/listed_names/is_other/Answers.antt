@@ -1,6 +1,6 @@
 use Rattle.std.proofs.Common.{ap, not, sym, ◌∙◌}
 use Rattle.c_types.specs.Table.{types}
-use Rattle.c_check_expr.specs.KnownSymbols.{known_there}
+use Rattle.c_check_expr.proofs.lemmas.KnownSymbols.{known_there}
 use Rattle.c_check_function.proofs.listed_names.is_other.Goals as goal
 
 pub returns-in-Some : goal.returns-in-Some

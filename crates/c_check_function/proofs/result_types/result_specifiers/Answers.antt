@@ -1,7 +1,7 @@
 use Rattle.std.proofs.Common.{◌<◌, length, sym, ap, subst, ◌∙◌}
 use Rattle.c_types.specs.Table.{type_at}
 use Rattle.c_meaning.specs.Declarations.{is_inner_class}
-use Rattle.c_check_expr.specs.Walking.{walk_as}
+use Rattle.c_check_expr.proofs.lemmas.Walking.{walk_as}
 use Rattle.c_check_function.specs.FunctionsSeen.{maybe_specifiers_seen, result_in}
 use Rattle.c_check_function.proofs.ResultWalks.{result_breaks, result_goes, result_none, result_stops}
 use Rattle.c_check_function.proofs.result_types.result_specifiers.Goals as goal

@@ -1,7 +1,7 @@
 use Rattle.std.proofs.Common.{◌∙◌}
 use Rattle.c_meaning.specs.StmtTrees as tree
 use Rattle.c_values.specs.Stays.{extends_itself, grows_itself}
-use Rattle.c_stmt_parts.specs.StatementLayers.{label_seen, label_within}
+use Rattle.c_stmt_parts.proofs.lemmas.StatementLayers.{label_seen, label_within}
 use Rattle.c_stmt_parts.proofs.lemmas.StatementNodes.{box_later, in_box}
 use Rattle.std.proofs.Common.{ap, length}
 use Rattle.c_check_stmt.proofs.NodeEnds.{ends_memory, ends_told, ends_well}

@@ -5,7 +5,7 @@ use Rattle.c_check_decl.specs.Declares.{stmt_in}
 use Rattle.c_units.specs.Bodies.{maybe_value}
 use Rattle.c_stmt_parts.specs.Asked.{maybe_core}
 use Rattle.c_stmt_parts.specs.Heads.{IsHeadIn}
-use Rattle.c_stmt_parts.specs.StatementLayers.{for_seen, for_within}
+use Rattle.c_stmt_parts.proofs.lemmas.StatementLayers.{for_seen, for_within}
 use Rattle.c_stmt_parts.proofs.lemmas.StatementNodes.{box_later, in_box}
 use Rattle.c_check_stmt.proofs.NodeEnds.{ends_memory, ends_told, ends_well}
 use Rattle.c_check_stmt.proofs.Shapes.{three_same}

@@ -1,6 +1,6 @@
 use Rattle.std.proofs.Common.{length, ◌∙◌}
 use Rattle.c_meaning.specs.StmtTrees as tree
-use Rattle.c_stmt_parts.specs.StatementLayers.{while_seen, while_within}
+use Rattle.c_stmt_parts.proofs.lemmas.StatementLayers.{while_seen, while_within}
 use Rattle.c_stmt_parts.proofs.lemmas.StatementNodes.{box_later, in_box}
 use Rattle.c_check_stmt.proofs.NodeEnds.{ends_memory, ends_told, ends_well}
 use Rattle.c_check_stmt.proofs.Shapes.{two_same}

@@ -2,7 +2,7 @@ use Rattle.std.proofs.Common.{refl, sym, ◌∙◌}
 use Rattle.c_ast.specs.SeenUnits.{declaration_seen}
 use Rattle.c_decl.specs.Productions as production
 use Rattle.c_expr.specs.State.{Again}
-use Rattle.c_decl.specs.TakingLaws.{if_took, if_stopped}
+use Rattle.c_decl.proofs.lemmas.TakingLaws.{if_took, if_stopped}
 use Rattle.c_decl.proofs.declarations.declaration.Goals as goal
 
 pub returns-in-Some-clause-err : goal.returns-in-Some-clause-err

@@ -1,8 +1,8 @@
 -- The loop over declarations.
 use Rattle.std.proofs.Common.{sym, ◌∙◌, arith}
 use Rattle.c_ast.specs.SeenUnits.{declaration_seen}
-use Rattle.c_decl.specs.GoingLaws.{err, passed, goes_then}
-use Rattle.c_readings.specs.Loops.{goes, stops, ends, seen_more}
+use Rattle.c_decl.proofs.lemmas.GoingLaws.{err, passed, goes_then}
+use Rattle.c_readings.proofs.lemmas.Loops.{goes, stops, ends, seen_more}
 use Rattle.c_decl.proofs.declarations.declarations_to.Goals as goal
 
 pub returns-in_err-declaration-clause-none : goal.returns-in_err-declaration-clause-none

@@ -7,7 +7,7 @@ use Rattle.c_readings.specs.Readers.{readers}
 use Rattle.c_readings.specs.DeclarationReaders as reader
 use Rattle.c_expr.specs.State.{ahead}
 use Rattle.c_decl.specs.Going.{Goes}
-use Rattle.c_readings.specs.Loops.{Left}
+use Rattle.c_readings.proofs.lemmas.Loops.{Left}
 use Rattle.c_decl.proofs.declarations.declarations_to.Given as goal
 
 abbrev pub invariant-loop-p : goal.invariant-loop-p

@@ -7,8 +7,8 @@ use Rattle.c_readings.specs.Readers.{readers}
 use Rattle.c_readings.specs.DeclarationReaders.{inits_behind}
 use Rattle.c_readings.specs.DeclarationReaders as reader
 use Rattle.c_expr.specs.State.{ahead}
-use Rattle.c_decl.specs.GoingLaws.{err, if_err, passed, goes_then, no_sign, some_sign}
-use Rattle.c_readings.specs.Loops.{commas_on, commas_go, commas_stop, commas_end, seen_more}
+use Rattle.c_decl.proofs.lemmas.GoingLaws.{err, if_err, passed, goes_then, no_sign, some_sign}
+use Rattle.c_readings.proofs.lemmas.Loops.{commas_on, commas_go, commas_stop, commas_end, seen_more}
 use Rattle.c_decl.proofs.declarations.inits_behind.Goals as goal
 
 pub loop-p-init : goal.loop-p-init

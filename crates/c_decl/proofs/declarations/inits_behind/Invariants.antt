@@ -7,7 +7,7 @@ use Rattle.c_readings.specs.Readers.{readers}
 use Rattle.c_readings.specs.DeclarationReaders as reader
 use Rattle.c_expr.specs.State.{ahead}
 use Rattle.c_decl.specs.Going.{Goes}
-use Rattle.c_readings.specs.Loops.{CommasLeft}
+use Rattle.c_readings.proofs.lemmas.Loops.{CommasLeft}
 use Rattle.c_decl.proofs.declarations.inits_behind.Given as goal
 
 abbrev pub invariant-loop-p : goal.invariant-loop-p

@@ -7,9 +7,9 @@ use Rattle.c_readings.specs.Readers.{readers, goes_on_without}
 use Rattle.c_readings.specs.DeclarationReaders.{initialiser, initialisers}
 use Rattle.c_expr.specs.Answers.{comma_end}
 use Rattle.c_expr.specs.State.{ahead}
-use Rattle.c_decl.specs.GoingLaws.{err, if_err, passed, goes_then}
+use Rattle.c_decl.proofs.lemmas.GoingLaws.{err, if_err, passed, goes_then}
 use Rattle.c_decl.proofs.Exits.{no_brace, some_brace}
-use Rattle.c_readings.specs.Loops.{starts_behind, goes, stops, ends, seen_more}
+use Rattle.c_readings.proofs.lemmas.Loops.{starts_behind, goes, stops, ends, seen_more}
 use Rattle.c_decl.proofs.initialisers.+initialisers.Goals as goal
 
 pub initialisers_at-loop-p-init : goal.initialisers_at-loop-p-init

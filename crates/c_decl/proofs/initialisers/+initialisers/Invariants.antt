@@ -8,7 +8,7 @@ use Rattle.c_readings.specs.DeclarationReaders.{initialiser, initialisers}
 use Rattle.c_expr.specs.Answers.{comma_end}
 use Rattle.c_expr.specs.State.{ahead}
 use Rattle.c_decl.specs.Going.{Goes}
-use Rattle.c_readings.specs.Loops.{Left}
+use Rattle.c_readings.proofs.lemmas.Loops.{Left}
 use Rattle.c_decl.proofs.initialisers.+initialisers.Given as goal
 
 abbrev pub decreases-initialiser_at : goal.decreases-initialiser_at

@@ -2,7 +2,7 @@ use Rattle.std.proofs.lemmas.Result.{IfOk-weaker, IfErr-weaker}
 use Rattle.c_ast.specs.Seen.{expr_seen}
 use Rattle.c_expr.specs.Productions.{expression}
 use Rattle.c_expr.specs.State.{ahead}
-use Rattle.c_decl.specs.TakingLaws.{took_goes, refused_fails, refused_breaks}
+use Rattle.c_decl.proofs.lemmas.TakingLaws.{took_goes, refused_fails, refused_breaks}
 use Rattle.c_decl.proofs.parts.low_assignment.Goals as goal
 
 pub returns-clause-ok : goal.returns-clause-ok

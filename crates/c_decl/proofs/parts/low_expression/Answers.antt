@@ -3,7 +3,7 @@ use Rattle.c_ast.specs.Seen.{expr_seen}
 use Rattle.c_readings.specs.StatementReaders.{low_expression}
 use Rattle.c_expr.specs.Productions.{whole_expression}
 use Rattle.c_expr.specs.State.{ahead}
-use Rattle.c_decl.specs.TakingLaws.{took_goes, refused_fails, refused_breaks}
+use Rattle.c_decl.proofs.lemmas.TakingLaws.{took_goes, refused_fails, refused_breaks}
 use Rattle.c_decl.proofs.parts.low_expression.Goals as goal
 
 pub returns-clause-ok : goal.returns-clause-ok

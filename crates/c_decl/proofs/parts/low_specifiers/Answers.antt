@@ -3,7 +3,7 @@ use Rattle.c_ast.specs.Seen.{specifiers_seen}
 use Rattle.c_readings.specs.DeclarationReaders.{low_specifiers}
 use Rattle.c_expr.specs.Productions.{specifiers}
 use Rattle.c_expr.specs.State.{ahead}
-use Rattle.c_decl.specs.TakingLaws.{took_goes, refused_fails, refused_breaks}
+use Rattle.c_decl.proofs.lemmas.TakingLaws.{took_goes, refused_fails, refused_breaks}
 use Rattle.c_decl.proofs.parts.low_specifiers.Goals as goal
 
 pub returns-clause-ok : goal.returns-clause-ok

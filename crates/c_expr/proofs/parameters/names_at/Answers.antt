@@ -3,7 +3,7 @@ use Rattle.c_readings.specs.Reading.{one_sign, gives}
 use Rattle.c_readings.specs.Readers.{name_list, parameter_name}
 use Rattle.c_expr.specs.Answers.{at}
 use Rattle.c_expr.proofs.Exits.{err, if_err, passed}
-use Rattle.c_readings.specs.Loops.{commas_start, commas_go, commas_stop, commas_end}
+use Rattle.c_readings.proofs.lemmas.Loops.{commas_start, commas_go, commas_stop, commas_end}
 use Rattle.c_expr.proofs.Loops.{fewer}
 use Rattle.c_expr.proofs.parameters.names_at.Goals as goal
 

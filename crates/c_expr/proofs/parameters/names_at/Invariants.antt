@@ -2,7 +2,7 @@ use Rattle.std.proofs.Common.{◌<◌, length}
 use Rattle.c_readings.specs.Reading.{one_sign, gives}
 use Rattle.c_readings.specs.Readers.{name_list, parameter_name}
 use Rattle.c_expr.specs.Answers.{at}
-use Rattle.c_readings.specs.Loops.{CommasLeft}
+use Rattle.c_readings.proofs.lemmas.Loops.{CommasLeft}
 use Rattle.c_expr.proofs.parameters.names_at.Given as goal
 
 abbrev pub invariant-loop-behind : goal.invariant-loop-behind

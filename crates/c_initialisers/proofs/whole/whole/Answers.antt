@@ -12,7 +12,7 @@ use Rattle.c_meaning.specs.Types.{is_scalar}
 use Rattle.c_meaning.specs.Typing.{Fine}
 use Rattle.c_check_expr.specs.AtNode.{Tells}
 use Rattle.c_check_expr.specs.Kept.{keeps_itself}
-use Rattle.c_check_expr.specs.Walking.{memory_stops}
+use Rattle.c_check_expr.proofs.lemmas.Walking.{memory_stops}
 use Rattle.c_initialisers.specs.declared.nodes.Standing.{Standing}
 use Rattle.c_initialisers.specs.Objects.{IsFilledIn, filled_in, object_in}
 use Rattle.c_initialisers.specs.Storing.{filling_in}

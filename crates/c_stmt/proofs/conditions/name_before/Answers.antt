@@ -1,7 +1,7 @@
 use Rattle.std.proofs.Common.{refl, ◌∙◌}
 use Rattle.c_readings.specs.Reading.{gives, one_sign}
 use Rattle.c_expr.specs.State.{ahead}
-use Rattle.c_decl.specs.GoingLaws.{if_err, passed, no_sign, some_sign}
+use Rattle.c_decl.proofs.lemmas.GoingLaws.{if_err, passed, no_sign, some_sign}
 use Rattle.c_stmt.proofs.conditions.name_before.Goals as goal
 
 pub returns-in_err-name-clause-none : goal.returns-in_err-name-clause-none

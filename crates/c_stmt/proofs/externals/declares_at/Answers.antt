@@ -7,7 +7,7 @@ use Rattle.c_readings.specs.Reading.{bind}
 use Rattle.c_readings.specs.Readers.{readers}
 use Rattle.c_readings.specs.UnitReaders as reader
 use Rattle.c_expr.specs.State.{ahead}
-use Rattle.c_decl.specs.GoingLaws.{err, passed}
+use Rattle.c_decl.proofs.lemmas.GoingLaws.{err, passed}
 use Rattle.c_stmt.proofs.Declared.{measured_high, measured_low, declared, all_low}
 use Rattle.c_stmt.proofs.Declared as parts
 use Rattle.c_stmt.proofs.externals.declares_at.Goals as goal

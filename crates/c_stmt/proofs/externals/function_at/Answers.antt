@@ -3,7 +3,7 @@ use Rattle.c_ast.specs.UnitViews.{option_of}
 use Rattle.c_ast.specs.Seen.{declarator_seen, specifiers_seen}
 use Rattle.c_expr.specs.State.{ahead}
 use Rattle.c_decl.specs.OldParameters.{old_parameters}
-use Rattle.c_decl.specs.GoingLaws.{err, passed}
+use Rattle.c_decl.proofs.lemmas.GoingLaws.{err, passed}
 use Rattle.c_stmt.proofs.OldFunctions.{no_function}
 use Rattle.c_stmt.proofs.externals.function_at.Goals as goal
 

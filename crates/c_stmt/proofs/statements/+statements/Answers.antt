@@ -5,11 +5,11 @@ use Rattle.c_ast.specs.Marks.{IsSign}
 use Rattle.c_readings.specs.Reading.{State, Read, answer, beyond, bind, gives, here, open_state}
 use Rattle.c_readings.specs.Readers.{readers}
 use Rattle.c_readings.specs.StatementReaders as reader
-use Rattle.c_readings.specs.Loops.{goes, stops, ends, seen_more}
+use Rattle.c_readings.proofs.lemmas.Loops.{goes, stops, ends, seen_more}
 use Rattle.c_ast.specs.Trees.{StatementTree, Compound}
 use Rattle.c_expr.specs.State.{ahead}
 use Rattle.c_decl.specs.Going.{Fails}
-use Rattle.c_decl.specs.GoingLaws.{err, passed, goes_then}
+use Rattle.c_decl.proofs.lemmas.GoingLaws.{err, passed, goes_then}
 use Rattle.c_stmt.specs.Seen.{statement_seen}
 use Rattle.c_stmt.specs.Words.{seen_word, seen_if_any}
 use Rattle.c_stmt.proofs.Dispatch.{label_next, word_next, brace_next, expression_next, ok_by, none_by}

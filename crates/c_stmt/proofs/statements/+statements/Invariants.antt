@@ -4,7 +4,7 @@ use Rattle.c_ast.specs.Marks.{IsSign}
 use Rattle.c_readings.specs.Reading.{answer, gives}
 use Rattle.c_readings.specs.Readers.{readers}
 use Rattle.c_readings.specs.StatementReaders as reader
-use Rattle.c_readings.specs.Loops.{Left}
+use Rattle.c_readings.proofs.lemmas.Loops.{Left}
 use Rattle.c_expr.specs.State.{ahead}
 use Rattle.c_decl.specs.Going.{Goes}
 use Rattle.c_stmt.specs.Listed.{statements_in}

@@ -1,6 +1,6 @@
 use Rattle.std.proofs.Common.{refl, sym, ◌∙◌}
 use Rattle.c_expr.specs.State.{Again}
-use Rattle.c_decl.specs.TakingLaws.{if_took, if_stopped}
+use Rattle.c_decl.proofs.lemmas.TakingLaws.{if_took, if_stopped}
 use Rattle.c_stmt.specs.Productions as production
 use Rattle.c_stmt.specs.Seen.{statement_seen}
 use Rattle.c_stmt.proofs.statements.statement.Goals as goal

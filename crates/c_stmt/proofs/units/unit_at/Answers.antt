@@ -4,9 +4,9 @@ use Rattle.c_ast.specs.declared.unit.External.{External}
 use Rattle.c_ast.specs.Trees.{UnitTree}
 use Rattle.c_lexer.specs.PlacedTokens.{placed_of}
 use Rattle.c_readings.specs.Reading.{beyond, here}
-use Rattle.c_readings.specs.Loops.{goes, stops, ends, seen_more}
+use Rattle.c_readings.proofs.lemmas.Loops.{goes, stops, ends, seen_more}
 use Rattle.c_expr.specs.State.{ahead}
-use Rattle.c_decl.specs.GoingLaws.{err, passed}
+use Rattle.c_decl.proofs.lemmas.GoingLaws.{err, passed}
 use Rattle.c_stmt.specs.Seen.{external_seen}
 use Rattle.c_stmt.proofs.ExternalLists.{first_of_none, some_of_first, one_more, goes_one_more, some_unit, no_unit, least_map, left_next}
 use Rattle.c_stmt.proofs.units.unit_at.Goals as goal

@@ -3,7 +3,7 @@ use Rattle.std.proofs.Common.{◌-◌, map, length, Bool, false}
 use Rattle.c_readings.specs.Reading.{here}
 use Rattle.c_readings.specs.Readers.{readers}
 use Rattle.c_readings.specs.UnitReaders as reader
-use Rattle.c_readings.specs.Loops.{Left}
+use Rattle.c_readings.proofs.lemmas.Loops.{Left}
 use Rattle.c_expr.specs.State.{ahead}
 use Rattle.c_decl.specs.Going.{Goes}
 use Rattle.c_stmt.specs.Seen.{external_seen}

@@ -1,7 +1,7 @@
 use Rattle.std.proofs.Common.{length, map, arith}
 use Rattle.c_ast.specs.SeenUnits.{declaration_seen}
 use Rattle.c_check_expr.specs.Kept.{keeps_itself, keeps_on}
-use Rattle.c_check_expr.specs.Walking.{memory_stops}
+use Rattle.c_check_expr.proofs.lemmas.Walking.{memory_stops}
 use Rattle.c_check_decl.specs.Declares.{AreDeclaredIn, declares_in}
 use Rattle.c_stmt_parts.specs.StatementsIn.{declarations_in}
 use Rattle.c_stmt_parts.proofs.DeclarationLists.{declarations_end, declarations_on, declarations_start, declarations_stop}

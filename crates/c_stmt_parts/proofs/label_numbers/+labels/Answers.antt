@@ -1,7 +1,7 @@
 use Rattle.std.proofs.Common.{◌≡◌, ◌+◌, refl, sym, ap, ◌∙◌, arith}
 use Rattle.std.proofs.lemmas.Result.{IfOk-weaker, on_ok_weaker}
 use Rattle.c_units.specs.Marks.{block_labels, block_marks, firsts}
-use Rattle.c_stmt_parts.specs.StatementsSeen.{block_parts, form_block, form_case, form_default, form_do, form_for, form_label, form_switch, form_while, statement_seen}
+use Rattle.c_stmt_parts.specs.StatementsSeen.{block_parts, block_seen, form_block, form_case, form_default, form_do, form_for, form_label, form_switch, form_while, statement_seen}
 use Rattle.c_stmt_parts.proofs.LabelLists.{block_labels_are, block_marks_are, both_labels, both_marks, inner_labels, inner_marks, labelled_labels, labels_more, marks_more, next_labels, next_marks, plain_labels, plain_marks}
 use Rattle.c_stmt_parts.proofs.label_numbers.+labels.Goals as goal
 
@@ -43,11 +43,11 @@ of_statement-returns-in_ok-next-in-Label-clause-count t c =
 
 pub of_statement-returns-in-Block-clause-found : goal.of_statement-returns-in-Block-clause-found
 of_statement-returns-in-Block-clause-found t c =
-    on_ok_weaker c.of_block.result (λ h. block_labels_are c.args.s.now _ _ c.in-Block.is (form_block _ _) c.args.found.now c.of_block.new.found _ c.args.before refl h) c.of_block.ensures.found
+    on_ok_weaker c.of_block.result (λ h. block_labels_are c.args.s.now _ _ c.in-Block.is (form_block _ _) c.args.found.now c.of_block.new.found _ c.args.before (ap (λ b. block_labels c.args.before (block_seen b)) (sym c.deref-in-Block.ensures)) h) c.of_block.ensures.found
 
 pub of_statement-returns-in-Block-clause-count : goal.of_statement-returns-in-Block-clause-count
 of_statement-returns-in-Block-clause-count t c =
-    IfOk-weaker c.of_block.result _ _ (λ n h. block_marks_are c.args.s.now _ _ c.in-Block.is (form_block _ _) c.args.before n _ refl h) c.of_block.ensures.count
+    IfOk-weaker c.of_block.result _ _ (λ n h. block_marks_are c.args.s.now _ _ c.in-Block.is (form_block _ _) c.args.before n _ (ap (λ b. block_marks (block_seen b)) (sym c.deref-in-Block.ensures)) h) c.of_block.ensures.count
 
 pub of_statement-returns-in_ok-between-in-If-clause-found : goal.of_statement-returns-in_ok-between-in-If-clause-found
 of_statement-returns-in_ok-between-in-If-clause-found t c =

@@ -14,11 +14,11 @@ in_stmt-returns-in-If t c =
     let xs = c.args.standings.now in
     let between = c.in_stmt-between in
     let last = c.in_stmt in
-    missing_as xs c.args.found last.result c.args.s.now _ _ (uses b.test ++ stmt_uses (stmt_of b.then.value) ++ stmt_uses (stmt_of b.otherwise.value)) b.is (is_if b.test b.then b.otherwise) refl
-    (missing_both xs c.args.found between.result last.result (uses b.test ++ stmt_uses (stmt_of b.then.value)) (stmt_uses (stmt_of b.otherwise.value))
-    (missing_both xs c.args.found c.in_expr-before.result between.result (uses b.test) (stmt_uses (stmt_of b.then.value)) c.in_expr-before.ensures
-    (missing_inside xs c.in_expr-before.result between.result c.deref.result.now b.then.value between.ensures c.deref.ensures))
-    (missing_inside xs between.result last.result c.deref-in-If.result.now b.otherwise.value last.ensures c.deref-in-If.ensures))
+    missing_as xs c.args.found last.result c.args.s.now _ _ (uses b.test.value ++ stmt_uses (stmt_of b.then.value) ++ stmt_uses (stmt_of b.otherwise.value)) b.is (is_if b.test b.then b.otherwise) refl
+    (missing_both xs c.args.found between.result last.result (uses b.test.value ++ stmt_uses (stmt_of b.then.value)) (stmt_uses (stmt_of b.otherwise.value))
+    (missing_both xs c.args.found c.in_expr-before.result between.result (uses b.test.value) (stmt_uses (stmt_of b.then.value)) (c.in_expr-before.ensures ∙ ap (λ e. missing_in xs c.args.found (uses e)) c.deref.ensures)
+    (missing_inside xs c.in_expr-before.result between.result c.deref-in-If.result.now b.then.value between.ensures c.deref-in-If.ensures))
+    (missing_inside xs between.result last.result c.deref-in-If-2.result.now b.otherwise.value last.ensures c.deref-in-If-2.ensures))
 
 pub in_stmt-returns-in-While : goal.in_stmt-returns-in-While
 in_stmt-returns-in-While t c =
@@ -57,9 +57,9 @@ in_stmt-returns-in-Switch t c =
     let xs = c.args.standings.now in
     let before = c.in_expr-before-in-Switch in
     let last = c.in_stmt-in-Switch in
-    missing_as xs c.args.found last.result c.args.s.now _ _ (uses b.value ++ stmt_uses (stmt_of b.body.value)) b.is (is_switch b.value _ _ b.body) refl
-    (missing_both xs c.args.found before.result last.result (uses b.value) (stmt_uses (stmt_of b.body.value)) before.ensures
-    (missing_inside xs before.result last.result c.deref-in-Switch.result.now b.body.value last.ensures c.deref-in-Switch.ensures))
+    missing_as xs c.args.found last.result c.args.s.now _ _ (uses b.value.value ++ stmt_uses (stmt_of b.body.value)) b.is (is_switch b.value _ _ b.body) refl
+    (missing_both xs c.args.found before.result last.result (uses b.value.value) (stmt_uses (stmt_of b.body.value)) (before.ensures ∙ ap (λ e. missing_in xs c.args.found (uses e)) c.deref-in-Switch.ensures)
+    (missing_inside xs before.result last.result c.deref-in-Switch-2.result.now b.body.value last.ensures c.deref-in-Switch-2.ensures))
 
 pub in_stmts-loop-s-preserved : goal.in_stmts-loop-s-preserved
 in_stmts-loop-s-preserved t c =

@@ -3,7 +3,7 @@ use Rattle.c_types.specs.declared.extent.Extent.{Extent}
 use Rattle.c_types.specs.Layout.{known, size_or_zero}
 use Rattle.c_types.specs.Table.{tags, type_at}
 use Rattle.c_values.proofs.Lower.{size_or}
-use Rattle.c_values.specs.Qualified.{extent_qualify}
+use Rattle.c_values.proofs.lemmas.Qualified.{extent_qualify}
 use Rattle.c_values.proofs.kinds.size_of.Goals as goal
 
 pub returns : goal.returns

@@ -3,7 +3,7 @@ use Rattle.std.specs.Vec.Iter.{into_iter_items}
 use Rattle.c_types.specs.Table.{AreBelow, type_at, types, types_in}
 use Rattle.c_meaning.specs.CoreTrees.{AreIn, CoreOf, all_seen, cores_of}
 use Rattle.c_meaning.specs.Values.{all_passed}
-use Rattle.c_values.specs.ManyValues.{before, behind_below, passed_end, pushed_in, turn_left, turn_passed}
+use Rattle.c_values.proofs.lemmas.ManyValues.{before, behind_below, passed_end, pushed_in, turn_left, turn_passed}
 use Rattle.c_values.proofs.passing.passed.Goals as goal
 
 pub loop-v-preserved : goal.loop-v-preserved

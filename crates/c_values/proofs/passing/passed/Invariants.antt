@@ -3,7 +3,7 @@ use Rattle.std.specs.Vec.Iter.{into_iter_items}
 use Rattle.c_types.specs.Table.{AreBelow, type_at, types, types_in}
 use Rattle.c_meaning.specs.CoreTrees.{AreIn, Cores, all_seen, cores_of, seen}
 use Rattle.c_meaning.specs.Values.{all_passed}
-use Rattle.c_values.specs.ManyValues.{before}
+use Rattle.c_values.proofs.lemmas.ManyValues.{before}
 use Rattle.c_values.proofs.passing.passed.Given as goal
 
 -- what is passed so far, and what those that are left become by the parameters that are left

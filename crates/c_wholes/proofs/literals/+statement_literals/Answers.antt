@@ -18,10 +18,11 @@ note_statement-returns-in_ok-note_statement-in-If t c =
     let b = c.in-If in
     let s = b.then.value in
     let u = b.otherwise.value in
-    let same : texts_of_stmt c.deref.result.now ≡ texts_of_stmt s = cc in
-    let like : texts_of_stmt c.deref-in-If.result.now ≡ texts_of_stmt u = cc in
+    let test : texts_of_expr c.deref.result.now ≡ texts_of_expr b.test.value = cc in
+    let same : texts_of_stmt c.deref-in-If.result.now ≡ texts_of_stmt s = cc in
+    let like : texts_of_stmt c.deref-in-If-2.result.now ≡ texts_of_stmt u = cc in
     on_ok_weaker c.note_statement-in-If.result
-    (λ h. three_parts _ _ _ _ c.args.s.now _ (texts_of_expr b.test) (texts_of_stmt s) (texts_of_stmt u) b.is (if_texts b.test b.then b.otherwise) c.in_ok-note_expr-in-If.ensures (c.in_ok-note_statement-in-If.ensures ∙ ap (once c.note_expr-in-If.new.texts) same) (h ∙ ap (once c.note_statement.new.texts) like))
+    (λ h. three_parts _ _ _ _ c.args.s.now _ (texts_of_expr b.test.value) (texts_of_stmt s) (texts_of_stmt u) b.is (if_texts b.test b.then b.otherwise) (c.in_ok-note_expr-in-If.ensures ∙ ap (once c.args.texts.now) test) (c.in_ok-note_statement-in-If.ensures ∙ ap (once c.note_expr-in-If.new.texts) same) (h ∙ ap (once c.note_statement.new.texts) like))
     c.note_statement-in-If.ensures
 
 pub note_statement-returns-in_ok-note_expr-in-While : goal.note_statement-returns-in_ok-note_expr-in-While
@@ -56,9 +57,10 @@ note_statement-returns-in_ok-note_some-in-For-3 t c =
 pub note_statement-returns-in_ok-note_expr-in-Switch : goal.note_statement-returns-in_ok-note_expr-in-Switch
 note_statement-returns-in_ok-note_expr-in-Switch t c =
     let b = c.in-Switch in
-    let same : texts_of_stmt c.deref-in-Switch.result.now ≡ texts_of_stmt b.body.value = cc in
+    let value : texts_of_expr c.deref-in-Switch.result.now ≡ texts_of_expr b.value.value = cc in
+    let same : texts_of_stmt c.deref-in-Switch-2.result.now ≡ texts_of_stmt b.body.value = cc in
     on_ok_weaker c.note_statement-in-Switch.result
-    (λ h. two_parts _ _ _ c.args.s.now _ (texts_of_expr b.value) (texts_of_stmt b.body.value) b.is (switch_texts b.value b.cases b.default b.body) c.in_ok-note_expr-in-Switch.ensures (h ∙ ap (once c.note_expr-in-Switch.new.texts) same))
+    (λ h. two_parts _ _ _ c.args.s.now _ (texts_of_expr b.value.value) (texts_of_stmt b.body.value) b.is (switch_texts b.value b.cases b.default b.body) (c.in_ok-note_expr-in-Switch.ensures ∙ ap (once c.args.texts.now) value) (h ∙ ap (once c.note_expr-in-Switch.new.texts) same))
     c.note_statement-in-Switch.ensures
 
 pub note_statements-loop-s-preserved : goal.note_statements-loop-s-preserved

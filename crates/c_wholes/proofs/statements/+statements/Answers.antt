@@ -8,7 +8,7 @@ use Rattle.c_wholes.specs.Placing.{AreStmtsPlaced, IsStmtPlaced}
 use Rattle.c_wholes.proofs.Layers.{is_do, is_for, is_if, is_initialise, is_label, is_switch, is_while}
 use Rattle.c_wholes.proofs.Loops.{next}
 use Rattle.c_wholes.proofs.PlacedLists.{one_more_stmt, stmts_whole_behind}
-use Rattle.c_wholes.proofs.PlacedStmts.{by_layer, do_placed, for_placed, from_head, from_stmt, if_placed, initialise_seen, label_placed, switch_placed, while_placed}
+use Rattle.c_wholes.proofs.PlacedStmts.{by_layer, do_placed, for_placed, from_head, from_stmt, from_value, if_placed, initialise_seen, label_placed, switch_placed, while_placed}
 use Rattle.c_wholes.proofs.statements.+statements.Goals as goal
 
 pub made_whole-returns-in_ok-whole_places-in-Initialise : goal.made_whole-returns-in_ok-whole_places-in-Initialise
@@ -26,12 +26,14 @@ made_whole-returns-in_ok-whole_statement-in-If-2 t c =
     let m = meant k.standings.now in
     let x = k.texts.now in
     let b = c.in-If in
-    let same : c.deref_mut.result.now ≡ b.then.value = cc in
-    let other : c.deref_mut-in-If.result.now ≡ b.otherwise.value = cc in
+    let test : c.deref_mut.result.now ≡ b.test.value = cc in
+    let same : c.deref_mut-in-If.result.now ≡ b.then.value = cc in
+    let other : c.deref_mut-in-If-2.result.now ≡ b.otherwise.value = cc in
+    let e = from_value k.types.now m x _ _ _ b.test.value _ test c.in_ok-whole_value-in-If.ensures in
     let s = from_stmt k.types.now m x _ _ _ b.then.value _ same c.in_ok-whole_statement-in-If.ensures in
     let u = from_stmt k.types.now m x _ _ _ b.otherwise.value _ other c.in_ok-whole_statement-in-If-2.ensures in
     by_layer k.types.now m x _ _ c.args.s _ _ _ b.is (is_if b.test b.then b.otherwise)
-    (if_placed k.types.now _ _ _ _ _ _ _ _ _ _ c.in_ok-whole_value-in-If.ensures s u)
+    (if_placed k.types.now _ _ _ _ _ _ _ _ _ _ e s u)
 
 pub made_whole-returns-in_ok-whole_statement-in-While : goal.made_whole-returns-in_ok-whole_statement-in-While
 made_whole-returns-in_ok-whole_statement-in-While t c =
@@ -73,10 +75,12 @@ made_whole-returns-in_ok-whole_statement-in-Switch t c =
     let m = meant k.standings.now in
     let x = k.texts.now in
     let b = c.in-Switch in
-    let same : c.deref_mut-in-Switch.result.now ≡ b.body.value = cc in
+    let value : c.deref_mut-in-Switch.result.now ≡ b.value.value = cc in
+    let same : c.deref_mut-in-Switch-2.result.now ≡ b.body.value = cc in
+    let e = from_value k.types.now m x _ _ _ b.value.value _ value c.in_ok-whole_value-in-Switch.ensures in
     let s = from_stmt k.types.now m x _ _ _ b.body.value _ same c.in_ok-whole_statement-in-Switch.ensures in
     by_layer k.types.now m x _ _ c.args.s _ _ _ b.is (is_switch b.value b.cases b.default b.body)
-    (switch_placed k.types.now _ _ _ _ b.cases b.default _ _ _ c.in_ok-whole_value-in-Switch.ensures s)
+    (switch_placed k.types.now _ _ _ _ b.cases b.default _ _ _ e s)
 
 pub made_whole-returns-in_ok-whole_statement-in-Label : goal.made_whole-returns-in_ok-whole_statement-in-Label
 made_whole-returns-in_ok-whole_statement-in-Label t c =

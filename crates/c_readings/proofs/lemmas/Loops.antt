@@ -2,6 +2,7 @@
 use Rattle.std.proofs.Common.{◌≡◌, ◌<◌, ◌+◌, ◌++◌, ℕ, zero, suc, length, Bool, true, false, None, Some, List, [], ◌∷◌, map, refl, sym, ap, ◌∙◌, arith}
 use Rattle.std.proofs.lemmas.List.{append_assoc, append-nil, map-append}
 use Rattle.c_ast.specs.Marks.{IsSign}
+use Rattle.c_ast.specs.Signs.{comma_sign}
 use Rattle.c_readings.specs.Reading.{State, Read, bind, gives, many, all_of, commas, answer, beyond}
 use Rattle.c_readings.specs.Readers.{some_commas}
 
@@ -75,11 +76,11 @@ ends {A} {B} {C} {go} {item} {next} {k} {o} {xs} {b} {s} h g = ends_with go item
 -- ---- lists with commas between
 
 pub record CommasLeft {A C : Type 0} (item : State → Read A) (k : List A → State → Read C) (o : Read C) (xs : List A) (s : State) : Type 0 where
-  pub left : Left (λ (b : Bool) t. answer (IsSign 45) t) (λ (b : Bool) t. item (beyond t)) (λ (b : Bool) x. b) k o xs true s
+  pub left : Left (λ (b : Bool) t. answer (IsSign comma_sign) t) (λ (b : Bool) t. item (beyond t)) (λ (b : Bool) x. b) k o xs true s
 
 pub commas_start : {A C : Type 0} (item : State → Read A) (k : List A → State → Read C) (o : Read C) (s : State) (x : A) (t : State) → o ≡ bind (some_commas item s) k → item s ≡ Some (x, t) → CommasLeft item k o (x ∷ []) t
 commas_start item k o s x t h i = record {
-  left = starts_behind (λ (b : Bool) u. answer (IsSign 45) u) (λ (b : Bool) u. item (beyond u)) (λ (b : Bool) y. b) k o x true t
+  left = starts_behind (λ (b : Bool) u. answer (IsSign comma_sign) u) (λ (b : Bool) u. item (beyond u)) (λ (b : Bool) y. b) k o x true t
       (h
       ∙ ap (λ r. bind (bind r (λ y u. bind (commas item u) (λ ys v. gives (y ∷ ys) v))) k) i
       ∙ bind_again (commas item t) (λ ys u. gives (x ∷ ys) u) k);
@@ -88,16 +89,16 @@ commas_start item k o s x t h i = record {
 -- from the first comma on
 pub commas_on : {A C : Type 0} (item : State → Read A) (k : List A → State → Read C) (o : Read C) (s : State) (x : A) → o ≡ bind (commas item s) (λ ys u. k (x ∷ ys) u) → CommasLeft item k o (x ∷ []) s
 commas_on item k o s x h = record {
-  left = starts_behind (λ (b : Bool) u. answer (IsSign 45) u) (λ (b : Bool) u. item (beyond u)) (λ (b : Bool) y. b) k o x true s h;
+  left = starts_behind (λ (b : Bool) u. answer (IsSign comma_sign) u) (λ (b : Bool) u. item (beyond u)) (λ (b : Bool) y. b) k o x true s h;
 }
 
-pub commas_go : {A C : Type 0} {item : State → Read A} {k : List A → State → Read C} {o : Read C} {xs : List A} {s : State} {x : A} {t : State} → CommasLeft item k o xs s → answer (IsSign 45) s ≡ true → item (beyond s) ≡ Some (x, t) → length t.rest < length s.rest → CommasLeft item k o (xs ++ (x ∷ [])) t
+pub commas_go : {A C : Type 0} {item : State → Read A} {k : List A → State → Read C} {o : Read C} {xs : List A} {s : State} {x : A} {t : State} → CommasLeft item k o xs s → answer (IsSign comma_sign) s ≡ true → item (beyond s) ≡ Some (x, t) → length t.rest < length s.rest → CommasLeft item k o (xs ++ (x ∷ [])) t
 commas_go h g i l = record { left = goes h.left g i l }
 
-pub commas_stop : {A C : Type 0} {item : State → Read A} {k : List A → State → Read C} {o : Read C} {xs : List A} {s : State} → CommasLeft item k o xs s → answer (IsSign 45) s ≡ true → item (beyond s) ≡ None → o ≡ None
+pub commas_stop : {A C : Type 0} {item : State → Read A} {k : List A → State → Read C} {o : Read C} {xs : List A} {s : State} → CommasLeft item k o xs s → answer (IsSign comma_sign) s ≡ true → item (beyond s) ≡ None → o ≡ None
 commas_stop h g i = stops h.left g i
 
-pub commas_end : {A C : Type 0} {item : State → Read A} {k : List A → State → Read C} {o : Read C} {xs : List A} {s : State} → CommasLeft item k o xs s → answer (IsSign 45) s ≡ false → o ≡ k xs s
+pub commas_end : {A C : Type 0} {item : State → Read A} {k : List A → State → Read C} {o : Read C} {xs : List A} {s : State} → CommasLeft item k o xs s → answer (IsSign comma_sign) s ≡ false → o ≡ k xs s
 commas_end h g = ends h.left g
 
 -- nothing is read where nothing is read with an item before it

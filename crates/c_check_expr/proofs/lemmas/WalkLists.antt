@@ -11,7 +11,7 @@ use Rattle.c_check_expr.specs.Keeps.{Keeps}
 use Rattle.c_check_expr.specs.Known.{AreSymbolsIn, state_of}
 use Rattle.c_check_expr.specs.Walks.{Walks}
 use Rattle.c_check_expr.specs.Kept.{keeps_itself, keeps_on}
-use Rattle.c_check_expr.specs.Walking.{tells_first, tells_same, walk_stop}
+use Rattle.c_check_expr.proofs.lemmas.Walking.{tells_first, tells_same, walk_stop}
 
 -- ---- outcomes
 

@@ -24,7 +24,7 @@ is_expression e = ap stmt_of (sym (stmt.rolls-Expression e)) ∙ fold-roll-CoreS
 is_block : (first locals : ℕ) (ss : List CoreStmt) → stmt_of (stmt.Block first locals ss) ≡ Block first locals (stmts_of (map stmt_of ss))
 is_block first locals ss = ap stmt_of (sym (stmt.rolls-Block first locals ss)) ∙ fold-roll-CoreStmt (StmtOf ℕ) stmt_layer (CoreStmt-F.Block first locals ss)
 
-is_if : (e : CoreOf ℕ) (s u : Box CoreStmt) → stmt_of (stmt.If e s u) ≡ If e (stmt_of s.value) (stmt_of u.value)
+is_if : (e : Box (CoreOf ℕ)) (s u : Box CoreStmt) → stmt_of (stmt.If e s u) ≡ If e.value (stmt_of s.value) (stmt_of u.value)
 is_if e s u = ap stmt_of (sym (stmt.rolls-If e s u)) ∙ fold-roll-CoreStmt (StmtOf ℕ) stmt_layer (CoreStmt-F.If e s u)
 
 is_while : (e : CoreOf ℕ) (s : Box CoreStmt) → stmt_of (stmt.While e s) ≡ While e (stmt_of s.value)
@@ -36,7 +36,7 @@ is_do s e = ap stmt_of (sym (stmt.rolls-Do s e)) ∙ fold-roll-CoreStmt (StmtOf 
 is_for : (h : Box CoreForHead) (s : Box CoreStmt) → stmt_of (stmt.For h s) ≡ For h.value.first h.value.test h.value.last (stmt_of s.value)
 is_for h s = ap stmt_of (sym (stmt.rolls-For h s)) ∙ fold-roll-CoreStmt (StmtOf ℕ) stmt_layer (CoreStmt-F.For h s)
 
-is_switch : (e : CoreOf ℕ) (cases : List CoreCase) (default : Option ℕ) (s : Box CoreStmt) → stmt_of (stmt.Switch e cases default s) ≡ Switch e cases default (stmt_of s.value)
+is_switch : (e : Box (CoreOf ℕ)) (cases : List CoreCase) (default : Option ℕ) (s : Box CoreStmt) → stmt_of (stmt.Switch e cases default s) ≡ Switch e.value cases default (stmt_of s.value)
 is_switch e cases default s = ap stmt_of (sym (stmt.rolls-Switch e cases default s)) ∙ fold-roll-CoreStmt (StmtOf ℕ) stmt_layer (CoreStmt-F.Switch e cases default s)
 
 is_label : (n : ℕ) (s : Box CoreStmt) → stmt_of (stmt.Label n s) ≡ Label n (stmt_of s.value)
@@ -69,7 +69,7 @@ statements_seen t (s ∷ ss) = rw (statements_seen t ss) refl
 pub block_seen : (t : Table) (first locals : ℕ) (ss : List CoreStmt) → stmt_in t (stmt.Block first locals ss) ≡ Block first locals (stmts_in t ss)
 block_seen t first locals ss = ap (stmt_seen (type_at t)) (is_block first locals ss) ∙ ap (Block first locals) (statements_seen t ss)
 
-pub if_seen : (t : Table) (e : CoreOf ℕ) (s u : Box CoreStmt) → stmt_in t (stmt.If e s u) ≡ If (core t e) (stmt_in t s.value) (stmt_in t u.value)
+pub if_seen : (t : Table) (e : Box (CoreOf ℕ)) (s u : Box CoreStmt) → stmt_in t (stmt.If e s u) ≡ If (core t e.value) (stmt_in t s.value) (stmt_in t u.value)
 if_seen t e s u = ap (stmt_seen (type_at t)) (is_if e s u)
 
 pub while_seen : (t : Table) (e : CoreOf ℕ) (s : Box CoreStmt) → stmt_in t (stmt.While e s) ≡ While (core t e) (stmt_in t s.value)
@@ -81,7 +81,7 @@ do_seen t s e = ap (stmt_seen (type_at t)) (is_do s e)
 pub for_seen : (t : Table) (h : Box CoreForHead) (s : Box CoreStmt) → stmt_in t (stmt.For h s) ≡ For (maybe_core t h.value.first) (maybe_core t h.value.test) (maybe_core t h.value.last) (stmt_in t s.value)
 for_seen t h s = ap (stmt_seen (type_at t)) (is_for h s)
 
-pub switch_seen : (t : Table) (e : CoreOf ℕ) (cases : List CoreCase) (default : Option ℕ) (s : Box CoreStmt) → stmt_in t (stmt.Switch e cases default s) ≡ Switch (core t e) cases default (stmt_in t s.value)
+pub switch_seen : (t : Table) (e : Box (CoreOf ℕ)) (cases : List CoreCase) (default : Option ℕ) (s : Box CoreStmt) → stmt_in t (stmt.Switch e cases default s) ≡ Switch (core t e.value) cases default (stmt_in t s.value)
 switch_seen t e cases default s = ap (stmt_seen (type_at t)) (is_switch e cases default s)
 
 pub label_seen : (t : Table) (n : ℕ) (s : Box CoreStmt) → stmt_in t (stmt.Label n s) ≡ Label n (stmt_in t s.value)
@@ -114,7 +114,7 @@ statements_within n (s ∷ ss) i = (i.0, statements_within n ss i.1)
 pub block_within : (n first locals : ℕ) (ss : List CoreStmt) → AreStmtsBelow n ss → IsStmtIn n (stmt_of (stmt.Block first locals ss))
 block_within n first locals ss i = subst (IsStmtIn n) (sym (is_block first locals ss)) (statements_within n ss i)
 
-pub if_within : (n : ℕ) (e : CoreOf ℕ) (s u : Box CoreStmt) → IsIn n e → IsStmtIn n (stmt_of s.value) → IsStmtIn n (stmt_of u.value) → IsStmtIn n (stmt_of (stmt.If e s u))
+pub if_within : (n : ℕ) (e : Box (CoreOf ℕ)) (s u : Box CoreStmt) → IsIn n e.value → IsStmtIn n (stmt_of s.value) → IsStmtIn n (stmt_of u.value) → IsStmtIn n (stmt_of (stmt.If e s u))
 if_within n e s u i j k = subst (IsStmtIn n) (sym (is_if e s u)) (i, (j, k))
 
 pub while_within : (n : ℕ) (e : CoreOf ℕ) (s : Box CoreStmt) → IsIn n e → IsStmtIn n (stmt_of s.value) → IsStmtIn n (stmt_of (stmt.While e s))
@@ -126,7 +126,7 @@ do_within n s e i j = subst (IsStmtIn n) (sym (is_do s e)) (i, j)
 pub for_within : (n : ℕ) (h : Box CoreForHead) (s : Box CoreStmt) → IsSomeIn n h.value.first → IsSomeIn n h.value.test → IsSomeIn n h.value.last → IsStmtIn n (stmt_of s.value) → IsStmtIn n (stmt_of (stmt.For h s))
 for_within n h s i j k l = subst (IsStmtIn n) (sym (is_for h s)) (i, (j, (k, l)))
 
-pub switch_within : (n : ℕ) (e : CoreOf ℕ) (cases : List CoreCase) (default : Option ℕ) (s : Box CoreStmt) → IsIn n e → IsStmtIn n (stmt_of s.value) → IsStmtIn n (stmt_of (stmt.Switch e cases default s))
+pub switch_within : (n : ℕ) (e : Box (CoreOf ℕ)) (cases : List CoreCase) (default : Option ℕ) (s : Box CoreStmt) → IsIn n e.value → IsStmtIn n (stmt_of s.value) → IsStmtIn n (stmt_of (stmt.Switch e cases default s))
 switch_within n e cases default s i j = subst (IsStmtIn n) (sym (is_switch e cases default s)) (i, j)
 
 pub label_within : (n label : ℕ) (s : Box CoreStmt) → IsStmtIn n (stmt_of s.value) → IsStmtIn n (stmt_of (stmt.Label label s))

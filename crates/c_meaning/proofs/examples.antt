@@ -1,0 +1,12 @@
+mod AddressExamples
+mod ConstantExamples
+mod DeclarationExamples
+mod DeclaredExamples
+mod ExprExamples
+mod FillingExamples
+mod FitExamples
+mod OperandExamples
+mod RowExamples
+mod TypeExamples
+mod TypingExamples
+mod UnitExamples

@@ -1,0 +1,2 @@
+pub mod ManyValues
+pub mod Qualified
