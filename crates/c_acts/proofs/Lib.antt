@@ -1,4 +1,5 @@
 pub mod Given
+pub mod NumberStores
 pub mod Storages
 pub mod Structures
 pub mod lemmas

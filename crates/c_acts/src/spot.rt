@@ -22,6 +22,7 @@ pub struct Spot {
 impl Spot {
     /// That of an expression of a place. `Memory` where a bit-field doesn't lie in its unit of 32 bits, which no checked unit
     /// has.
+    #[inline(always)]
     pub fn of(types: &TypeTable, place: &CoreExpr) -> Result<Self, Stop>
         ensures is { IfOk result (λ x. x ≡ kept_of (spot_of (seen (type_at types.now) place.now))) }
         ensures inside { IfOk result LiesInUnit }

@@ -10,6 +10,7 @@ mod focus;
 mod form;
 mod frame;
 mod how;
+mod kept;
 mod labels;
 mod loops;
 mod machine;

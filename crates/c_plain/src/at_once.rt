@@ -74,7 +74,22 @@ pub fn effect_at_once(
 {
     match number_written(program, world, e) {
         Some(done) => Some(done),
-        None if is_plain(e) => Some(no_value(plain_value(program, world, e))),
-        None => None,
+        None => effect_in_full(program, world, e),
+    }
+}
+
+/// The same by its value.
+#[inline(never)]
+fn effect_in_full(program: &Program, world: &mut World, e: &CoreExpr) -> Option<Result<(), Stop>>
+    requires names { HasNames program.now }
+    ensures comes { IfSome result (λ r. DoneAtOnce program.now world.old world.new e.now r) }
+    ensures none { IfNone result (is_plain_tree e.now ≡ false) }
+    ensures same { IfNone result (world.new ≡ world.old) }
+    ensures stays { StaysBelow world.old world.new }
+{
+    if is_plain(e) {
+        Some(no_value(plain_value(program, world, e)))
+    } else {
+        None
     }
 }

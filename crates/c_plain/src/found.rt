@@ -52,6 +52,20 @@ pub(crate) fn leaf_pointer(program: &Program, world: &World, e: &CoreExpr) -> Op
     }
 }
 
+/// The pointer to an object of the running call, where it is kept.
+#[inline(always)]
+pub(crate) fn local_place<'a>(world: &'a World, e: &CoreExpr) -> Option<&'a Value>
+    ensures { IfSome result (λ v. (p : Program) → GivesAtOnce p world.now e.now v.now) }
+{
+    match first_part(e) {
+        None => match e.what {
+            CoreKind::Local { place, .. } => world.locals.find(place),
+            _ => None,
+        },
+        Some(_) => None,
+    }
+}
+
 /// The number that a place holds, other than a bit-field.
 #[inline(always)]
 pub(crate) fn read_word(

@@ -8,7 +8,9 @@ ghost use Rattle.c_plain.specs.AtOnce.{GivesAtOnce};
 ghost use Rattle.c_worlds.specs.Programs.{HasNames};
 ghost use Rattle.objects.specs.declared.value.Value.TheVariants.{Number};
 
-use crate::found::{changed_word, combined_word, found, leaf_pointer, leaf_word, read_word};
+use crate::found::{
+    changed_word, combined_word, found, leaf_pointer, leaf_word, local_place, read_word,
+};
 use crate::parts::{one_part, two_parts};
 use c_acts::{Parts, Shape, combine, unary_act};
 use c_meaning::{CoreExpr, CoreKind};
@@ -38,12 +40,9 @@ fn unary_word(program: &Program, world: &World, e: &CoreExpr) -> Option<u32>
 {
     let part = one_part(e)?;
     match e.what {
-        CoreKind::Read => match Shape::of(&part.what) {
-            Shape::Leaf => {
-                let p = leaf_pointer(program, world, part)?;
-                read_word(program, world, e, part, p)
-            }
-            _ => {
+        CoreKind::Read => match local_place(world, part) {
+            Some(p) => read_word(program, world, e, part, *p),
+            None => {
                 let p = plain_pointer(program, world, part)?;
                 read_word(program, world, e, part, p)
             }

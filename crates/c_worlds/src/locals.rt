@@ -1,4 +1,4 @@
-ghost use Rattle.std.specs.Prelude.{◌≡◌, ◌≤◌, ◌++◌, ◌∷◌, [], length, drop, slice_get, IfOk, OnOk, OnErr};
+ghost use Rattle.std.specs.Prelude.{◌≡◌, ◌≤◌, ◌++◌, ◌∷◌, [], length, drop, slice_get, Some, None, IfSome, IfNone, IfOk, OnOk, OnErr};
 ghost use Rattle.c_worlds.specs.OpenLocals.{OpenLocals, all_locals, locals_from};
 
 use lcc_base::Memory;
@@ -52,6 +52,15 @@ impl Locals {
             Some(value) => Some(*value),
             None => None,
         }
+    }
+
+    /// The same, where it is kept.
+    #[inline(always)]
+    pub fn find(&self, place: u32) -> Option<&Value>
+        ensures some { IfSome result (λ v. slice_get self.now.here place ≡ Some v.now) }
+        ensures none { IfNone result (slice_get self.now.here place ≡ None) }
+    {
+        self.values.get(self.base.saturating_add(place as usize))
     }
 
     /// The object at a place of the call that waits and whose locals begin behind so many.

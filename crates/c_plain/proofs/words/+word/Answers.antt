@@ -41,21 +41,21 @@ unary_pointer-returns t c =
     (λ x i calls. unary_at_once (setting_of p calls) (known p) e a w w v (Ok (Some x)) c.in_ok-part.ensures.some c.requires.shape (c.in_ok-p.ensures calls)
     (subst (λ r. Comes (λ k y. row (setting_of p calls) (what_of e) (known p (type_of e)) (line_of e) (giving (tree p a) v ∷ []) k y) w w r) i (c.unary_act.ensures calls)))
 
-pub unary_word-returns-in_ok-p-in-Leaf : goal.unary_word-returns-in_ok-p-in-Leaf
-unary_word-returns-in_ok-p-in-Leaf t c =
+pub unary_word-returns-in-Some : goal.unary_word-returns-in-Some
+unary_word-returns-in-Some t c =
     let p = c.args.program.now in
     let w = c.args.world.now in
     if_some _ _ c.read_word.result c.read_word.ensures
-    (λ n h calls. unary_at_once (setting_of p calls) (known p) c.args.e.now c.in_ok-part.part.now w w c.in_ok-p-in-Leaf.p (Ok (Some (Number n)))
-    c.in_ok-part.ensures.some c.requires.shape (c.in_ok-p-in-Leaf.ensures calls) (h calls))
+    (λ n h calls. unary_at_once (setting_of p calls) (known p) c.args.e.now c.in_ok-part.part.now w w c.in-Some.p.now (Ok (Some (Number n)))
+    c.in_ok-part.ensures.some c.requires.shape (c.in-Some.ensures p calls) (h calls))
 
-pub unary_word-returns-in_ok-p-in_default-of : goal.unary_word-returns-in_ok-p-in_default-of
-unary_word-returns-in_ok-p-in_default-of t c =
+pub unary_word-returns-in_ok-p-in-None : goal.unary_word-returns-in_ok-p-in-None
+unary_word-returns-in_ok-p-in-None t c =
     let p = c.args.program.now in
     let w = c.args.world.now in
-    if_some _ _ c.read_word-in_default-of.result c.read_word-in_default-of.ensures
-    (λ n h calls. unary_at_once (setting_of p calls) (known p) c.args.e.now c.in_ok-part.part.now w w c.in_ok-p-in_default-of.p (Ok (Some (Number n)))
-    c.in_ok-part.ensures.some c.requires.shape (c.in_ok-p-in_default-of.ensures calls) (h calls))
+    if_some _ _ c.read_word-in-None.result c.read_word-in-None.ensures
+    (λ n h calls. unary_at_once (setting_of p calls) (known p) c.args.e.now c.in_ok-part.part.now w w c.in_ok-p-in-None.p (Ok (Some (Number n)))
+    c.in_ok-part.ensures.some c.requires.shape (c.in_ok-p-in-None.ensures calls) (h calls))
 
 pub unary_word-returns-in_ok-n-in_default : goal.unary_word-returns-in_ok-n-in_default
 unary_word-returns-in_ok-n-in_default t c =
