@@ -1,0 +1,6 @@
+mod examples
+mod NodeRows
+mod Counting
+mod Seen
+mod Told
+mod OneFault
