@@ -1,0 +1,11 @@
+pub mod Stands
+pub mod Readings
+pub mod Items
+pub mod Nothing
+pub mod Still
+pub mod Filling
+pub mod Sound
+pub mod Standing
+pub mod Beginning
+pub mod Fitting
+pub mod Numbering

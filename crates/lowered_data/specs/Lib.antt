@@ -1,0 +1,7 @@
+pub mod Stand
+pub mod Data
+pub mod Still
+pub mod Initial
+pub mod Laws
+pub mod Fitting
+pub mod Numbering
