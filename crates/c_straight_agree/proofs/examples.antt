@@ -1,0 +1,3 @@
+mod FinalExamples
+mod IncrementExamples
+mod RefusedExamples

@@ -1,0 +1,10 @@
+pub mod Settled
+pub mod Standing
+pub mod Narrow
+pub mod Stores
+pub mod Agreement
+pub mod Extends
+pub mod Layouts
+pub mod Checked
+pub mod Laws
+pub mod Finals
