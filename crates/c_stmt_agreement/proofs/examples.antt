@@ -1,0 +1,2 @@
+mod ReturnExamples
+mod JumpExamples

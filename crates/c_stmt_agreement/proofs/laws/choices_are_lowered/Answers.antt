@@ -1,0 +1,9 @@
+use Rattle.c_stmt_agreement.proofs.lemmas.Choices.{choice_is_lowered}
+use Rattle.c_stmt_agreement.proofs.lemmas.Switches.{switch_is_lowered}
+use Rattle.c_stmt_agreement.proofs.laws.choices_are_lowered.Goals as goal
+
+pub returns-clause-choices : goal.returns-clause-choices
+returns-clause-choices c = choice_is_lowered
+
+pub returns-clause-switches : goal.returns-clause-switches
+returns-clause-switches c = switch_is_lowered

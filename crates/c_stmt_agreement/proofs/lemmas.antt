@@ -1,0 +1,13 @@
+pub mod Places
+pub mod Privacy
+pub mod Rebasing
+pub mod Staying
+pub mod Outcomes
+pub mod Sequences
+pub mod Blocks
+pub mod Choices
+pub mod Leading
+pub mod Loops
+pub mod ForLoops
+pub mod Switches
+pub mod Returns

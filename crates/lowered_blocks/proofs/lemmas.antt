@@ -1,0 +1,5 @@
+pub mod PlainTemplates
+pub mod Naming
+pub mod PlainRoots
+pub mod Steps
+pub mod ExpressionNames

@@ -1,0 +1,5 @@
+mod Samples
+mod LoopExamples
+mod SwitchExamples
+mod FunctionExamples
+mod RelationExamples

@@ -1,0 +1,9 @@
+pub mod Stepping
+pub mod SearchSteps
+pub mod RowSteps
+pub mod Induction
+pub mod Adding
+pub mod Leaving
+pub mod Choosing
+pub mod Laying
+pub mod Framing

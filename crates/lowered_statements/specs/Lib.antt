@@ -1,0 +1,15 @@
+pub mod Bodies
+pub mod Functions
+pub mod Zeroing
+pub mod Initialisers
+pub mod Returns
+pub mod Searches
+pub mod Rows
+pub mod Statements
+pub mod Layouts
+pub mod FunctionBodies
+pub mod Steps
+pub mod Later
+pub mod Nodes
+pub mod Framed
+pub mod Choices
