@@ -1,0 +1,5 @@
+pub mod Operands
+pub mod Asking
+pub mod Branching
+pub mod Fielding
+pub mod States
