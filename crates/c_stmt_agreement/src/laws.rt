@@ -1,3 +1,4 @@
+//! Laws of lowered statements.
 ghost use Rattle.c_stmt_agreement.specs.Laws.{BlockIsLowered, BreakIsLowered, ChoiceIsLowered, ContinueIsLowered, DoIsLowered, ExpressionIsLowered, ForIsLowered, GotoIsLowered, JumpsLead, LabelIsLowered, LastIsLowered, MarksLead, NoStatementIsLowered, NothingIsLowered, ReturnIsLowered, ScalarReturnIsLowered, SequenceIsLowered, SwitchIsLowered, WhileIsLowered};
 
 use piece_runs::blocks_end;

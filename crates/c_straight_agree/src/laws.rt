@@ -1,3 +1,4 @@
+//! Laws of lowered expressions.
 ghost use Rattle.c_straight_agree.specs.Checked.{StraightExpressionsAgree};
 ghost use Rattle.c_straight_agree.specs.Finals.{FinalsGoBack, TestFinalsGoBack};
 ghost use Rattle.c_straight_agree.specs.Laws.{OperandsWait, RootsStore, StepsJoin, TemplatesAnswer, ValuesArePlaced};

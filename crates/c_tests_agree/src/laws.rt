@@ -1,3 +1,4 @@
+//! Laws of lowered tests.
 ghost use Rattle.c_tests_agree.specs.Laws.{BranchesAreTaken};
 ghost use Rattle.c_tests_agree.specs.Scalars.{ScalarsAreTested};
 

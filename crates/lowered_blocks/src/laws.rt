@@ -1,3 +1,4 @@
+//! Laws of the blocks of lowered expressions.
 ghost use Rattle.lowered_blocks.specs.Known.{ExpressionsKeepKnown, TestsKeepKnown};
 
 /// The blocks that the lowering of expressions and tests finishes are blocks: operands are nodes of their own block, and no two

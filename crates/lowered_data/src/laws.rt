@@ -1,3 +1,4 @@
+//! Laws of initial data.
 ghost use Rattle.lowered_data.specs.Fitting.{DataFit};
 ghost use Rattle.lowered_data.specs.Laws.{DataStand, StartIsSound, StartStandsAlone};
 ghost use Rattle.lowered_data.specs.Numbering.{NumbersStand};

@@ -1,3 +1,4 @@
+//! Laws of the labels of lowered functions.
 ghost use Rattle.lowered_labels.specs.Marks.{ExpressionsMark, FunctionsMark, StatementsMark, TestsMark};
 ghost use Rattle.lowered_labels.specs.Used.{FunctionsAreKnown, StatementsKeepKnown};
 

@@ -1,3 +1,4 @@
+//! Laws of the lowering of statements.
 ghost use Rattle.lowered_statements.specs.Choices.{ChosenIsFound, ChosenIsLabel};
 ghost use Rattle.lowered_statements.specs.Framed.{FunctionsHaveFrames, LayoutsAreFrames, StatementsKeepFrames};
 ghost use Rattle.lowered_statements.specs.Later.{FunctionsAdd, StatementsAdd};

@@ -1,3 +1,4 @@
+//! Where the expressions of a function stand.
 ghost use Rattle.std.specs.Prelude.{◌≡◌, ◌+◌, IfOk};
 ghost use Rattle.c_runs.specs.Calls as calls;
 ghost use Rattle.c_worlds.specs.BuiltIns.{numbered_built_ins};

@@ -1,3 +1,4 @@
+//! The open block of a function that is lowered.
 ghost use Rattle.std.specs.Prelude.{◌≡◌, ◌++◌, ◌∷◌, [], IfOk, OnOk, None, true};
 ghost use Rattle.lcc_base.specs.declared.order.Order.{Order};
 ghost use Rattle.forests.specs.Addresses.{Home};

@@ -1,3 +1,4 @@
+//! Operands of what is lowered.
 ghost use Rattle.std.specs.Prelude.{◌≡◌};
 ghost use Rattle.c_rows_agree.specs.Integers.{number};
 ghost use Rattle.c_rows_agree.specs.Templates.{Given};

@@ -1,3 +1,4 @@
+//! How far a function is lowered, and its steps.
 ghost use Rattle.std.specs.Prelude.{◌≡◌, IfOk, OnOk};
 ghost use Rattle.dag_forest.specs.NewSlots.{offset_below};
 ghost use Rattle.lowered_forms.specs.Lows.{Low, ended, marked, jumped, slot_offset, with_label, with_slot};
