@@ -4,7 +4,7 @@ use Rattle.std.proofs.lemmas.List.{take-append-drop, take_all}
 use Rattle.std.specs.Prelude.{◌≢◌}
 use Rattle.lcc_text.specs.declared.class.Class.TheVariants.{Digit}
 use Rattle.lcc_text.specs.Classes.{in_class, AllIn, StartsIn, StopsIn}
-use Rattle.lcc_text.proofs.Runs.{run_pos, starts_take, longest_run}
+use Rattle.lcc_text.proofs.lemmas.Runs.{run_pos, starts_take, longest_run}
 use Rattle.asm_lines.specs.declared.class.AsmClass.TheVariants.{Symbol, HexDigit}
 use Rattle.asm_lines.specs.declared.token.Kind.{Kind}
 use Rattle.asm_lines.specs.declared.token.Kind.TheVariants as kinds

@@ -38,7 +38,7 @@ fn sign_of(byte: u8) -> Option<Kind>
 }
 
 /// The name at the front.
-#[tactic(auto, using(crate::specs::Next::word_next, lcc_text::proofs::Runs::run_pos))]
+#[tactic(auto, using(crate::specs::Next::word_next, lcc_text::proofs::lemmas::Runs::run_pos))]
 fn word<'a>(bytes: &'a [u8]) -> Next<'a>
     requires symbol { StartsIn (in_asm Symbol) bytes.now }
     requires no_digit { StopsIn (in_class Digit) bytes.now }
@@ -77,7 +77,7 @@ fn hexadecimal<'a>(bytes: &'a [u8]) -> Option<Next<'a>>
 }
 
 /// The number at the front.
-#[tactic(auto, using(crate::specs::Next::decimal_next, lcc_text::proofs::Runs::run_pos))]
+#[tactic(auto, using(crate::specs::Next::decimal_next, lcc_text::proofs::lemmas::Runs::run_pos))]
 fn number<'a>(bytes: &'a [u8]) -> Next<'a>
     requires { StartsIn (in_class Digit) bytes.now }
     ensures next { IsNext bytes.now (tok_of result.kind result.text.now) result.rest.now }

@@ -8,8 +8,8 @@ use Rattle.std.proofs.lemmas.List.{map-append}
 use Rattle.std.proofs.lemmas.List.Elements.{All-cons, All-nil, All-head, All-tail}
 use Rattle.std.proofs.lemmas.Slice.Eq.{bytes_eq-Decides}
 use Rattle.std.proofs.lemmas.Bool.Decides.{same_from_decides, Decides-like}
-use Rattle.lcc_text.proofs.Keys.{now, place_now}
-use Rattle.lcc_text.proofs.Places.{place_some}
+use Rattle.lcc_text.proofs.lemmas.Keys.{now, place_now}
+use Rattle.lcc_text.proofs.lemmas.Places.{place_some}
 use Rattle.indexmap.specs.IndexMap.{IndexMap, insert_entry}
 use Rattle.indexmap.proofs.CallerLemmas.{insert_entry-new}
 use Rattle.asm_text.specs.declared.place.Place.{Place}

@@ -5,7 +5,7 @@ ghost use Rattle.c_lexer.specs.Runs.{run, behind};
 use lcc_text::{ByteClass, run_len};
 
 /// The longest front that the class makes, and what stands behind it.
-#[tactic(auto, using(crate::proofs::Runs::is_run, crate::proofs::Runs::is_behind, lcc_text::proofs::Runs::run_pos))]
+#[tactic(auto, using(crate::proofs::Runs::is_run, crate::proofs::Runs::is_behind, lcc_text::proofs::lemmas::Runs::run_pos))]
 pub(crate) fn split_run<'a, C: ByteClass>(class: C, bytes: &'a [u8]) -> (&'a [u8], &'a [u8])
     ensures front { result.0.now ≡ run (C.members class) bytes.now }
     ensures rest { result.1.now ≡ behind (C.members class) bytes.now }

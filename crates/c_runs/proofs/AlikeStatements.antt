@@ -21,7 +21,7 @@ use Rattle.c_runs.specs.Calls.{Call, Setting}
 use Rattle.c_runs.specs.Expressions.{eval, test}
 use Rattle.c_runs.specs.Statements.{Entry, Start, At, round, rounds, loop, loop_between, loop_behind, jumps, jump, maybe_dropped, maybe_test, last_and_test, chosen, to_case, switch_on, filled, fill, zeroed_at, initialised, has, any_has, exec, exec_all}
 use Rattle.c_runs.specs.Laws.{FallsOut, world_after, behind}
-use Rattle.c_runs.proofs.Equations.{rounds_are, jumps_are}
+use Rattle.c_runs.proofs.lemmas.Equations.{rounds_are, jumps_are}
 use Rattle.c_runs.proofs.Growing.{Grows, GrowsAct, GrowsOut, GrowsOuts, do_grows, go_grows, next_grows, looped_grows, switched_grows, spent_grows, either_grows, done_grows, catch_grows, if_grows}
 use Rattle.c_runs.proofs.Alike.{Ahead, Cut, EndsAlike, Goes, Acts, CallsAct, with_calls, acts_less, drop_acts, asked_acts, eval_acts}
 

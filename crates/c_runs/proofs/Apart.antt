@@ -17,7 +17,7 @@ use Rattle.c_runs.specs.Run.{body_run, function_run, context}
 use Rattle.c_runs.specs.Laws.{CallsStandAlone, behind, apart, back_in}
 use Rattle.c_runs.proofs.Alike.{Ahead}
 use Rattle.c_runs.proofs.AlikeStatements.{GoesOut}
-use Rattle.c_runs.proofs.AlikeCalls.{body_acts, calls_act, call_is}
+use Rattle.c_runs.proofs.lemmas.AlikeCalls.{body_acts, calls_act, call_is}
 
 -- an outcome in the world where other events were seen before
 abbrev out_behind : List Event → Out → Out

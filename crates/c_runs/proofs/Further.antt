@@ -16,7 +16,7 @@ use Rattle.c_runs.specs.Room.{room}
 use Rattle.c_runs.specs.Laws.{IsFurther, RunsGoFurther, OutputsGrow, DepthsGrow, behind, world_after}
 use Rattle.c_runs.proofs.Alike.{Ahead, CallsAct, with_calls}
 use Rattle.c_runs.proofs.AlikeStatements.{CutOut, GoesOut, ActsOut, next_acts, choice_goes, fill_acts}
-use Rattle.c_runs.proofs.AlikeCalls.{body_acts, calls_act, here}
+use Rattle.c_runs.proofs.lemmas.AlikeCalls.{body_acts, calls_act, here}
 use Rattle.c_runs.proofs.Growing.{GrowsOut, either_grows}
 
 filled_acts : (g : Ahead) (n : ℕ) (s : Setting) (d : ℕ → Call → Result) → CallsAct g n s.calls d → (m : ℕ) (os : List ObjectTree) → ActsOut g n (λ k w. filled_from s m os k w) (λ k w. filled_from (with_calls s d) m os k w)

@@ -1,17 +1,14 @@
+pub mod lemmas
 mod examples
-pub mod Equations
 pub mod Growing
 pub mod Alike
 pub mod AlikeStatements
-pub mod AlikeCalls
 pub mod Further
 pub mod Apart
 pub mod Words
 pub mod Each
 pub mod SoundValues
 pub mod Sound
-pub mod SoundStatements
-pub mod SoundCalls
 pub mod SoundRuns
 pub mod Locals
 pub mod Passed

@@ -37,7 +37,7 @@ use Rattle.c_runs.specs.Statements.{Start, exec}
 use Rattle.c_runs.specs.Soundness.{IsSound, Outline, outline, outlines, IsObjectOf, AreObjectsOf, AreLocalsOf}
 use Rattle.c_runs.specs.Locals.{body_start, IfOpen, IsPassed, ArePassed, BodiesStart, EntriesMakeLocals, EntriesStaySound, LocalsAreKept, LocalIsObject}
 use Rattle.c_runs.proofs.SoundValues.{IfOk}
-use Rattle.c_runs.proofs.SoundCalls.{SoundBody, outlines_append, through_same, parameters_sound, locals_sound, entered_sound}
+use Rattle.c_runs.proofs.lemmas.SoundCalls.{SoundBody, outlines_append, through_same, parameters_sound, locals_sound, entered_sound}
 
 -- ---- more objects
 

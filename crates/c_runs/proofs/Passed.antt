@@ -29,7 +29,7 @@ use Rattle.c_runs.specs.Locals.{body_start, IfOpen, IsPassed, AreCopies, IsPasse
 use Rattle.c_runs.proofs.Each.{each_append, each_get}
 use Rattle.c_runs.proofs.SoundValues.{IfOk, Changed}
 use Rattle.c_runs.proofs.Sound.{part, Sound, CallsSound, IsSoundArgument, arguments_more, assigned_sound, changed_world, eval_act, keeps_refl, keeps_trans}
-use Rattle.c_runs.proofs.SoundCalls.{call_sound, exec_sound}
+use Rattle.c_runs.proofs.lemmas.SoundCalls.{call_sound, exec_sound}
 use Rattle.c_runs.proofs.Tame.{units_are_tame}
 use Rattle.c_runs.proofs.Locals.{bodies_start, entries_make_locals, entries_stay_sound, local_is_object, locals_are_kept}
 

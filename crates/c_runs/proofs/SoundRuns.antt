@@ -21,8 +21,8 @@ use Rattle.c_runs.proofs.Each.{each_get, each_append, each_of, each_replicate}
 use Rattle.c_runs.proofs.SoundValues.{value_more, object_more, known_sound}
 use Rattle.c_runs.proofs.Sound.{CallsSound}
 use Rattle.c_runs.proofs.Tame.{units_are_tame}
-use Rattle.c_runs.proofs.SoundStatements.{SoundOut, SoundOuts, next_acts, fill_act}
-use Rattle.c_runs.proofs.SoundCalls.{SoundBody, outlines_append, longer, body_sound, call_sound}
+use Rattle.c_runs.proofs.lemmas.SoundStatements.{SoundOut, SoundOuts, next_acts, fill_act}
+use Rattle.c_runs.proofs.lemmas.SoundCalls.{SoundBody, outlines_append, longer, body_sound, call_sound}
 
 -- ---- the start: the unit's own objects are made, and then all is sound but for their number
 

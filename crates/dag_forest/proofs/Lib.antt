@@ -1,5 +1,4 @@
 pub mod lemmas
-pub mod Listed
 pub mod Tallies
 mod Stays
 mod Sound
@@ -15,7 +14,6 @@ pub mod Counts
 pub mod ReleaseLaws
 pub mod RootLaws
 pub mod TurnLaws
-pub mod FrameLaws
 pub mod Finished
 mod Weights
 mod Thrift

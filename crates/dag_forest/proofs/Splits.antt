@@ -17,7 +17,7 @@ use Rattle.dag_forest.proofs.lemmas.Once.{acts_are_once}
 use Rattle.dag_forest.proofs.Ready.{acts_are_ready}
 use Rattle.dag_forest.proofs.lemmas.Chosen.{apart, between}
 use Rattle.dag_forest.proofs.Fits.{are_used, holds_from}
-use Rattle.dag_forest.proofs.FrameLaws.{place_of}
+use Rattle.dag_forest.proofs.lemmas.Frames.{place_of}
 use Rattle.dag_forest.specs.Places.{Plain}
 use Rattle.dag_forest.proofs.SlotLaws.{is_temporary}
 use Rattle.dag_forest.proofs.Weights.{erased_are, computed_once}

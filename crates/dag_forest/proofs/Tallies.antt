@@ -10,7 +10,7 @@ use Rattle.dag_forest.specs.declared.kids.Kids.{Kids}
 use Rattle.dag_forest.specs.Entries.{AreBelow}
 use Rattle.dag_forest.specs.Keys.{key_at}
 use Rattle.dag_forest.specs.Tally.{Tally, none, with_entry, tally, AreFormed, node_count, keys_of, key_behind, ends, holds_call, AreDistinct, IsFresh, IsTallied}
-use Rattle.dag_forest.proofs.Listed.{snoc_cases}
+use Rattle.dag_forest.proofs.lemmas.Listed.{snoc_cases}
 
 pub tally_snoc : (es : List Entry) (e : Entry) → tally (es ++ e ∷ []) ≡ with_entry (tally es) e
 tally_snoc es e = fold-append with_entry none es (e ∷ [])

@@ -10,7 +10,7 @@ use Rattle.first_form.specs.Classes.{in_first}
 use Rattle.first_form.specs.Signs.{is_sign}
 use Rattle.first_form.specs.Tokens.{Token, starts_with_digit, starts_constant, IsName, IsConstant, IsToken, IsNext}
 use Rattle.first_form.specs.Readings.{NoToken}
-use Rattle.lcc_text.proofs.Runs.{longest_run}
+use Rattle.lcc_text.proofs.lemmas.Runs.{longest_run}
 use Rattle.first_form.proofs.SignTables.{sign_no_name, sign_no_constant}
 use Rattle.first_form.proofs.Truths.{both_ways, and_both, or_none, or_cases}
 use Rattle.first_form.proofs.Lists.{length_take}

@@ -3,7 +3,7 @@ use Rattle.std.proofs.Common.{◌≡◌, ◌≤◌, ◌<◌, ℕ, zero, suc, fal
 use Rattle.std.specs.Prelude.{slice_get}
 use Rattle.std.proofs.lemmas.Option.{none-some}
 use Rattle.std.proofs.lemmas.List.{take-append-drop, length-take-le}
-use Rattle.lcc_text.proofs.Stopping.{stops_not, stop_behind}
+use Rattle.lcc_text.proofs.lemmas.Stopping.{stops_not, stop_behind}
 use Rattle.lburg_lines.specs.declared.section.Section.{Section}
 use Rattle.lburg_lines.specs.declared.section.Section.TheVariants.{Rules}
 use Rattle.lburg_lines.specs.Tokens.{Tok}

@@ -3,7 +3,7 @@ use Rattle.std.proofs.Common.{◌≡◌, ◌<◌, ◌≤◌, ◌⊎◌, ℕ, ◌
 use Rattle.std.specs.Prelude.{◌≢◌, slice_get, IfSome, IfNone}
 use Rattle.std.proofs.lemmas.Option.{same_Some, slice_get_within}
 use Rattle.lcc_text.specs.Names.{bytes_of, place_of}
-use Rattle.lcc_text.proofs.Places.{place_none, place_some}
+use Rattle.lcc_text.proofs.lemmas.Places.{place_none, place_some}
 use Rattle.lburg_lines.specs.Tokens.{Tok, Word}
 use Rattle.lburg_lines.specs.Grammar.{AreLineOf}
 use Rattle.lburg_lines.specs.Sections.{TokenLine}

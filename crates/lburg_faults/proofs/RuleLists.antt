@@ -11,7 +11,7 @@ use Rattle.std.proofs.lemmas.Cmp.{nat_list_eq_equiv}
 use Rattle.std.specs.Cmp.Lexicographic.{same_text, pointwise}
 use Rattle.std.proofs.lemmas.Map.Made.{length-le_from_is_member}
 use Rattle.lcc_text.specs.Names.{with_name, place_of}
-use Rattle.lcc_text.proofs.Places.{place_some, place_none, known_or_new, with_known, with_new}
+use Rattle.lcc_text.proofs.lemmas.Places.{place_some, place_none, known_or_new, with_known, with_new}
 use Rattle.lburg_faults.specs.Terminals.{Among}
 use Rattle.lburg_faults.specs.Limits.{AreDistinct}
 

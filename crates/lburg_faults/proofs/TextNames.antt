@@ -3,7 +3,7 @@ use Rattle.std.proofs.Common.{◌≡◌, ℕ, zero, suc, ◌⊎◌, true, false,
 use Rattle.std.specs.Prelude.{slice_get, is_some}
 use Rattle.std.proofs.lemmas.Option.{none-some, same_Some}
 use Rattle.lcc_text.specs.Names.{with_name, place_of}
-use Rattle.lcc_text.proofs.Places.{place_some, place_none, known_or_new, with_known, with_new}
+use Rattle.lcc_text.proofs.lemmas.Places.{place_some, place_none, known_or_new, with_known, with_new}
 use Rattle.lburg_faults.specs.Terminals.{Among}
 
 -- ---- a name that was looked up

@@ -4,7 +4,7 @@ use Rattle.std.specs.Prelude.{slice_get}
 use Rattle.std.proofs.lemmas.List.{map-append}
 use Rattle.std.proofs.lemmas.Option.{slice_get_within}
 use Rattle.lcc_text.specs.Decimal.{value_of}
-use Rattle.lcc_text.proofs.Stopping.{stops_not}
+use Rattle.lcc_text.proofs.lemmas.Stopping.{stops_not}
 use Rattle.lburg_lines.specs.Tokens.{Tok, Word, Number, Keyword}
 use Rattle.lburg_lines.specs.Grammar.{MLine, MNumbered, AreLineOf, terminal_tokens}
 use Rattle.lburg_lines.specs.Sections.{TokenLine}

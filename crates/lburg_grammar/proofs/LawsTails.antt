@@ -5,7 +5,7 @@ use Rattle.std.proofs.lemmas.List.{append-nil}
 use Rattle.std.proofs.lemmas.Option.{none-some, same_Some, slice_get_within}
 use Rattle.lcc_text.specs.Lines.{lines_of}
 use Rattle.lcc_text.specs.Firsts.{Place}
-use Rattle.lcc_text.proofs.Stopping.{stops_not}
+use Rattle.lcc_text.proofs.lemmas.Stopping.{stops_not}
 use Rattle.lburg_lines.specs.declared.section.Section.TheVariants.{Head}
 use Rattle.lburg_lines.specs.Tokens.{Tok}
 use Rattle.lburg_lines.specs.Spelling.{Spells}

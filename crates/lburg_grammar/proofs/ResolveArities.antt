@@ -3,7 +3,7 @@ use Rattle.std.proofs.Common.{◌≡◌, ◌≤◌, ℕ, ◌+◌, zero, suc, fal
 use Rattle.std.specs.Prelude.{slice_get, option_map}
 use Rattle.std.proofs.lemmas.Option.{none-some, same_Some, slice_get_within}
 use Rattle.lcc_text.specs.Names.{place_of}
-use Rattle.lcc_text.proofs.Places.{place_some, place_here}
+use Rattle.lcc_text.proofs.lemmas.Places.{place_some, place_here}
 use Rattle.lburg_lines.specs.Tokens.{Tok, Word}
 use Rattle.lburg_lines.specs.NamedTree.{MNamed, Alone, Over, Both, tree_then, names_in}
 use Rattle.lburg_lines.specs.Grammar.{MLine, MRule, IsLine, cost_tokens, rule_tokens}

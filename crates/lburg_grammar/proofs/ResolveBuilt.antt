@@ -3,7 +3,7 @@ use Rattle.std.proofs.Common.{◌≡◌, ℕ, suc, ◌+◌, ◌<◌, ◌≤◌, 
 use Rattle.std.specs.Prelude.{slice_get}
 use Rattle.std.proofs.lemmas.Option.{slice_get_within, same_Some}
 use Rattle.std.proofs.lemmas.List.{length-map}
-use Rattle.lcc_text.proofs.Places.{place_some}
+use Rattle.lcc_text.proofs.lemmas.Places.{place_some}
 use Rattle.lburg_lines.specs.Tokens.{Word, Template, IsToken}
 use Rattle.lburg_lines.specs.NamedTree.{names_in}
 use Rattle.lburg_lines.specs.Grammar.{MRule, MLine}

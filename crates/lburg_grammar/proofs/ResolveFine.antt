@@ -5,7 +5,7 @@ use Rattle.std.proofs.lemmas.Option.{none-some, same_Some, slice_get-map, slice_
 use Rattle.std.proofs.lemmas.Bool.{cases_lt}
 use Rattle.lcc_base.specs.declared.which.Which.TheVariants as which
 use Rattle.lcc_text.specs.Decimal.{value_of}
-use Rattle.lcc_text.proofs.Places.{known_or_new}
+use Rattle.lcc_text.proofs.lemmas.Places.{known_or_new}
 use Rattle.lburg_lines.specs.declared.token.Sign.TheVariants.{Open, Close, Comma, Colon}
 use Rattle.lburg_lines.specs.Tokens.{Tok, Word, Template, Mark}
 use Rattle.lburg_lines.specs.NamedTree.{MNamed, Alone, Over, Both, tree_then, names_in}

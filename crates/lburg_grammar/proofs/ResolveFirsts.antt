@@ -5,7 +5,7 @@ use Rattle.std.proofs.lemmas.Bool.{cases_lt}
 use Rattle.std.proofs.lemmas.Option.{slice_get-get_or, get_or_from_slice_get, slice_get_within, slice_get_read, slice_get-map, none-some}
 use Rattle.std.proofs.lemmas.List.{take_more, map_push, same_lists}
 use Rattle.lcc_text.specs.Names.{with_name}
-use Rattle.lcc_text.proofs.Places.{with_known, with_new, known_or_new}
+use Rattle.lcc_text.proofs.lemmas.Places.{with_known, with_new, known_or_new}
 use Rattle.lburg_lines.specs.declared.rule_line.RuleLine.{RuleLine}
 use Rattle.lburg_lines.specs.Grammar.{MRule, rule_of}
 use Rattle.lburg_faults.specs.Ruling.{lefts_of}

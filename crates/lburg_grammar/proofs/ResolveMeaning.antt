@@ -3,7 +3,7 @@ use Rattle.std.proofs.Common.{◌≡◌, ℕ, zero, suc, ◌<◌, ◌≤◌, Lis
 use Rattle.std.specs.Prelude.{slice_get, option_map}
 use Rattle.std.proofs.lemmas.Option.{slice_get-map, slice_get-get_or, slice_get_within, none-some, same_Some}
 use Rattle.lcc_text.specs.Decimal.{value_of}
-use Rattle.lcc_text.proofs.Places.{place_here}
+use Rattle.lcc_text.proofs.lemmas.Places.{place_here}
 use Rattle.lburg_lines.specs.Grammar.{MRule, MLine, MNumbered}
 use Rattle.lburg_model.specs.declared.rule.Rule.{Rule}
 use Rattle.lburg_model.specs.declared.terminal.Terminal.{Terminal}

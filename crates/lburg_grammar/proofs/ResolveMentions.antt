@@ -5,7 +5,7 @@ use Rattle.std.proofs.lemmas.Option.{none-some, same_Some, slice_get_within}
 use Rattle.std.proofs.lemmas.List.{take_all, length-append}
 use Rattle.std.proofs.lemmas.Bool.{cases_lt}
 use Rattle.lcc_base.specs.declared.which.Which.TheVariants as which
-use Rattle.lcc_text.proofs.Places.{known_or_new}
+use Rattle.lcc_text.proofs.lemmas.Places.{known_or_new}
 use Rattle.lburg_lines.specs.Tokens.{Tok, Word}
 use Rattle.lburg_lines.specs.Sections.{TokenLine}
 use Rattle.lburg_faults.specs.declared.line_fault.LineFault.TheVariants.{Limit}

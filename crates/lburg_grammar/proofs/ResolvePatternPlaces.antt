@@ -4,7 +4,7 @@ use Rattle.std.specs.Prelude.{slice_get, option_map}
 use Rattle.std.proofs.lemmas.Option.{slice_get-map, slice_get_within, none-some, same_Some}
 use Rattle.lcc_text.specs.Names.{place_of}
 use Rattle.std.specs.Borrow.{Bor}
-use Rattle.lcc_text.proofs.Places.{place_none, place_some, place_here}
+use Rattle.lcc_text.proofs.lemmas.Places.{place_none, place_some, place_here}
 use Rattle.lburg_lines.specs.declared.named_tree.NamedTree.{NamedTree, Leaf}
 use Rattle.lburg_faults.specs.Terminals.{Among}
 use Rattle.lburg_lines.specs.NamedTree.{MNamed, Alone, Over, Both, names_in, named_of}

@@ -3,7 +3,7 @@ use Rattle.std.proofs.Common.{◌≡◌, ℕ, List, Option, Some, sym, subst}
 use Rattle.std.specs.Prelude.{option_map, option_to_list}
 use Rattle.std.specs.Borrow.{Bor}
 use Rattle.lcc_text.specs.Names.{place_of}
-use Rattle.lcc_text.proofs.Places.{place_some}
+use Rattle.lcc_text.proofs.lemmas.Places.{place_some}
 use Rattle.lburg_grammar.specs.Places.{StartFor}
 
 module _ (ns : List (List ℕ)) (start : Option (Bor (List ℕ))) (name : Bor (List ℕ)) (is : start ≡ Some name) where

@@ -6,7 +6,7 @@ use Rattle.std.specs.Prelude.{◌≢◌}
 use Rattle.std.proofs.lemmas.Bool.Decides.{nat_tests}
 use Rattle.lcc_text.specs.declared.class.Class.TheVariants.{Letter, Digit, Name}
 use Rattle.lcc_text.specs.Classes.{in_class, AllIn, StartsIn, StopsIn}
-use Rattle.lcc_text.proofs.Runs.{longest_run, run_exact, run_pos, starts_take}
+use Rattle.lcc_text.proofs.lemmas.Runs.{longest_run, run_exact, run_pos, starts_take}
 use Rattle.lburg_lines.specs.declared.token.Sign.{Sign}
 use Rattle.lburg_lines.specs.Tokens.{Tok, Word, Number, Negative, Template, Keyword, Mark, Bound, Wrong, text_of, IsToken, is_quoted, escapes_well, sign_code}
 use Rattle.lburg_lines.specs.Spelling.{IsNext, NoToken}

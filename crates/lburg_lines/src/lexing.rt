@@ -36,7 +36,7 @@ fn word<'a>(bytes: &'a [u8]) -> (Token<'a>, &'a [u8])
     (Token::Name(name), rest)
 }
 
-#[tactic(auto, using(crate::specs::LongestTokens::number_next, lcc_text::proofs::Runs::run_pos))]
+#[tactic(auto, using(crate::specs::LongestTokens::number_next, lcc_text::proofs::lemmas::Runs::run_pos))]
 fn number<'a>(bytes: &'a [u8]) -> (Token<'a>, &'a [u8])
     requires { StartsIn (in_class Digit) bytes.now }
     ensures next { IsNext bytes.now (view result.0) result.1.now }

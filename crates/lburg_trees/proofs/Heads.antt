@@ -6,7 +6,7 @@ use Rattle.std.proofs.lemmas.List.{append-nil}
 use Rattle.std.proofs.Math.Seq.{take-append-add}
 use Rattle.lcc_text.specs.Names.{place_of}
 use Rattle.lcc_text.specs.Stops.{next}
-use Rattle.lcc_text.proofs.Places.{place_some, place_none}
+use Rattle.lcc_text.proofs.lemmas.Places.{place_some, place_none}
 use Rattle.lburg_lines.specs.declared.read_error.ReadError.{ReadError}
 use Rattle.lburg_lines.specs.declared.read_error.ReadError.TheVariants.{Stuck}
 use Rattle.lburg_lines.specs.declared.token.Sign.TheVariants.{Open, Close, Comma, OpenBracket, CloseBracket}

@@ -3,7 +3,7 @@ use Rattle.std.proofs.Common.{◌≡◌, ℕ, zero, suc, ◌+◌, ◌<◌, List,
 use Rattle.std.specs.Prelude.{slice_get, option_map}
 use Rattle.std.proofs.lemmas.Option.{slice_get-map, slice_get_read, same_Some, none-some}
 use Rattle.lcc_text.specs.Names.{with_name}
-use Rattle.lcc_text.proofs.Places.{with_new}
+use Rattle.lcc_text.proofs.lemmas.Places.{with_new}
 use Rattle.lburg_model.specs.declared.terminal.Terminal.{Terminal}
 use Rattle.lburg_model.specs.Description.{AreDistinct}
 

@@ -3,7 +3,7 @@ use Rattle.std.proofs.Common.{◌≡◌, ◌≢◌, ◌≤◌, ◌<◌, ◌⊎�
 use Rattle.std.proofs.lemmas.Option.{slice_get_within}
 use Rattle.std.proofs.lemmas.List.{append-nil, take-append-drop, length-take-le}
 use Rattle.lcc_text.specs.Stops.{next, StopsAt}
-use Rattle.lcc_text.proofs.Stopping.{stops_not, stop_behind, one_stop}
+use Rattle.lcc_text.proofs.lemmas.Stopping.{stops_not, stop_behind, one_stop}
 use Rattle.lburg_lines.specs.Tokens.{Tok}
 use Rattle.lburg_model.specs.Tree.{MTree}
 use Rattle.lburg_model.specs.Description.{MDescription, IsDescription}

@@ -1,6 +1,3 @@
-pub mod Runs
+pub mod lemmas
 pub mod FirstLine
 pub mod Decimals
-pub mod Keys
-pub mod Places
-pub mod Stopping

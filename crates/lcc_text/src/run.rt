@@ -4,7 +4,7 @@ ghost use Rattle.lcc_text.specs.Classes.{AllIn, StartsIn, StopsIn};
 use crate::class::ByteClass;
 
 /// How many bytes at the front are in the class: all of them, or up to the first that isn't.
-#[tactic(auto, using(crate::proofs::Runs::run_more, crate::proofs::Runs::run_stops))]
+#[tactic(auto, using(crate::proofs::lemmas::Runs::run_more, crate::proofs::lemmas::Runs::run_stops))]
 pub fn run_len<C: ByteClass>(class: C, bytes: &[u8]) -> usize
     ensures bound { result ≤ length bytes.now }
     ensures front { AllIn (C.members class) (take result bytes.now) }

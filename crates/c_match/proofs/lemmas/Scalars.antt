@@ -190,7 +190,7 @@ list_is : (a b c d e f g h : Byte Value) → a ≡ e → b ≡ f → c ≡ g →
 list_is a b c d e f g h p q r s = cc
 
 -- four bytes of one pointer or function are its bytes
-whole_bytes : (order : Order) (bs : List (Byte Value)) (v : Value) → length bs ≡ 4 → whole_of same_whole (by_weight order bs) ≡ Some v → (bs ≡ part_bytes order v) × (same_whole v v ≡ true)
+pub whole_bytes : (order : Order) (bs : List (Byte Value)) (v : Value) → length bs ≡ 4 → whole_of same_whole (by_weight order bs) ≡ Some v → (bs ≡ part_bytes order v) × (same_whole v v ≡ true)
 whole_bytes order [] v l e = absurd (let never : ⊥ = omega arith in never)
 whole_bytes order (a ∷ []) v l e = absurd (let never : ⊥ = omega arith in never)
 whole_bytes order (a ∷ b ∷ []) v l e = absurd (let never : ⊥ = omega arith in never)

@@ -9,7 +9,7 @@ use Rattle.c_runs.specs.Run.{context}
 use Rattle.c_runs.specs.Soundness.{AreTameStmts, IsTameUnit}
 use Rattle.c_runs.specs.Statements.{Entry, At, exec, exec_all, any_has, has, jump}
 use Rattle.c_runs.specs.Worlds as c
-use Rattle.c_runs.proofs.Equations.{jump_is}
+use Rattle.c_runs.proofs.lemmas.Equations.{jump_is}
 use Rattle.c_match.specs.Held.{AreHeld}
 use Rattle.piece_runs.specs.Pieces.{Front}
 use Rattle.c_expr_agreement.specs.Scenes.{Scene, Place}

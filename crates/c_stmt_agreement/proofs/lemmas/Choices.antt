@@ -12,7 +12,7 @@ use Rattle.c_runs.specs.Run.{context}
 use Rattle.c_runs.specs.Soundness.{IsTame, IsTameStmt, IsTameUnit, IsSoundOut}
 use Rattle.c_runs.specs.Statements.{Entry, Start, At, exec, has}
 use Rattle.c_runs.specs.Worlds as c
-use Rattle.c_runs.proofs.SoundCalls.{exec_sound}
+use Rattle.c_runs.proofs.lemmas.SoundCalls.{exec_sound}
 use Rattle.c_match.specs.Held.{AreHeld}
 use Rattle.piece_runs.specs.Pieces.{Front}
 use Rattle.c_expr_agreement.specs.Scenes.{Scene, Place}

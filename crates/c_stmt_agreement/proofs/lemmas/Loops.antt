@@ -12,9 +12,9 @@ use Rattle.c_runs.specs.Run.{context}
 use Rattle.c_runs.specs.Soundness.{IsSound, IsTame, IsTameStmt, IsTameUnit}
 use Rattle.c_runs.specs.Statements.{Entry, Start, At, exec, has, round, loop, loop_between}
 use Rattle.c_runs.specs.Worlds as c
-use Rattle.c_runs.proofs.AlikeCalls.{exec_falls}
-use Rattle.c_runs.proofs.Equations.{loop_is}
-use Rattle.c_runs.proofs.SoundCalls.{exec_sound}
+use Rattle.c_runs.proofs.lemmas.AlikeCalls.{exec_falls}
+use Rattle.c_runs.proofs.lemmas.Equations.{loop_is}
+use Rattle.c_runs.proofs.lemmas.SoundCalls.{exec_sound}
 use Rattle.c_match.specs.Held.{AreHeld}
 use Rattle.piece_runs.specs.Pieces.{Front}
 use Rattle.c_expr_agreement.specs.Scenes.{Scene, Place}

@@ -14,7 +14,7 @@ use Rattle.c_runs.specs.Run.{context}
 use Rattle.c_runs.specs.Soundness.{IsTameStmt, IsTameUnit}
 use Rattle.c_runs.specs.Statements.{Entry, Start, At, exec, exec_all, has, any_has}
 use Rattle.c_runs.specs.Worlds as c
-use Rattle.c_runs.proofs.SoundCalls.{exec_sound}
+use Rattle.c_runs.proofs.lemmas.SoundCalls.{exec_sound}
 use Rattle.piece_runs.specs.Pieces.{Front}
 use Rattle.c_expr_agreement.specs.LoweredExpr.{Operand, LoweredExpr, CameBehind}
 use Rattle.c_expr_agreement.specs.Scenes.{Scene, Place}

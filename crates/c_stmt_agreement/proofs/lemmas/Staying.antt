@@ -16,9 +16,9 @@ use Rattle.c_runs.specs.Run.{context}
 use Rattle.c_runs.specs.Soundness.{IsSound, Keeps, IsSoundResult, IsSoundOut, IsTame, IsMaybeTame, AreTameStmts, IsTameUnit}
 use Rattle.c_runs.specs.Statements.{Entry, Start, At, exec, exec_all, has, maybe_test, last_and_test}
 use Rattle.c_runs.specs.Worlds as c
-use Rattle.c_runs.proofs.AlikeCalls.{eval_falls, exec_falls}
-use Rattle.c_runs.proofs.SoundCalls.{call_sound, eval_sound}
-use Rattle.c_runs.proofs.SoundStatements.{all_act}
+use Rattle.c_runs.proofs.lemmas.AlikeCalls.{eval_falls, exec_falls}
+use Rattle.c_runs.proofs.lemmas.SoundCalls.{call_sound, eval_sound}
+use Rattle.c_runs.proofs.lemmas.SoundStatements.{all_act}
 use Rattle.c_expr_agreement.specs.Scenes.{Scene}
 use Rattle.c_stmt_agreement.specs.Comings.{Origin}
 

@@ -20,7 +20,7 @@ use Rattle.dag_forest.specs.Tally.{IsFresh}
 use Rattle.dag_forest.specs.contracts.key.KeyPartialEq.TheImpl as key_eq
 use Rattle.dag_forest.specs.contracts.parts.PartsPartialEq.TheImpl as parts_eq
 use Rattle.dag_forest.specs.contracts.kids.KidsPartialEq.TheImpl as kids_eq
-use Rattle.dag_forest.proofs.Listed.{none_passes}
+use Rattle.dag_forest.proofs.lemmas.Listed.{none_passes}
 
 op_itself : (a : Op) → op_eq.ghosts.eq a a ≡ true
 op_itself a = true_same op_contracts.the_type a a refl

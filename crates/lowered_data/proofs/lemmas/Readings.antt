@@ -14,8 +14,8 @@ use Rattle.objects.specs.declared.value.Value.{Value}
 use Rattle.objects.specs.declared.value.Value.TheVariants.{Number, Pointer, Function}
 use Rattle.objects.specs.declared.width.Width.TheVariants.{One, Four}
 use Rattle.objects.specs.declared.width.Scalar.{Scalar}
-use Rattle.objects.specs.Values.{bytes_in, same_object, same_whole}
-use Rattle.objects.specs.Bytes.{has_unknown_bits, part_bytes, by_weight, is_part_of, are_rest_of, whole_of, number_of_bytes}
+use Rattle.objects.specs.Values.{bytes_in, same_whole}
+use Rattle.objects.specs.Bytes.{has_unknown_bits, part_bytes, by_weight, is_part_of, whole_of, number_of_bytes}
 use Rattle.objects.specs.Objects.{Object, object_of, if_named, is_named, contents}
 use Rattle.objects.specs.Causes.{is_outside, is_misaligned, is_dead, breaks_whole}
 use Rattle.objects.specs.Conversions.{as_type}
@@ -24,6 +24,7 @@ use Rattle.objects.specs.Accesses.{read, read_cause, if_none, number_given}
 use Rattle.objects.specs.AccessLaws.{unless_none, unless_same, first_not, first_rest, its_object, size_of, not_less}
 use Rattle.c_meaning.specs.Each.{EachIs}
 use Rattle.c_runs.specs.Soundness.{IsSoundByte, IsSoundObject}
+use Rattle.c_match.proofs.lemmas.Scalars.{whole_bytes}
 use Rattle.lcc_base.specs.declared.memory.Memory.{Memory}
 use Rattle.op_forest.specs.declared.lowered.Datum.{Datum}
 use Rattle.lowered_data.specs.Data.{Image, IsDatumOf, IsStretch, IsWordAt, bytes_of}
@@ -173,77 +174,6 @@ read_byte m order os name place n s e =
     there.0
 
 -- ---- a pointer or a function
-
-name_is : (a b : ObjectName) → a.place ≡ b.place → a.made ≡ b.made → a.size ≡ b.size → a ≡ b
-name_is a b p q r = λ i. record { place = p i; made = q i; size = r i }
-
-object_is : (a b : ObjectName) → same_object a b ≡ true → a ≡ b
-object_is a b e =
-    let first = and_first (a.place == b.place) ((a.made == b.made) && (a.size == b.size)) e in
-    let rest = and_rest (a.place == b.place) ((a.made == b.made) && (a.size == b.size)) e in
-    name_is a b (eqb-true a.place b.place first) (eqb-true a.made b.made (and_first (a.made == b.made) (a.size == b.size) rest)) (eqb-true a.size b.size (and_rest (a.made == b.made) (a.size == b.size) rest))
-
-whole_is : (v w : Value) → same_whole v w ≡ true → v ≡ w
-whole_is (Pointer a x) (Pointer b y) e =
-    ap (λ (o : ObjectName). Pointer o x) (object_is a b (and_first (same_object a b) (x == y) e))
-    ∙ ap (λ (z : ℕ). Pointer b z) (eqb-true x y (and_rest (same_object a b) (x == y) e))
-whole_is (Function f) (Function g) e = ap (λ (z : ℕ). Function z) (eqb-true f g e)
-whole_is (Number n) w e = absurd (let never : ⊥ = cc in never)
-whole_is (Pointer a x) (Number n) e = absurd (let never : ⊥ = cc in never)
-whole_is (Pointer a x) (Function f) e = absurd (let never : ⊥ = cc in never)
-whole_is (Function f) (Number n) e = absurd (let never : ⊥ = cc in never)
-whole_is (Function f) (Pointer a x) e = absurd (let never : ⊥ = cc in never)
-
-part_is : (v : Value) (place : ℕ) (b : Byte Value) → is_part_of same_whole v place b ≡ true → b ≡ Part v place
-part_is v place (Bits known value) e = absurd (let never : ⊥ = cc in never)
-part_is v place (Part w k) e =
-    ap (λ (x : Value). Part x k) (sym (whole_is v w (and_first (same_whole v w) (k == place) e)))
-    ∙ ap (λ (x : ℕ). Part v x) (eqb-true k place (and_rest (same_whole v w) (k == place) e))
-
--- four bytes, from the one that weighs most
-record AreParts (v : Value) (a b c d : Byte Value) : Type 0 where
-  first : a ≡ Part v 0
-  second : b ≡ Part v 1
-  third : c ≡ Part v 2
-  last : d ≡ Part v 3
-  whole : same_whole v v ≡ true
-
-rest_are : (v : Value) (k : ℕ) (b c d : Byte Value) → are_rest_of same_whole v 0 (Part v k ∷ b ∷ c ∷ d ∷ []) ≡ true → AreParts v (Part v k) b c d
-rest_are v k b c d e =
-    let e1 = and_rest (is_part_of same_whole v 0 (Part v k)) (are_rest_of same_whole v 1 (b ∷ c ∷ d ∷ [])) e in
-    let e2 = and_rest (is_part_of same_whole v 1 b) (are_rest_of same_whole v 2 (c ∷ d ∷ [])) e1 in
-    let e3 = and_rest (is_part_of same_whole v 2 c) (are_rest_of same_whole v 3 (d ∷ [])) e2 in
-    let first = and_first (is_part_of same_whole v 0 (Part v k)) (are_rest_of same_whole v 1 (b ∷ c ∷ d ∷ [])) e in
-    record {
-      first = part_is v 0 (Part v k) first;
-      second = part_is v 1 b (and_first (is_part_of same_whole v 1 b) (are_rest_of same_whole v 2 (c ∷ d ∷ [])) e1);
-      third = part_is v 2 c (and_first (is_part_of same_whole v 2 c) (are_rest_of same_whole v 3 (d ∷ [])) e2);
-      last = part_is v 3 d (and_first (is_part_of same_whole v 3 d) (are_rest_of same_whole v 4 []) e3);
-      whole = and_first (same_whole v v) (k == 0) first;
-    }
-
-if_some : (b : Bool) (w v : Value) → (if b then Some w else None) ≡ Some v → (b ≡ true) × (w ≡ v)
-if_some true w v e = (refl, cc)
-if_some false w v e = absurd (let never : ⊥ = cc in never)
-
-four_are : (v : Value) (a b c d : Byte Value) → whole_of same_whole (a ∷ b ∷ c ∷ d ∷ []) ≡ Some v → AreParts v a b c d
-four_are v (Bits known value) b c d e = absurd (let never : ⊥ = cc in never)
-four_are v (Part w k) b c d e =
-    let both = if_some (are_rest_of same_whole w 0 (Part w k ∷ b ∷ c ∷ d ∷ [])) w v e in
-    subst (λ (x : Value). AreParts x (Part w k) b c d) both.1 (rest_are w k b c d both.0)
-
-list_is : (a b c d e f g h : Byte Value) → a ≡ e → b ≡ f → c ≡ g → d ≡ h → a ∷ b ∷ c ∷ d ∷ [] ≡ e ∷ f ∷ g ∷ h ∷ []
-list_is a b c d e f g h p q r s = cc
-
--- four bytes of one pointer or function are its bytes
-whole_bytes : (order : Order) (bs : List (Byte Value)) (v : Value) → length bs ≡ 4 → whole_of same_whole (by_weight order bs) ≡ Some v → (bs ≡ part_bytes order v) × (same_whole v v ≡ true)
-whole_bytes order [] v l e = absurd (let never : ⊥ = omega arith in never)
-whole_bytes order (a ∷ []) v l e = absurd (let never : ⊥ = omega arith in never)
-whole_bytes order (a ∷ b ∷ []) v l e = absurd (let never : ⊥ = omega arith in never)
-whole_bytes order (a ∷ b ∷ c ∷ []) v l e = absurd (let never : ⊥ = omega arith in never)
-whole_bytes Big (a ∷ b ∷ c ∷ d ∷ []) v l e = let h = four_are v a b c d e in (list_is a b c d (Part v 0) (Part v 1) (Part v 2) (Part v 3) h.first h.second h.third h.last, h.whole)
-whole_bytes Little (a ∷ b ∷ c ∷ d ∷ []) v l e = let h = four_are v d c b a e in (list_is a b c d (Part v 3) (Part v 2) (Part v 1) (Part v 0) h.last h.third h.second h.first, h.whole)
-whole_bytes order (a ∷ b ∷ c ∷ d ∷ f ∷ bs) v l e = absurd (let never : ⊥ = omega arith in never)
 
 by_whole : (order : Order) (bs : List (Byte Value)) (v : Value) (o : Option Value) (m : ℕ) → length bs ≡ 4 → whole_of same_whole (by_weight order bs) ≡ o → ((n : ℕ) → v ≡ Number n → ⊥) → as_type (record { width = Four; signed = false }) (whole_or o m) ≡ v → bs ≡ part_bytes order v
 by_whole order bs v None m l e h g = absurd (h _ (sym g))

@@ -18,7 +18,7 @@ pub times_append : (n : ℕ) (xs ys : List ℕ) → times n (xs ++ ys) ≡ times
 times_append n [] ys = omega arith
 times_append n (x ∷ xs) ys = let e = times_append n xs ys in omega (arith, e)
 
-marks_append : (ps qs : List Piece) → marks_of (ps ++ qs) ≡ marks_of ps ++ marks_of qs
+pub marks_append : (ps qs : List Piece) → marks_of (ps ++ qs) ≡ marks_of ps ++ marks_of qs
 marks_append [] qs = refl
 marks_append (OfBlock before es ∷ ps) qs = marks_append ps qs
 marks_append (Mark n ∷ ps) qs = ap (λ (ms : List ℕ). n ∷ ms) (marks_append ps qs)

@@ -59,7 +59,7 @@ marked_later n l = record {
 
 -- ---- bodies
 
-abbrev goes_on : BodyRelation
+abbrev pub goes_on : BodyRelation
 goes_on a b = GoesOn a b
 
 -- no table is made
@@ -69,7 +69,7 @@ no_table b l h = record { low = h; tables = front_itself b.tables }
 same_low : (l : Low) → IsLater l l
 same_low l = same_pieces l l refl (front_itself l.slots) (omega arith) (front_itself l.entries)
 
-adding_steps : BodySteps goes_on
+pub adding_steps : BodySteps goes_on
 adding_steps = record {
   same = λ b. no_table b b.low (same_low b.low);
   joins = λ a b c x y. record { low = later_joins a.low b.low c.low x.low y.low; tables = front_joins a.tables b.tables c.tables x.tables y.tables };

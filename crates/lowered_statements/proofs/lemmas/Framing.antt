@@ -4,7 +4,7 @@ use Rattle.lcc_base.specs.declared.order.Order.{Order}
 use Rattle.op_forest.specs.declared.frame.Slot.{Slot}
 use Rattle.op_forest.specs.Frames.{lowest}
 use Rattle.c_meaning.specs.Units.{FunctionTree, UnitTree}
-use Rattle.dag_forest.proofs.FrameLaws.{frame_below}
+use Rattle.dag_forest.proofs.lemmas.Frames.{frame_below}
 use Rattle.dag_forest.specs.NewSlots.{slot_below, slots_below}
 use Rattle.dag_forest.specs.Split.{room_count, split_frame}
 use Rattle.piece_runs.specs.Pieces.{Piece, OfBlock, Mark}

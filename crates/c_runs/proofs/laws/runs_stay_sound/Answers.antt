@@ -1,4 +1,4 @@
-use Rattle.c_runs.proofs.SoundCalls.{eval_sound, exec_sound, copies_stay_sound}
+use Rattle.c_runs.proofs.lemmas.SoundCalls.{eval_sound, exec_sound, copies_stay_sound}
 use Rattle.c_runs.proofs.SoundRuns.{run_sound, core_sound}
 use Rattle.c_runs.proofs.Tame.{units_are_tame}
 use Rattle.c_runs.proofs.laws.runs_stay_sound.Goals as goal

@@ -1,4 +1,4 @@
-use Rattle.c_runs.proofs.AlikeCalls.{eval_traces, exec_traces}
+use Rattle.c_runs.proofs.lemmas.AlikeCalls.{eval_traces, exec_traces}
 use Rattle.c_runs.proofs.laws.traces_grow.Goals as goal
 
 pub returns-clause-expressions : goal.returns-clause-expressions

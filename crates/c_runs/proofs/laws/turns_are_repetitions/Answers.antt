@@ -1,5 +1,5 @@
-use Rattle.c_runs.proofs.Equations.{loop_is, jump_is}
-use Rattle.c_runs.proofs.AlikeCalls.{call_is}
+use Rattle.c_runs.proofs.lemmas.Equations.{loop_is, jump_is}
+use Rattle.c_runs.proofs.lemmas.AlikeCalls.{call_is}
 use Rattle.c_runs.proofs.laws.turns_are_repetitions.Goals as goal
 
 pub returns-clause-loops : goal.returns-clause-loops

@@ -1,4 +1,4 @@
-use Rattle.c_runs.proofs.AlikeCalls.{eval_falls, exec_falls}
+use Rattle.c_runs.proofs.lemmas.AlikeCalls.{eval_falls, exec_falls}
 use Rattle.c_runs.proofs.laws.turns_fall.Goals as goal
 
 pub returns-clause-expressions : goal.returns-clause-expressions

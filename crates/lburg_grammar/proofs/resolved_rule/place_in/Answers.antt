@@ -1,6 +1,6 @@
 use Rattle.std.proofs.Common.{sym, ◌∙◌}
 use Rattle.lcc_text.specs.Names.{bytes_of}
-use Rattle.lcc_text.proofs.Places.{place_none}
+use Rattle.lcc_text.proofs.lemmas.Places.{place_none}
 use Rattle.lburg_grammar.proofs.resolved_rule.place_in.Goals as goal
 
 pub returns-in-None : goal.returns-in-None

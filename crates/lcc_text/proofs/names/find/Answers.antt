@@ -1,5 +1,5 @@
 use Rattle.std.proofs.Common.{◌∙◌}
-use Rattle.lcc_text.proofs.Keys.{place_now}
+use Rattle.lcc_text.proofs.lemmas.Keys.{place_now}
 use Rattle.lcc_text.proofs.names.find.Goals as goal
 
 pub returns : goal.returns

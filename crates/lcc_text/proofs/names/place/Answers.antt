@@ -1,5 +1,5 @@
 use Rattle.std.proofs.Common.{◌∙◌, ap}
-use Rattle.lcc_text.proofs.Keys.{now, with_now, stored_now}
+use Rattle.lcc_text.proofs.lemmas.Keys.{now, with_now, stored_now}
 use Rattle.lcc_text.proofs.names.place.Goals as goal
 
 pub returns-clause-names : goal.returns-clause-names

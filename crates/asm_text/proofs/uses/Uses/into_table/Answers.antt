@@ -1,5 +1,5 @@
 use Rattle.std.proofs.Common.{List, ℕ, ◌++◌, sym, ap, ◌∙◌}
-use Rattle.lcc_text.proofs.Keys.{now}
+use Rattle.lcc_text.proofs.lemmas.Keys.{now}
 use Rattle.asm_text.specs.Uses.{used_names}
 use Rattle.asm_text.proofs.Entries.{names_in}
 use Rattle.asm_text.proofs.uses.Uses.into_table.Goals as goal

@@ -6,7 +6,7 @@ use Rattle.dag_forest.specs.Tally.{node_count}
 use Rattle.dag_forest.specs.NewSlots.{slots_below}
 use Rattle.dag_forest.specs.Standings.{placed, unplaced}
 use Rattle.dag_forest.specs.Split.{Split, split_frame, split_trees}
-use Rattle.dag_forest.proofs.FrameLaws.{frame_below}
+use Rattle.dag_forest.proofs.lemmas.Frames.{frame_below}
 use Rattle.dag_forest.proofs.Finished.{turns_are_low, steps_are, steps_are_low, final_stood, final_low, trees_are, rooms_are}
 use Rattle.dag_forest.proofs.Splits.{split_is}
 use Rattle.dag_forest.proofs.block.Block.finish.Goals as goal

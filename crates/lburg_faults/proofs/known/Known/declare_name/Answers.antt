@@ -1,7 +1,7 @@
 use Rattle.std.proofs.Common.{inl, inr, arith, refl, sym, ◌∙◌}
 use Rattle.std.proofs.lemmas.List.{append-nil, length-map}
 use Rattle.lcc_text.specs.Names.{bytes_of}
-use Rattle.lcc_text.proofs.Places.{with_new}
+use Rattle.lcc_text.proofs.lemmas.Places.{with_new}
 use Rattle.lburg_faults.proofs.RuleLists.{found, lacks}
 use Rattle.lburg_faults.proofs.known.Known.declare_name.Goals as goal
 

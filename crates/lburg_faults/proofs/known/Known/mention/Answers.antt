@@ -1,7 +1,7 @@
 use Rattle.std.proofs.Common.{refl, sym, arith}
 use Rattle.std.proofs.lemmas.List.{length-map}
 use Rattle.lcc_text.specs.Names.{bytes_of}
-use Rattle.lcc_text.proofs.Places.{with_known}
+use Rattle.lcc_text.proofs.lemmas.Places.{with_known}
 use Rattle.lburg_faults.proofs.RuleLists.{found, lacks}
 use Rattle.lburg_faults.proofs.known.Known.mention.Goals as goal
 

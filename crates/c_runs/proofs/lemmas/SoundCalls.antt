@@ -31,7 +31,7 @@ use Rattle.c_runs.specs.Soundness.{IsSoundValue, IsSoundByte, IsSoundObject, IsS
 use Rattle.c_runs.proofs.Each.{each_get, each_append, each_of, each_take, each_replicate}
 use Rattle.c_runs.proofs.SoundValues.{IfOk, Changed, value_more, object_more, converted_sound, scalar_bytes_sound}
 use Rattle.c_runs.proofs.Sound.{Sound, changed_world, fine_one, assigned_sound, IsSoundArgument, IsSoundCall, CallsSound, eval_act}
-use Rattle.c_runs.proofs.SoundStatements.{SoundOut, exec_act}
+use Rattle.c_runs.proofs.lemmas.SoundStatements.{SoundOut, exec_act}
 
 -- ---- a call's objects are made behind the others
 

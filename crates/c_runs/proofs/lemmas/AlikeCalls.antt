@@ -23,7 +23,7 @@ use Rattle.c_runs.specs.Calls.{Argument, Call, Setting, with_parameter, with_par
 use Rattle.c_runs.specs.Statements.{Start, exec}
 use Rattle.c_runs.specs.Run.{setting, body_run, function_run, called, no_calls, calls_below, call, context}
 use Rattle.c_runs.specs.Laws.{EvalFalls, ExecFalls, EvalGrows, ExecGrows, CallIs, world_after, behind}
-use Rattle.c_runs.proofs.Equations.{below_is}
+use Rattle.c_runs.proofs.lemmas.Equations.{below_is}
 use Rattle.c_runs.proofs.Growing.{Grows, GrowsOut, GrowsOuts, further_out, fine_grows, either_grows, done_grows, closed_grows}
 use Rattle.c_runs.proofs.Alike.{Ahead, Cut, EndsAlike, Goes, CallsAct, with_calls, call_behind, fine_goes, eval_acts}
 use Rattle.c_runs.proofs.AlikeStatements.{CutOut, OversAlike, GoesOut, ActsOut, choice_goes, done_goes, exec_acts}

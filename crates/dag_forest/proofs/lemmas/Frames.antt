@@ -10,9 +10,9 @@ use Rattle.op_forest.specs.Frames.{IsFrame, end_of, lesser, lowest_from, lowest}
 use Rattle.forests.specs.Words.{Word, Plain}
 use Rattle.forests.specs.Addresses.{lies_in, slot_place}
 use Rattle.dag_forest.specs.NewSlots.{offset_below, slot_below, slots_below}
-use Rattle.dag_forest.proofs.Listed.{snoc_cases}
+use Rattle.dag_forest.proofs.lemmas.Listed.{snoc_cases}
 
-abbrev IsFour : ℤ → Type 0
+abbrev pub IsFour : ℤ → Type 0
 IsFour z = (k : ℕ) × (z ≡ neg_ℤ (pos (4 * k)))
 
 lesser_le : (a b : ℤ) → (lesser a b ≤ℤ a) × (lesser a b ≤ℤ b)
@@ -29,7 +29,8 @@ lesser_keeps P a b h g = by (int_le a b)
     by true = h
     by false = g
 
-lowest_le : (slots : List Slot) (z : ℤ) → (lowest_from z slots ≤ℤ z) × ((i : ℕ) (s : Slot) → slice_get slots i ≡ Some s → lowest_from z slots ≤ℤ s.offset)
+-- the lowest place is no higher than the frame's top, nor than a slot's first byte
+pub lowest_le : (slots : List Slot) (z : ℤ) → (lowest_from z slots ≤ℤ z) × ((i : ℕ) (s : Slot) → slice_get slots i ≡ Some s → lowest_from z slots ≤ℤ s.offset)
 lowest_le [] z = (omega (arith, ints), λ i s e. let no : ⊥ = cc in absurd no)
 lowest_le (t ∷ ts) z =
     let h = lowest_le ts (lesser z t.offset) in
@@ -41,30 +42,29 @@ lowest_le (t ∷ ts) z =
     each here rest zero s e = let q : t ≡ s = cc in subst (λ (u : Slot). lowest_from (lesser z t.offset) ts ≤ℤ u.offset) q here
     each here rest (suc i) s e = rest i s e
 
-lowest_four : (slots : List Slot) (z : ℤ) → IsFour z → ((i : ℕ) (s : Slot) → slice_get slots i ≡ Some s → IsFour s.offset) → IsFour (lowest_from z slots)
+pub lowest_four : (slots : List Slot) (z : ℤ) → IsFour z → ((i : ℕ) (s : Slot) → slice_get slots i ≡ Some s → IsFour s.offset) → IsFour (lowest_from z slots)
 lowest_four [] z four fours = four
 lowest_four (t ∷ ts) z four fours = lowest_four ts (lesser z t.offset) (lesser_keeps IsFour z t.offset four (fours 0 t refl)) (λ i s e. fours (suc i) s e)
 
 below_four : (low : ℤ) (n : ℕ) → IsFour low → IsFour (offset_below low n)
 below_four low n four = let e = four.1 in (four.0 + suc n, omega (arith, ints, e))
 
-frame_snoc : (slots : List Slot) (o : ℤ) → IsFrame slots → IsFour o → (o +ℤ pos 4) ≤ℤ pos 0 → ((i : ℕ) (s : Slot) → slice_get slots i ≡ Some s → (o +ℤ pos 4) ≤ℤ s.offset) → IsFrame (slots ++ record { offset = o; size = 4 } ∷ [])
-frame_snoc slots o frame four top above =
-    let new : Slot = record { offset = o; size = 4 } in
-    record {
-      four = λ i s e. ⊎_elim (λ a. frame.four i s a) (λ b. subst (λ (u : Slot). IsFour u.offset) b.1 four) (snoc_cases slots new s i e);
-      ends = λ i s e. ⊎_elim (λ a. frame.ends i s a) (λ b. subst (λ (u : Slot). end_of u ≤ℤ pos 0) b.1 top) (snoc_cases slots new s i e);
-      apart = λ i j s t a b. ⊎_elim
-          (λ x. ⊎_elim
-          (λ y. frame.apart i j s t x y)
-          (λ y. inr (inr (subst (λ (u : Slot). end_of u ≤ℤ s.offset) y.1 (above i s x))))
-          (snoc_cases slots new t j b))
-          (λ x. ⊎_elim
-          (λ y. inr (inl (subst (λ (u : Slot). end_of u ≤ℤ t.offset) x.1 (above j t y))))
-          (λ y. inl (x.0 ∙ sym y.0))
-          (snoc_cases slots new t j b))
-          (snoc_cases slots new s i a);
-    }
+-- a frame with one slot more, right below the others
+pub frame_with : (slots : List Slot) (new : Slot) → IsFrame slots → IsFour new.offset → end_of new ≤ℤ pos 0 → ((i : ℕ) (s : Slot) → slice_get slots i ≡ Some s → end_of new ≤ℤ s.offset) → IsFrame (slots ++ new ∷ [])
+frame_with slots new frame four top above = record {
+  four = λ i s e. ⊎_elim (λ a. frame.four i s a) (λ b. subst (λ (u : Slot). IsFour u.offset) b.1 four) (snoc_cases slots new s i e);
+  ends = λ i s e. ⊎_elim (λ a. frame.ends i s a) (λ b. subst (λ (u : Slot). end_of u ≤ℤ pos 0) b.1 top) (snoc_cases slots new s i e);
+  apart = λ i j s t a b. ⊎_elim
+      (λ x. ⊎_elim
+      (λ y. frame.apart i j s t x y)
+      (λ y. inr (inr (subst (λ (u : Slot). end_of u ≤ℤ s.offset) y.1 (above i s x))))
+      (snoc_cases slots new t j b))
+      (λ x. ⊎_elim
+      (λ y. inr (inl (subst (λ (u : Slot). end_of u ≤ℤ t.offset) x.1 (above j t y))))
+      (λ y. inl (x.0 ∙ sym y.0))
+      (snoc_cases slots new t j b))
+      (snoc_cases slots new s i a);
+}
 
 record Grown (low : ℤ) (n : ℕ) (slots : List Slot) : Type 0 where
   frame : IsFrame slots
@@ -72,7 +72,7 @@ record Grown (low : ℤ) (n : ℕ) (slots : List Slot) : Type 0 where
 
 grown_more : (low : ℤ) (n : ℕ) (slots : List Slot) → IsFour low → low ≤ℤ pos 0 → Grown low n slots → Grown low (suc n) (slots ++ slot_below low n ∷ [])
 grown_more low n slots four top g = record {
-  frame = frame_snoc slots (offset_below low n) g.frame (below_four low n four) (omega (arith, ints, top)) g.above;
+  frame = frame_with slots (slot_below low n) g.frame (below_four low n four) (omega (arith, ints, top)) g.above;
   above = λ i s e. ⊎_elim
       (λ a. let h = g.above i s a in omega (arith, ints, h))
       (λ b. subst (λ (u : Slot). (offset_below low (suc n) +ℤ pos 4) ≤ℤ u.offset) b.1 (omega (arith, ints)))

@@ -1,0 +1,4 @@
+pub mod Equations
+pub mod AlikeCalls
+pub mod SoundStatements
+pub mod SoundCalls

@@ -1,0 +1,4 @@
+pub mod Runs
+pub mod Keys
+pub mod Places
+pub mod Stopping
