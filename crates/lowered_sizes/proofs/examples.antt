@@ -1,0 +1,2 @@
+mod ChangeExamples
+mod FrameExamples

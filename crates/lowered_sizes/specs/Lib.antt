@@ -1,0 +1,4 @@
+pub mod Counted
+pub mod Labels
+pub mod Slots
+pub mod Frames

@@ -1,0 +1,4 @@
+pub mod Cases
+pub mod Labels
+pub mod Slots
+pub mod Frames
