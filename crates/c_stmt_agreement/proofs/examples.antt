@@ -1,2 +1,1 @@
-mod ReturnExamples
 mod JumpExamples

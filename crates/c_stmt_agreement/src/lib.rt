@@ -5,6 +5,6 @@
 mod laws;
 
 pub use laws::{
-    choices_are_lowered, jumps_are_lowered, labels_lead, loops_are_lowered, returns_are_lowered,
-    sequences_are_lowered,
+    choices_are_lowered, expressions_are_lowered, jumps_are_lowered, labels_lead,
+    loops_are_lowered, sequences_are_lowered,
 };

@@ -7,6 +7,7 @@ pub mod AskedNodes
 pub mod AskedTemplates
 pub mod Acting
 pub mod Coming
+pub mod Lasting
 pub mod Extending
 pub mod Placing
 pub mod Wholes

@@ -23,7 +23,7 @@ use Rattle.c_runs.specs.Soundness.{IsTame}
 use Rattle.c_runs.specs.Worlds as c
 use Rattle.c_match.specs.Left.{IsPrivate}
 use Rattle.c_match.specs.Ranges.{Map, Grown}
-use Rattle.c_rows_agree.specs.Templates.{Template, Given, Leaf}
+use Rattle.c_rows_agree.specs.Templates.{Template, Given, Leaf, Gives as GivesWord}
 use Rattle.c_rows_agree.specs.Typed.{Typed, Holds}
 use Rattle.piece_runs.specs.Pieces.{Front}
 use Rattle.piece_runs.specs.Reaches.{Stops}
@@ -52,8 +52,15 @@ pub record HasValue (s : Scene) (a : Typed) (map : Map) (values : ℕ → Word) 
   pub word : IsWord holds.word
   pub waits : Waits a.tree
 
+-- or some word, where C gives no value: a way of a conditional keeps it, though nothing uses it
+pub record HasWord (s : Scene) (a : Typed) (map : Map) (values : ℕ → Word) (w : World) : Type 0 where
+  pub word : Word
+  pub gives : GivesWord (seen s.body map values w) a.tree word
+  pub is : IsWord word
+  pub waits : Waits a.tree
+
 abbrev pub HasResult : Scene → Typed → Map → (ℕ → Word) → World → Option Value → Type 0
-HasResult s a map values w None = Unit {0}
+HasResult s a map values w None = HasWord s a map values w
 HasResult s a map values w (Some v) = HasValue s a map values w v
 
 -- ---- what stays

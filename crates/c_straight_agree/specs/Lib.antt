@@ -7,4 +7,6 @@ pub mod Extends
 pub mod Layouts
 pub mod Checked
 pub mod Laws
+pub mod Lasting
+pub mod Parts
 pub mod Finals

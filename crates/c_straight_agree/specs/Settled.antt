@@ -43,8 +43,9 @@ IsSettled keeps k (Leaf h) = IsMild h.operator.op ⊥
 IsSettled keeps k (One h a) = IsSettled keeps k a × IsMild h.operator.op ((x : Word) → Gives k a x → IsApart keeps x)
 IsSettled keeps k (Two h a b) = IsSettled keeps k a × (IsSettled keeps k b × IsMild h.operator.op ⊥)
 
--- The first nodes, so many, have the same values; the same objects live; and all but temporaries are as they were.
+-- The first nodes, so many, have the same values; the same objects live; all but temporaries are as they were; and no argument word is passed.
 pub record IsNear (keeps : Keeps) (n : ℕ) (values others : ℕ → Word) (w v : World) : Type 0 where
   pub kept : (m : ℕ) → m < n → others m ≡ values m
   pub alike : AreAlike w.objects v.objects
   pub same : (place : ℕ) → IsLone keeps place → slice_get v.objects place ≡ slice_get w.objects place
+  pub arguments : v.arguments ≡ w.arguments

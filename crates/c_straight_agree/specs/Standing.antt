@@ -14,6 +14,7 @@ use Rattle.dag_seam.specs.Turns.{waiting}
 use Rattle.c_runs.specs.Soundness.{IsTameUnit, IsSound}
 use Rattle.c_runs.specs.Worlds as c
 use Rattle.c_match.specs.Ranges.{Map}
+use Rattle.c_agreement.specs.Agrees.{ComesWith}
 use Rattle.c_pointers_agree.specs.Held.{AreShort}
 use Rattle.piece_runs.specs.Pieces.{Front}
 use Rattle.piece_runs.specs.Reaches.{BodyRun}
@@ -49,14 +50,21 @@ AreFree g w =
 abbrev pub place_of : Low → Place
 place_of l = record { done = l.pieces; entries = l.entries }
 
+-- Calls may be made: no argument word that was passed waits for one; and a function that is called with fewer turns than are left comes to what the
+-- call of C comes to.
+pub record IsReady (s : Scene) (w : World) (k : ℕ) : Type 0 where
+  pub arguments : w.arguments ≡ []
+  pub callees : (j : ℕ) → j < k → (function : ℕ) → function < length s.unit.functions → ComesWith s.unit s.lowered function j
+
 -- The run comes to the open block, of which no call waits; all its blocks, and this one with it, come to be those of the body, split behind
--- the slots that there are so far and maybe more; and each slot may be written.
+-- the slots that there are so far and maybe more; each slot may be written, and calls may be made.
 pub record Standing (s : Scene) (start : ℕ → Outcome) (turns : ℕ) (l : Low) (f : Front s.body.pieces l.pieces l.entries) (map : Map) (old : c.World) (values : ℕ → Word) (w : World) (k : ℕ) : Type 0 where
   pub stands : Stands s start turns (place_of l) f map old values w k
   pub block : IsBlock l.entries
   pub none_waits : waiting l.entries ≡ []
   pub slots : IsFront l.slots f.before
   pub free : AreFree s.body w
+  pub ready : IsReady s w k
 
 -- C's world is sound, and its objects are short
 pub record IsSoundIn (s : Scene) (old : c.World) : Type 0 where

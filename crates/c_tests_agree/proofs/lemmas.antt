@@ -1,3 +1,10 @@
 pub mod Branching
 pub mod Joining
 pub mod Valuing
+pub mod Truths
+pub mod Marking
+pub mod Following
+pub mod Connecting
+pub mod Comparing
+pub mod Operands
+pub mod Jumping

@@ -14,10 +14,10 @@ use Rattle.piece_runs.specs.Reaches.{keeps_at}
 use Rattle.c_expr_agreement.specs.Scenes.{Scene, InFrame}
 use Rattle.lowered_forms.specs.Blocks.{IsWithin}
 use Rattle.lowered_forms.specs.Later.{IsFront}
-use Rattle.lowered_forms.specs.Lows.{Low, branched}
+use Rattle.lowered_forms.specs.Lows.{Low, branched, jumped}
 use Rattle.c_straight_agree.specs.Settled.{seen, IsSettled, IsNear}
 use Rattle.c_straight_agree.specs.Standing.{IsBody, Standing}
-use Rattle.c_tests_agree.specs.Tested.{AreMarkedOnce, Label, jumps, PassedBy}
+use Rattle.c_tests_agree.specs.Tested.{AreMarkedOnce, Label, low_at, jumps, Passed, PassedBy}
 
 -- A root jumps where a truth is so, wherever the run is once its operands are asked for: then the run stands at the label, or else in the next block.
 abbrev pub BranchesAreTaken : Type 0
@@ -28,3 +28,10 @@ BranchesAreTaken =
     → ((others : ℕ → Word) (world : World) → IsNear (keeps_at s.body m.pieces m.entries f) (node_count m.entries) values others w world → Matches s.lowered s.own map old world → InFrame s.frame map old world
     → Acts (seen s.body map others world) r (Moved (move_where when is n)))
     → (h : Front s.body.pieces (branched r m).pieces (branched r m).entries) → IsFront (branched r m).slots h.before → (t : Label s n) → PassedBy (jumps when is) s start turns (length m.slots) (branched r m) h n t map old w old k
+
+-- And a root that jumps, jumps: the run stands at the label.
+abbrev pub JumpsAreTaken : Type 0
+JumpsAreTaken =
+    (s : Scene) (locals : ℕ) → IsBody s locals → AreMarkedOnce s.body → (start : ℕ → Outcome) (turns : ℕ) (m : Low) → locals ≤ length m.slots → (f : Front s.body.pieces m.pieces m.entries) (map : Map) (old : c.World) (values : ℕ → Word) (w : World) (k : ℕ)
+    → Standing s start turns m f map old values w k → (n : ℕ) (h : Front s.body.pieces (jumped n m).pieces (jumped n m).entries) → IsFront (jumped n m).slots h.before → (t : Label s n)
+    → Passed s start turns (length m.slots) (low_at s n t) t.front map old w old k

@@ -1,3 +1,5 @@
 pub mod Tested
 pub mod Laws
 pub mod Scalars
+pub mod Connectives
+pub mod Comparisons

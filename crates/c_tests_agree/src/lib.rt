@@ -4,4 +4,6 @@
 
 mod laws;
 
-pub use laws::{branches_are_taken, scalars_are_tested};
+pub use laws::{
+    branches_are_taken, comparisons_are_tested, connectives_are_tested, scalars_are_tested,
+};

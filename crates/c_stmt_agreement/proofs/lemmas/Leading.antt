@@ -1,83 +1,118 @@
--- Where labels and jumps lead.
-use Rattle.std.specs.Prelude.{◌≡◌, ◌≤◌, ℕ, zero, suc, ◌+◌, List, [], ◌∷◌, ◌++◌}
-use Rattle.std.proofs.Common.{refl, ap, sym, ◌∙◌, arith}
-use Rattle.op_forest.specs.declared.frame.Slot.{Slot}
-use Rattle.forests.specs.Budgets.{with_left, with_calls}
-use Rattle.forests.specs.Meaning.{call_of}
-use Rattle.forests.specs.OneRoot.{no_steps}
-use Rattle.forests.specs.Words.{Word, unknown}
-use Rattle.forests.specs.Worlds.{World, Point, Outcome}
-use Rattle.dag_forest.specs.declared.act.Act.{Act}
-use Rattle.dag_forest.specs.declared.entry.Entry.{Entry}
-use Rattle.dag_forest.specs.Meaning.{Keeps, Through}
-use Rattle.dag_seam.specs.Open.{Open}
-use Rattle.dag_seam.specs.SplitLaws.{Lacks}
-use Rattle.piece_runs.specs.Laws.{AreSplit, LabelIsReached, JumpIsReached}
-use Rattle.piece_runs.specs.Pieces.{Piece, Mark, Front}
-use Rattle.piece_runs.specs.Reaches.{BodyRun, acting, roots_in, run_from, tail_at, keeps_at, Reaches, Stops}
-use Rattle.c_expr_agreement.specs.Scenes.{Scene, Place}
-use Rattle.c_stmt_agreement.specs.Comings.{Origin, Came, Spends}
-use Rattle.c_stmt_agreement.specs.Laws.{behind_mark, JumpsTo}
-use Rattle.c_stmt_agreement.specs.LoweredStmt.{StandsAt, Reached, Leads}
+-- Where labels and jumps lead, with a step that pays for a turn.
+use Rattle.std.specs.Prelude.{◌≡◌, ◌≤◌, ℕ, suc, List, [], ◌∷◌, ◌++◌, length}
+use Rattle.std.proofs.Common.{refl, sym, subst, ◌∙◌, arith, append_assoc}
+use Rattle.forests.specs.Actions.{Moved}
+use Rattle.forests.specs.Budgets.{with_left}
+use Rattle.forests.specs.Words.{Label as LabelWord, unknown}
+use Rattle.forests.specs.Worlds.{To}
+use Rattle.dag_forest.specs.declared.act.Act.TheVariants.{Acts}
+use Rattle.dag_forest.specs.declared.entry.Entry.TheVariants as entry
+use Rattle.dag_forest.specs.Meaning.{Keeps, Jumps, Runs}
+use Rattle.dag_seam.specs.SplitLaws.{TurnsMean}
+use Rattle.dag_seam.specs.Turns.{made_of}
+use Rattle.dag_seam.proofs.lemmas.Turns.{root_goes_on}
+use Rattle.c_match.proofs.lemmas.Growing.{grown_refl}
+use Rattle.piece_runs.specs.Pieces.{Piece, OfBlock, Mark, Front}
+use Rattle.piece_runs.specs.Reaches.{acting, Reaches}
+use Rattle.piece_runs.proofs.lemmas.Ended.{label_is_reached, jump_is_reached}
+use Rattle.lowered_forms.specs.Lows.{Low, jumped, marked}
+use Rattle.c_straight_agree.specs.Narrow.{CharsAreNarrow, ShortsAreNarrow}
+use Rattle.c_straight_agree.proofs.lemmas.Coming.{fewer_taken}
+use Rattle.c_straight_agree.proofs.lemmas.Wholes.{wholes_left}
+use Rattle.c_tests_agree.specs.Tested.{AreMarkedOnce, Label, low_at}
+use Rattle.c_tests_agree.proofs.lemmas.Branching.{ended_front, jumps_so, block_begins}
+use Rattle.c_tests_agree.proofs.lemmas.Jumping.{jump, address, own_label}
+use Rattle.c_stmt_agreement.specs.Comings.{Activation, HasFrame, Origin}
+use Rattle.c_stmt_agreement.specs.Laws.{IsFinal}
+use Rattle.c_stmt_agreement.specs.LoweredStmt.{StandsAt, Leads}
+use Rattle.c_stmt_agreement.proofs.lemmas.Paying.{both_more, reaches_paid}
+use Rattle.c_stmt_agreement.proofs.lemmas.Roots.{keeps, behind, root, StandsBefore, root_front, stands_before}
+use Rattle.c_stmt_agreement.proofs.lemmas.Results.{result_left, opens_left}
 
--- ---- at the start of a block
+-- ---- a label
 
-nothing_open : (s : Scene) (keeps : Keeps) (values : ℕ → Word) (w : World) → Open (acting s.body) keeps [] values w
-nothing_open s keeps values w = record { now = λ m k e. absurd (let never : ⊥ = cc in never) }
+module _ (means : TurnsMean) (p : Activation) (frame : HasFrame p) (n : ℕ) (a : Low) where
+  reached_at : (o : Origin) (ps qs : List Piece) (k : ℕ) → ps ≡ qs → ((h : Front p.scene.body.pieces qs []) → Reaches p.scene.body o.start (suc o.turns) qs [] h (λ m. unknown) o.world k)
+      → (h : Front p.scene.body.pieces ps []) → Reaches p.scene.body o.start (suc o.turns) ps [] h (λ m. unknown) o.world k
+  reached_at o ps qs k e go = subst (λ (rs : List Piece). (h : Front p.scene.body.pieces rs []) → Reaches p.scene.body o.start (suc o.turns) rs [] h (λ m. unknown) o.world k) (sym e) go
 
--- where no turns are left, the run goes on with as many steps as there were turns
-same_left : (values others : ℕ → Word) (p q : Point) → Through values p ≡ Through others q → p ≡ q
-same_left values others p q e = cc
+  mark_reached : (o : Origin) (k : ℕ) → StandsAt p o a k → (h : Front p.scene.body.pieces (marked n a).pieces []) → Reaches p.scene.body o.start (suc o.turns) (marked n a).pieces [] h (λ m. unknown) o.world k
+  mark_reached o k at h =
+      reached_at o (marked n a).pieces (a.pieces ++ OfBlock a.slots a.entries ∷ Mark n ∷ []) k (append_assoc a.pieces (OfBlock a.slots a.entries ∷ []) (Mark n ∷ []))
+      (λ g. label_is_reached means p.scene.body frame.body.split o.start (suc o.turns) a.pieces a.entries a.slots n at.front g at.values o.world (suc k) k (omega arith)
+      (reaches_paid p.scene.body o.start o.turns (suc o.turns) a.pieces a.entries at.front at.values o.world k (suc k) (both_more o.turns k) at.stands.stands.reaches)) h
 
-stopped : (g : BodyRun) (start : ℕ → Outcome) (turns : ℕ) (done : List Piece) (f : Front g.pieces done []) (values : ℕ → Word) (w : World) → Reaches g start turns done [] f values w 0 → Stops start turns w.trace
-stopped g start turns done f values w r =
-    let m = r.arrives 0 in
-    let at : with_left 0 w ≡ with_left m.inside r.first = same_left values (λ n. unknown) (with_left 0 w) (with_left m.inside r.first) m.block in
-    let paid = m.paid in
-    record {
-      steps = m.steps;
-      world = w;
-      is = m.runs ∙ ap (λ (p : Point). run_from g (tail_at g done [] f) p.left p.world) (sym at) ∙ no_steps (with_calls g.setting (call_of g.program)) (roots_in g g.pieces) (roots_in g (tail_at g done [] f)) w;
-      paid = omega (arith, paid);
-      seen = refl;
-    }
-
--- the run reaches a block behind a label, with as many turns left and with one less
-reached_by : (s : Scene) (o : Origin) (a : Place) (k : ℕ) → StandsAt s o a k → (done : List Piece) (f : Front s.body.pieces done [])
-    → ((j : ℕ) → k ≤ suc j → Reaches s.body o.start o.turns done [] f (λ m. unknown) o.world j) → Reached s o (record { done = done; entries = [] }) o.old k
-reached_by s o a k at done f reaches = record { came = came k (omega arith); spends = spends k refl }
-  where
-    came : (j : ℕ) → k ≤ suc j → Came s o (record { done = done; entries = [] }) o.old j
-    came j le = record {
-      front = f;
-      map = o.map;
-      grown = λ m r e. e;
-      values = λ m. unknown;
+  pub marks_lead : IsFinal p (marked n a) → Leads p a (marked n a)
+  marks_lead final o k at = record {
+    front = final.front;
+    passed = record {
+      later = o.map;
+      grown = grown_refl o.map;
+      others = λ m. unknown;
       world = o.world;
-      stands = record { reaches = reaches j le; matches = at.stands.matches; frame = at.stands.frame; nodes = nothing_open s (keeps_at s.body done [] f) (λ m. unknown) o.world };
-      left = λ place within private. refl;
-    }
+      stands =
+          block_begins p.scene o.start (suc o.turns) (marked n a).pieces (marked n a).slots a.labels final.front final.slots o.map o.old o.world k (mark_reached o k at final.front)
+          at.stands.stands.matches at.stands.stands.frame at.stands.free at.stands.ready;
+      alike = refl;
+      left = λ place lt private none. refl;
+      private = λ place lt private. private;
+    };
+    sound = at.sound;
+    wholes = at.wholes;
+    result = at.result;
+    opens = at.opens;
+  }
 
-    spends : (j : ℕ) → j ≡ k → Spends s o (record { done = done; entries = [] }) o.old j
-    spends zero e =
-        let x = stopped s.body o.start o.turns done f (λ m. unknown) o.world (reaches 0 (omega (arith, e))) in
-        record { steps = x.steps; world = x.world; is = x.is; paid = x.paid; seen = x.seen ∙ at.stands.matches.trace }
-    spends (suc j) e = came j (omega (arith, e))
+-- ---- a jump
 
--- ---- a label, and a jump
+module _ (chars : CharsAreNarrow) (shorts : ShortsAreNarrow) (means : TurnsMean) (p : Activation) (frame : HasFrame p) (once : AreMarkedOnce p.scene.body) (n : ℕ) (a : Low) (le : p.locals ≤ length a.slots) (t : Label p.scene n) where
+  jump_reached : (o : Origin) (k : ℕ) (at : StandsAt p o a k) (h : Front p.scene.body.pieces (jumped n a).pieces [])
+      → (x : StandsBefore p o a k at jump (address n) (LabelWord p.scene.body.setting.environment.home.function n)
+      (root_front p o a k at jump (address n) chars shorts frame le (ended_front p.scene.body.pieces a.pieces a.slots (behind p o a k at jump (address n) ++ entry.Root (root p o a k at jump (address n)) ∷ []) h)))
+      → Reaches p.scene.body o.start (suc o.turns) (t.before ++ Mark n ∷ []) [] t.front (λ m. unknown) x.world k
+  jump_reached o k at h x =
+      let gs = behind p o a k at jump (address n) in
+      let r = root p o a k at jump (address n) in
+      let front = ended_front p.scene.body.pieces a.pieces a.slots (gs ++ entry.Root r ∷ []) h in
+      let f = root_front p o a k at jump (address n) chars shorts frame le front in
+      let function = p.scene.body.setting.environment.home.function in
+      let act = x.acts (Moved (To n)) (own_label function n) in
+      jump_is_reached means p.scene.body frame.body.split o.start (suc o.turns) a.pieces gs (entry.Root r ∷ []) (Acts r ∷ []) f front x.values x.world x.world (suc k) k
+      (root_goes_on gs x.stands.none_waits r)
+      (reaches_paid p.scene.body o.start o.turns (suc o.turns) a.pieces gs f x.values x.world k (suc k) (both_more o.turns k) x.stands.reaches)
+      n t.before t.front
+      (once t.before (OfBlock t.front.before t.front.more ∷ t.front.rest) n (t.front.is ∙ append_assoc t.before (Mark n ∷ []) (OfBlock t.front.before t.front.more ∷ t.front.rest)))
+      (λ left. (
+        suc left,
+        omega arith,
+        subst (λ (ks : Keeps). Runs (acting p.scene.body) ks (Acts r ∷ []) (made_of gs) x.values (suc left) x.world (Jumps n (with_left left x.world))) (sym x.stands.keeps_is)
+            (jumps_so means p.scene once p.locals frame.body o.start o.turns a.pieces a.slots (keeps p o a k at jump (address n)) k o.map o.old gs f x.values x.world x.stands r n act left),
+      ))
 
-pub marks_lead : LabelIsReached → (s : Scene) → AreSplit s.body → (a : Place) (before : List Slot) (label : ℕ) → Front s.body.pieces (behind_mark a before label).done [] → Leads s a (behind_mark a before label)
-marks_lead law s split a before label f o k at =
-    reached_by s o a k at (behind_mark a before label).done f
-    (λ j le. law s.body split o.start o.turns a.done a.entries before label at.front f at.values o.world k j le at.stands.reaches)
-
-paid_by : (left k j : ℕ) → k ≤ suc j → left + k ≤ suc left + j
-paid_by left k j le = omega (arith, le)
-
-pub jumps_lead : JumpIsReached → (s : Scene) → AreSplit s.body → (a : Place) (fs : List Entry) (acts : List Act) (label : ℕ) → JumpsTo s a fs acts label → Front s.body.pieces a.done (a.entries ++ fs)
-    → (ps : List Piece) → Front s.body.pieces (ps ++ Mark label ∷ []) [] → Lacks label (roots_in s.body ps)
-    → Leads s a (record { done = ps ++ Mark label ∷ []; entries = [] })
-jumps_lead law s split a fs acts label jumps front ps f lacks o k at =
-    reached_by s o a k at (ps ++ Mark label ∷ []) f
-    (λ j le. law s.body split o.start o.turns a.done a.entries fs acts at.front front at.values o.world o.world k j jumps.goes_on at.stands.reaches label ps f lacks
-    (λ left. (suc left, paid_by left k j le, jumps.runs at.front at.values o.world at.stands.nodes left)))
+  pub jumps_lead : IsFinal p (jumped n a) → Leads p a (low_at p.scene n t)
+  jumps_lead final o k at =
+      let gs = behind p o a k at jump (address n) in
+      let r = root p o a k at jump (address n) in
+      let front = ended_front p.scene.body.pieces a.pieces a.slots (gs ++ entry.Root r ∷ []) final.front in
+      let f = root_front p o a k at jump (address n) chars shorts frame le front in
+      let function = p.scene.body.setting.environment.home.function in
+      let x = stands_before p o a k at jump (address n) chars shorts frame le (LabelWord function n) tt tt refl f in
+      record {
+        front = t.front;
+        passed = record {
+          later = o.map;
+          grown = grown_refl o.map;
+          others = λ m. unknown;
+          world = x.world;
+          stands =
+              block_begins p.scene o.start (suc o.turns) (t.before ++ Mark n ∷ []) t.slots t.labels t.front t.split o.map o.old x.world k (jump_reached o k at final.front x)
+              x.stands.matches x.stands.frame x.stands.free x.ready;
+          alike = x.alike;
+          left = λ place lt private none. x.left place lt private (fewer_taken p.scene p.locals (length a.slots) place le none);
+          private = λ place lt private. private;
+        };
+        sound = at.sound;
+        wholes = wholes_left p.scene p.layout frame.laid o.map o.old o.world x.world at.stands.stands.frame.others x.alike (length a.slots) x.left at.wholes;
+        result = result_left p frame o.map o.map (grown_refl o.map) o.old o.world x.world at.stands.stands.frame.others x.alike (length a.slots) x.left at.result;
+        opens = opens_left p o.world x.world x.alike at.opens;
+      }

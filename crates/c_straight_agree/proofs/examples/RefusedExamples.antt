@@ -101,6 +101,7 @@ stands_first = record {
   none_waits = refl;
   slots = front_itself [];
   free = λ i slot e four. absurd (let never : ⊥ = cc in never);
+  ready = record { arguments = refl; callees = λ j lt function there. absurd (omega (arith, there)) };
 }
 
 sound_first : IsSoundIn scene before

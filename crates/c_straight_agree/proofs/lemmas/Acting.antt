@@ -118,7 +118,9 @@ pub record Stored (s : Scene) (start : ℕ → Outcome) (turns : ℕ) (done : Li
   pub near : IsNear keeps n values others w world
   pub storing : IsStoring s (length slots) keeps map old new others world r
   pub stored : World
+  pub writes : stored.objects ≡ storing.after
   pub alike : AreAlike w.objects stored.objects
+  pub arguments : stored.arguments ≡ w.arguments
   pub left : IsLeftBut s (length slots) map (c.objects old) w.objects stored.objects
   pub stands : At s start turns done slots keeps k map new es h others stored
 
@@ -159,7 +161,9 @@ module _ (chars : CharsAreNarrow) (shorts : ShortsAreNarrow) (s : Scene) (locals
         near = near;
         storing = then;
         stored = with_objects n.world then.after;
+        writes = refl {a = then.after};
         alike = alike_joins w.objects n.world.objects then.after near.alike alike;
+        arguments = near.arguments;
         left = λ place lt private none.
             same_objects (slice_get then.after place) (slice_get n.world.objects place) (slice_get w.objects place) (then.left place (let l = alike_length w.objects n.world.objects near.alike in omega (arith, lt, l)) private none) (near.same place (lone place none));
         stands = root_stands s start turns done slots keeps k map old new gs g n.others n.world n.stands x then.acts.first then.acts.second then.after store act then.kept h (rooted_there r es st.block within_a within_b).0 then.matches then.locals then.private;

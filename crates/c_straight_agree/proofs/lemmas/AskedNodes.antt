@@ -185,7 +185,7 @@ module _ (chars : CharsAreNarrow) (shorts : ShortsAreNarrow) (s : Scene) (locals
           free = st.free;
           keeps_is = keeps_there;
         };
-        near = record { kept = further; alike = refl; same = λ place lone. refl };
+        near = record { kept = further; alike = refl; same = λ place lone. refl; arguments = refl };
         has = at_last;
       }
 
@@ -216,7 +216,7 @@ module _ (chars : CharsAreNarrow) (shorts : ShortsAreNarrow) (s : Scene) (locals
               free = still_free s w world (law.shape v w) st.free;
               keeps_is = keeps_there;
             };
-            near = record { kept = further; alike = law.shape v w; same = λ place lone. law.others v w place (λ same. lone (node_count es) temporary is (sym same)) };
+            near = record { kept = further; alike = law.shape v w; same = λ place lone. law.others v w place (λ same. lone (node_count es) temporary is (sym same)); arguments = refl };
             has = at_last;
           }
 

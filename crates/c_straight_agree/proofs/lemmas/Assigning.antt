@@ -38,11 +38,13 @@ use Rattle.lowered_forms.proofs.lemmas.Pending.{pending_in, placed_comes}
 use Rattle.lowered_forms.proofs.lemmas.WithinTemplates.{HasIn, kept_in_block}
 use Rattle.c_straight_agree.specs.Agreement.{HasValue, Came, CameTo}
 use Rattle.c_straight_agree.specs.Extends.{Extends}
+use Rattle.c_straight_agree.specs.Lasting.{LastingValue}
 use Rattle.c_straight_agree.specs.Narrow.{CharsAreNarrow, ShortsAreNarrow}
 use Rattle.c_straight_agree.specs.Settled.{seen}
 use Rattle.c_straight_agree.specs.Standing.{IsBody, Standing}
 use Rattle.c_straight_agree.proofs.lemmas.Coming.{operand_settled, value_stays, joins}
 use Rattle.c_straight_agree.proofs.lemmas.Extending.{placed_extends, acted_extends, extends_nodes, extends_slots, extends_grows, front_back}
+use Rattle.c_straight_agree.proofs.lemmas.Lasting.{lasting_more, lasting_settled, lasting_stays}
 use Rattle.c_straight_agree.proofs.lemmas.Parts.{GoesTwo}
 use Rattle.c_straight_agree.proofs.lemmas.Placing.{placed_came}
 use Rattle.c_straight_agree.proofs.lemmas.Reading.{if_none_is, IsInUnit, width_some}
@@ -101,6 +103,13 @@ module _ (s : Scene) (locals : ℕ) (body : IsBody s locals) (chars : CharsAreNa
   still start turns l m x h a map before values first v old k one b u in_b hb =
       value_stays s map one.later one.grown values one.others first one.world one.alike (node_count l.entries) (one.kept (extends_grows l m x)) b u in_b hb
 
+  -- and one that waits while blocks end
+  pub lasts : (start : ℕ → Outcome) (turns : ℕ) (l m : Low) → Extends l m → (f : Front s.body.pieces l.pieces l.entries) (h : Front s.body.pieces m.pieces m.entries) (a : Typed) (map : Map) (before : c.World) (values : ℕ → Word) (first : World) (j : ℕ) → Standing s start turns l f map before values first j
+      → (v : Option Value) (old : c.World) (k : ℕ) → (one : Came s start turns l m h a map before values first v old k) → (b : Typed) (u : Value) → HasIn (node_count l.entries) b → LastingValue s locals (length l.slots) b map values first u → LastingValue s locals (length m.slots) b one.later one.others one.world u
+  lasts start turns l m x f h a map before values first j st v old k one b u in_b hb =
+      lasting_more s locals (length l.slots) (length m.slots) (extends_slots l m x) b one.later one.others one.world u
+      (lasting_stays s locals body (length l.slots) (length l.slots) (omega arith) map one.later one.grown before values one.others first one.world st.stands.frame one.alike one.left (node_count l.entries) (one.kept (extends_grows l m x)) b u in_b hb)
+
   pub in_later : (l m : Low) → Extends l m → (b : Typed) → HasIn (node_count l.entries) b → HasIn (node_count m.entries) b
   in_later l m x b in_b = within_more (node_count l.entries) (node_count m.entries) b.tree (extends_nodes l m x) in_b
 
@@ -108,7 +117,7 @@ module _ (s : Scene) (locals : ℕ) (body : IsBody s locals) (chars : CharsAreNa
   module _ (x : Spot) (unit : IsInUnit x) where
     pub assigned_came : (m : Low) → locals ≤ length m.slots → (a b : Typed) → HasIn (node_count m.entries) a → HasIn (node_count m.entries) b → (p v : Value) (start : ℕ → Outcome) (turns : ℕ) (f : Front s.body.pieces m.pieces m.entries)
         (h : Front s.body.pieces (low.assigned s.lowered.order x a b m).low.pieces (low.assigned s.lowered.order x a b m).low.entries) (map : Map) (old : c.World) (values : ℕ → Word) (w : World) (k : ℕ)
-        → IsFront (low.assigned s.lowered.order x a b m).low.slots h.before → Standing s start turns m f map old values w k → HasValue s a map values w p → HasValue s b map values w v
+        → IsFront (low.assigned s.lowered.order x a b m).low.slots h.before → Standing s start turns m f map old values w k → LastingValue s locals (length m.slots) a map values w p → HasValue s b map values w v
         → (new : List Old) → place.stored Assignment s.lowered.order x v (c.objects old) p ≡ Ok new
         → CameTo s start turns m (low.assigned s.lowered.order x a b m).low h (low.assigned s.lowered.order x a b m).value map old values w (Gives (place.kept x v) k (c.with_objects old new))
     assigned_came m le a b in_a in_b p v start turns f h map old values w k slots st ha hb new is =
@@ -123,8 +132,9 @@ module _ (s : Scene) (locals : ℕ) (body : IsBody s locals) (chars : CharsAreNa
         let in_kept = kept_in_block (node_count m.entries) (is_field x) x b in_b in
         let one = placed_came s locals body chars shorts start turns m le f map old values w k st (place.kept x v) kept in_kept (kept_by_set keeps here (is_field x) x b (operand_settled keeps s b map values w v hb))
         (kept_holds s map values w s.lowered.order x unit b v p (c.objects old) new is hb.holds) h1 in
+        let la = lasts start turns m one_low.low x1 f h1 one_low.value map old values w k st (Some (place.kept x v)) old k one a p in_a ha in
         let two = written_came s locals body chars shorts x unit true one_low.low (slots_on le (extends_slots m one_low.low x1)) a b (in_later m one_low.low x1 a in_a) (in_later m one_low.low x1 b in_b) p v start turns h1 one.later old one.others one.world k one.stands
-        (still start turns m one_low.low x1 h1 one_low.value map old values w (Some (place.kept x v)) old k one a p in_a ha)
+        la.holds (lasting_settled s locals body one_low.low h1 one.stands.slots (length one_low.low.slots) (omega arith) one.later one.others one.world a p la)
         (still start turns m one_low.low x1 h1 one_low.value map old values w (Some (place.kept x v)) old k one b v in_b hb)
         new is one_low.value (place.kept x v) (placed_in kept m start turns s f map old values w k st in_kept) one.has h in
         both start turns m one_low.low (acted r one_low.low) x1 x2 h1 h one_low.value one_low.value map old values w (Some (place.kept x v)) old k one (Gives (place.kept x v) k (c.with_objects old new)) two

@@ -1,6 +1,6 @@
 -- Where a run stands in an open block with these temporaries, and that it stands there whatever the block comes to be.
-use Rattle.std.specs.Prelude.{◌≡◌, ℕ, false, List, [], ◌∷◌, ◌++◌}
-use Rattle.std.proofs.Common.{refl, sym, ap, subst, ◌∙◌, append_assoc}
+use Rattle.std.specs.Prelude.{◌≡◌, ◌≤◌, ℕ, false, List, [], ◌∷◌, ◌++◌}
+use Rattle.std.proofs.Common.{refl, sym, ap, subst, ◌∙◌, arith, append_assoc}
 use Rattle.op_forest.specs.declared.frame.Slot.{Slot}
 use Rattle.forests.specs.Budgets.{with_left}
 use Rattle.forests.specs.Words.{Word, unknown}
@@ -20,7 +20,7 @@ use Rattle.c_expr_agreement.specs.Scenes.{Scene, InFrame}
 use Rattle.lowered_forms.specs.Blocks.{IsBlock}
 use Rattle.lowered_forms.specs.Later.{IsFront}
 use Rattle.lowered_forms.specs.Lows.{Low}
-use Rattle.c_straight_agree.specs.Standing.{AreFree, Standing}
+use Rattle.c_straight_agree.specs.Standing.{AreFree, IsReady, Standing}
 
 pub record At (s : Scene) (start : ℕ → Outcome) (turns : ℕ) (done : List Piece) (slots : List Slot) (keeps : Keeps) (k : ℕ) (map : Map) (old : c.World) (es : List Entry) (f : Front s.body.pieces done es) (values : ℕ → Word) (w : World) : Type 0 where
   pub block : IsBlock es
@@ -84,6 +84,13 @@ module _ (s : Scene) (start : ℕ → Outcome) (turns : ℕ) (done : List Piece)
 
 -- ---- states
 
+-- calls may be made where no argument word was passed, and where fewer turns are left
+pub ready_still : (s : Scene) (w v : World) (k : ℕ) → v.arguments ≡ w.arguments → IsReady s w k → IsReady s v k
+ready_still s w v k same ready = record { arguments = same ∙ ready.arguments; callees = ready.callees }
+
+pub ready_fewer : (s : Scene) (w : World) (k j : ℕ) → j ≤ k → IsReady s w k → IsReady s w j
+ready_fewer s w k j le ready = record { arguments = ready.arguments; callees = λ i lt function there. ready.callees i (omega (arith, le, lt)) function there }
+
 pub at_of : (s : Scene) (start : ℕ → Outcome) (turns : ℕ) (l : Low) (f : Front s.body.pieces l.pieces l.entries) (map : Map) (old : c.World) (values : ℕ → Word) (w : World) (k : ℕ) → Standing s start turns l f map old values w k
     → At s start turns l.pieces l.slots (keeps_at s.body l.pieces l.entries f) k map old l.entries f values w
 at_of s start turns l f map old values w k st = record {
@@ -99,8 +106,8 @@ at_of s start turns l f map old values w k st = record {
 }
 
 pub standing_of : (s : Scene) (start : ℕ → Outcome) (turns : ℕ) (l : Low) (f : Front s.body.pieces l.pieces l.entries) (map : Map) (old : c.World) (values : ℕ → Word) (w : World) (k : ℕ) (keeps : Keeps)
-    → At s start turns l.pieces l.slots keeps k map old l.entries f values w → Standing s start turns l f map old values w k
-standing_of s start turns l f map old values w k keeps at = record {
+    → At s start turns l.pieces l.slots keeps k map old l.entries f values w → IsReady s w k → Standing s start turns l f map old values w k
+standing_of s start turns l f map old values w k keeps at ready = record {
   stands = record {
     reaches = at.reaches;
     matches = at.matches;
@@ -111,4 +118,5 @@ standing_of s start turns l f map old values w k keeps at = record {
   none_waits = at.none_waits;
   slots = at.behind;
   free = at.free;
+  ready = ready;
 }

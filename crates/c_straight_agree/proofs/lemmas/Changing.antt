@@ -41,13 +41,15 @@ use Rattle.lowered_forms.specs.Values.{Lowered, then_low, placed}
 use Rattle.lowered_forms.proofs.lemmas.WithinTemplates.{HasIn, read_in, changed_in}
 use Rattle.c_straight_agree.specs.Agreement.{HasValue, CameTo}
 use Rattle.c_straight_agree.specs.Extends.{Extends}
+use Rattle.c_straight_agree.specs.Lasting.{LastingValue}
 use Rattle.c_straight_agree.specs.Layouts.{IsSmallChange}
 use Rattle.c_straight_agree.specs.Narrow.{CharsAreNarrow, ShortsAreNarrow}
 use Rattle.c_straight_agree.specs.Settled.{seen}
 use Rattle.c_straight_agree.specs.Standing.{IsBody, Standing, IsSoundIn}
-use Rattle.c_straight_agree.proofs.lemmas.Assigning.{fine_came, word_of_value, placed_in, both, still, in_later, assigned_came}
+use Rattle.c_straight_agree.proofs.lemmas.Assigning.{fine_came, word_of_value, placed_in, both, still, lasts, in_later, assigned_came}
 use Rattle.c_straight_agree.proofs.lemmas.Coming.{operand_settled}
 use Rattle.c_straight_agree.proofs.lemmas.Extending.{extends_joins, placed_extends, acted_extends, extends_slots, front_back}
+use Rattle.c_straight_agree.proofs.lemmas.Lasting.{lasting_settled}
 use Rattle.c_straight_agree.proofs.lemmas.Parts.{GoesTwo}
 use Rattle.c_straight_agree.proofs.lemmas.Placing.{placed_came}
 use Rattle.c_straight_agree.proofs.lemmas.Reading.{if_none_is, IsInUnit, reads_compute, read_is_sound}
@@ -89,7 +91,7 @@ module _ (s : Scene) (locals : ℕ) (body : IsBody s locals) (chars : CharsAreNa
   GivesBehind give gives =
       (m : Low) → locals ≤ length m.slots → (a o b : Typed) → HasIn (node_count m.entries) a → HasIn (node_count m.entries) o → HasIn (node_count m.entries) b → (p v u : Value) (start : ℕ → Outcome) (turns : ℕ) (f : Front s.body.pieces m.pieces m.entries) (h : Front s.body.pieces (give a o b m).low.pieces (give a o b m).low.entries)
       (map : Map) (old : c.World) (values : ℕ → Word) (w : World) (k : ℕ) → IsFront (give a o b m).low.slots h.before → Standing s start turns m f map old values w k → IsSoundIn s old → IsSoundValue old.storage.made p
-      → HasValue s a map values w p → HasValue s o map values w v → HasValue s b map values w u
+      → LastingValue s locals (length m.slots) a map values w p → HasValue s o map values w v → HasValue s b map values w u
       → CameTo s start turns m (give a o b m).low h (give a o b m).value map old values w (stores (place.stored Assignment s.lowered.order x u (c.objects old) p) (gives v u) line k old)
 
   slots_on : {n i j : ℕ} → n ≤ i → i ≤ j → n ≤ j
@@ -111,9 +113,9 @@ module _ (s : Scene) (locals : ℕ) (body : IsBody s locals) (chars : CharsAreNa
       let in_read = read_in (node_count m.entries) s.lowered.order x a in_a in
       fine_came (place.held s.lowered.order x (c.objects old) p) s start turns m r.low h r.value map old values w line old (λ v. if_fine (does.changed by x t (c.objects old) v u) line old (λ z. stores (place.stored Assignment s.lowered.order x z (c.objects old) p) (gives v z) line k old))
       (λ v is.
-      let y = reads_compute s locals body x unit m le a p v start turns f map old values w k st sound sp ha is in
+      let y = reads_compute s locals body x unit m le a p v start turns f map old values w k st sound sp ha.holds (lasting_settled s locals body m f st.slots (length m.slots) (omega arith) map values w a p ha) is in
       let one = placed_came s locals body chars shorts start turns m le f map old values w k st v (low.read s.lowered.order x a) in_read y.1 y.0 h1 in
-      let ha1 = still s locals body chars shorts start turns m o.low x1 h1 o.value map old values w (Some v) old k one a p in_a ha in
+      let ha1 = lasts s locals body chars shorts start turns m o.low x1 f h1 o.value map old values w k st (Some v) old k one a p in_a ha in
       let hb1 = still s locals body chars shorts start turns m o.low x1 h1 o.value map old values w (Some v) old k one b u in_b hb in
       let in_o = placed_in (low.read s.lowered.order x a) m start turns s f map old values w k st in_read in
       let in_b1 = in_later s locals body chars shorts m o.low x1 b in_b in
@@ -131,7 +133,7 @@ module _ (s : Scene) (locals : ℕ) (body : IsBody s locals) (chars : CharsAreNa
       both s locals body chars shorts start turns o.low n.low r.low x2 x3 h2 h n.value r.value one.later old one.others one.world (Some z) old k two (stores (place.stored Assignment s.lowered.order x z (c.objects old) p) (gives v z) line k old)
       (goes n.low (slots_on le1 (extends_slots o.low n.low x2)) a o.value n.value (in_later s locals body chars shorts o.low n.low x2 a in_a1) (in_later s locals body chars shorts o.low n.low x2 o.value in_o)
       (placed_in (low_change.changed by x o.value b) o.low start turns s h1 one.later old one.others one.world k one.stands in_changed) p v z start turns h2 h two.later old two.others two.world k slots two.stands sound sp
-      (still s locals body chars shorts start turns o.low n.low x2 h2 n.value one.later old one.others one.world (Some z) old k two a p in_a1 ha1)
+      (lasts s locals body chars shorts start turns o.low n.low x2 h1 h2 n.value one.later old one.others one.world k one.stands (Some z) old k two a p in_a1 ha1)
       (still s locals body chars shorts start turns o.low n.low x2 h2 n.value one.later old one.others one.world (Some z) old k two o.value v in_o one.has)
       two.has))))
 
@@ -144,7 +146,7 @@ module _ (s : Scene) (locals : ℕ) (body : IsBody s locals) (chars : CharsAreNa
   old_goes : GivesBehind (λ a o b l. low_change.old_given s.lowered.order x a o b l) (λ v z. does.old_value x v z)
   old_goes m le a o b in_a in_o in_b p v u start turns f h map old values w k slots st sound sp ha ho hb =
       fine_came (place.stored Assignment s.lowered.order x u (c.objects old) p) s start turns m (low.written false s.lowered.order x a b m) h o map old values w line old (λ os. Gives v k (c.with_objects old os))
-      (λ new is. written_came s locals body chars shorts x unit false m le a b in_a in_b p u start turns f map old values w k st ha hb new is o v in_o ho h)
+      (λ new is. written_came s locals body chars shorts x unit false m le a b in_a in_b p u start turns f map old values w k st ha.holds (lasting_settled s locals body m f st.slots (length m.slots) (omega arith) map values w a p ha) hb new is o v in_o ho h)
 
   pub changes_are_given : (by : Change) → IsSmallChange by → (t : CType)
       → GoesTwo s locals body (λ a b l. low_change.changed_at s.lowered.order by x low_change.new_given a b l)

@@ -19,7 +19,7 @@ use Rattle.c_expr_agreement.specs.LoweredExpr.{GrowsTo}
 use Rattle.c_expr_agreement.specs.Scenes.{Scene}
 use Rattle.lowered_forms.specs.Blocks.{IsWithin}
 use Rattle.lowered_forms.specs.Lows.{Low}
-use Rattle.c_straight_agree.specs.Agreement.{Waits, HasValue, IsTaken, Came, CameTo}
+use Rattle.c_straight_agree.specs.Agreement.{Waits, HasValue, HasWord, HasResult, IsTaken, Came, CameTo}
 use Rattle.c_straight_agree.specs.Settled.{seen, IsSettled}
 use Rattle.c_straight_agree.specs.Standing.{place_of}
 use Rattle.c_straight_agree.proofs.lemmas.Mild.{mild_still}
@@ -36,6 +36,9 @@ waiting_settled keeps k (Two h a b) w waits word gives = absurd waits
 pub operand_settled : (keeps : Keeps) (s : Scene) (a : Typed) (map : Map) (values : ℕ → Word) (w : World) (v : Value) → HasValue s a map values w v → IsSettled keeps (seen s.body map values w) a.tree
 operand_settled keeps s a map values w v h = waiting_settled keeps (seen s.body map values w) a.tree h.holds.word h.waits h.word h.holds.gives
 
+pub word_settled : (keeps : Keeps) (s : Scene) (a : Typed) (map : Map) (values : ℕ → Word) (w : World) → HasWord s a map values w → IsSettled keeps (seen s.body map values w) a.tree
+word_settled keeps s a map values w h = waiting_settled keeps (seen s.body map values w) a.tree h.word h.waits h.is h.gives
+
 module _ (s : Scene) (map later : Map) (grown : Grown map later) (values others : ℕ → Word) (w world : World) (alike : AreAlike w.objects world.objects) (n : ℕ) (kept : (m : ℕ) → m < n → others m ≡ values m) where
   waiting_stays : (t : Template) (u : Word) → IsWithin n t → Waits t → template.Gives (seen s.body map values w) t u → template.Gives (seen s.body later others world) t u
   waiting_stays (Given m) u within waits gives = kept m within ∙ gives
@@ -51,9 +54,17 @@ module _ (s : Scene) (map later : Map) (grown : Grown map later) (values others 
     waits = h.waits;
   }
 
+-- a value has a word
+pub value_word : (s : Scene) (a : Typed) (map : Map) (values : ℕ → Word) (w : World) (v : Value) → HasValue s a map values w v → HasWord s a map values w
+value_word s a map values w v h = record { word = h.holds.word; gives = h.holds.gives; is = h.word; waits = h.waits }
+
+pub result_word : (s : Scene) (a : Typed) (map : Map) (values : ℕ → Word) (w : World) (v : Option Value) → HasResult s a map values w v → HasWord s a map values w
+result_word s a map values w None h = h
+result_word s a map values w (Some v) h = value_word s a map values w v h
+
 -- ---- what is left
 
-fewer_taken : (s : Scene) (from more place : ℕ) → from ≤ more → (IsTaken s from place → ⊥) → IsTaken s more place → ⊥
+pub fewer_taken : (s : Scene) (from more place : ℕ) → from ≤ more → (IsTaken s from place → ⊥) → IsTaken s more place → ⊥
 fewer_taken s from more place le none taken = none ((let a = taken.0 in omega (arith, le, a)), taken.1)
 
 -- ---- one behind the other

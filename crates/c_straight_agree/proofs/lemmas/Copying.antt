@@ -24,7 +24,7 @@ use Rattle.c_match_objects.proofs.lemmas.Copied.{copy_goes}
 use Rattle.c_rows_agree.specs.Places.{IsStored}
 use Rattle.c_rows_agree.specs.Templates.{Root}
 use Rattle.c_rows_agree.specs.Templates as template
-use Rattle.c_rows_agree.specs.Typed.{Typed}
+use Rattle.c_rows_agree.specs.Typed.{Typed, Holds}
 use Rattle.c_rows_agree.proofs.lemmas.Suffixes.{p_gives}
 use Rattle.piece_runs.specs.Pieces.{Front}
 use Rattle.piece_runs.specs.Reaches.{keeps_at}
@@ -40,9 +40,11 @@ use Rattle.c_straight_agree.specs.Settled.{seen, IsSettled}
 use Rattle.c_straight_agree.specs.Standing.{IsBody}
 use Rattle.c_straight_agree.specs.Stores.{IsStoring}
 use Rattle.c_straight_agree.proofs.lemmas.Aligned.{types_are_aligned}
-use Rattle.c_straight_agree.proofs.lemmas.Assigning.{fine_came, both, in_later}
+use Rattle.c_straight_agree.proofs.lemmas.Assigning.{fine_came, both, lasts, in_later}
 use Rattle.c_straight_agree.proofs.lemmas.Coming.{operand_settled, value_stays}
 use Rattle.c_straight_agree.proofs.lemmas.Extending.{placed_extends, acted_extends, extends_slots, front_back}
+use Rattle.c_straight_agree.proofs.lemmas.Lasting.{lasting_settled}
+use Rattle.c_straight_agree.proofs.lemmas.Near.{near_holds}
 use Rattle.c_straight_agree.proofs.lemmas.Parts.{GoesTwo}
 use Rattle.c_straight_agree.proofs.lemmas.Placing.{placed_came, stored_came}
 use Rattle.c_straight_agree.proofs.lemmas.Reading.{if_none_is, reads_apart}
@@ -50,16 +52,16 @@ use Rattle.c_straight_agree.proofs.lemmas.SettledTemplates.{copy_left_set, copy_
 use Rattle.c_straight_agree.proofs.lemmas.Storing.{store_is_kept}
 
 module _ (s : Scene) (locals : ℕ) (body : IsBody s locals) (size align : ℕ) (aligned : IsAlignment align) (m : Low) (le : locals ≤ length m.slots) (f : Front s.body.pieces m.pieces m.entries) (behind : IsFront m.slots f.before) (map : Map) (old : c.World) (values : ℕ → Word) (w : World) (matches : Matches s.lowered s.own map old w) (frame : InFrame s.frame map old w)
-    (a b : Typed) (p v : Value) (h : HasValue s a map values w p) (g : HasValue s b map values w v) (new : List Old) (readable : read_cause (c.objects old) v size align ≡ None) (is : object.copied Assignment (c.objects old) v p size align ≡ Ok new) where
+    (a b : Typed) (p v : Value) (h : Holds (seen s.body map values w) a p) (set : IsSettled (keeps_at s.body m.pieces m.entries f) (seen s.body map values w) a.tree) (g : HasValue s b map values w v) (new : List Old) (readable : read_cause (c.objects old) v size align ≡ None) (is : object.copied Assignment (c.objects old) v p size align ≡ Ok new) where
   abbrev here : template.Scene
   here = seen s.body map values w
 
   copy_stored : IsStored here (c.objects old) new (copy_root size align a b)
   copy_stored =
-      let y = copy_goes map (c.objects old) new w.objects Assignment v p g.holds.word h.holds.word size align matches.held g.holds.is h.holds.is aligned tt is in
+      let y = copy_goes map (c.objects old) new w.objects Assignment v p g.holds.word h.word size align matches.held g.holds.is h.is aligned tt is in
       record {
         after = y.0;
-        acts = record { first = h.holds.word; second = g.holds.word; left = p_gives here a.suffix a.tree h.holds.word h.holds.gives; right = (g.holds.word, p_gives here b.suffix b.tree g.holds.word g.holds.gives, refl); does = ap changed y.1 };
+        acts = record { first = h.word; second = g.holds.word; left = p_gives here a.suffix a.tree h.word h.gives; right = (g.holds.word, p_gives here b.suffix b.tree g.holds.word g.holds.gives, refl); does = ap changed y.1 };
         kept = y.2;
       }
 
@@ -67,8 +69,8 @@ module _ (s : Scene) (locals : ℕ) (body : IsBody s locals) (size align : ℕ) 
       × (IsSettled (keeps_at s.body m.pieces m.entries f) here (copy_root size align a b).left × IsSettled (keeps_at s.body m.pieces m.entries f) here (copy_root size align a b).right)
   copies =
       let keeps = keeps_at s.body m.pieces m.entries f in
-      let left = copy_left_set keeps here size align a b (operand_settled keeps s a map values w p h) in
-      let right = copy_right_set keeps here size align a b (operand_settled keeps s b map values w v g) (reads_apart s locals body m le f behind map old values w matches frame b v size align g readable) in
+      let left = copy_left_set keeps here size align a b set in
+      let right = copy_right_set keeps here size align a b (operand_settled keeps s b map values w v g) (reads_apart s locals body m le f behind map old values w matches frame b v size align g.holds readable) in
       (store_is_kept s locals body m le f behind map old values w matches frame new (copy_root size align a b) left right copy_stored, (left, right))
 
 abbrev fine : Value → Checked Value Cause
@@ -101,14 +103,15 @@ module _ (s : Scene) (locals : ℕ) (body : IsBody s locals) (chars : CharsAreNa
       fine_came (place.assigned Assignment s.unit.tags of (c.objects old) z p) s start turns m out.low h out.value map old values w line old (λ os. Gives p k (c.with_objects old os))
       (λ new is2.
       let copied_is = subst (λ (y : Value). place.assigned Assignment s.unit.tags of (c.objects old) y p ≡ Ok new) (sym same) is2 in
-      let now = copies s locals body size align (types_are_aligned s.unit.tags of) m le f st.slots map old values w st.stands.matches st.stands.frame a b p v ha hb new source.0 copied_is in
-      let one = stored_came s locals body chars shorts start turns m le f map old values w k st p r refl (c.with_objects old new) (as_p_in n a.suffix a.tree in_a) (as_p_in n b.suffix b.tree in_b) now.1.0 now.1.1
+      let set_a = lasting_settled s locals body m f st.slots (length m.slots) (omega arith) map values w a p ha in
+      let now = copies s locals body size align (types_are_aligned s.unit.tags of) m le f st.slots map old values w st.stands.matches st.stands.frame a b p v ha.holds set_a hb new source.0 copied_is in
+      let one = stored_came s locals body chars shorts start turns m le f map old values w k st v r refl (c.with_objects old new) (as_p_in n a.suffix a.tree in_a) (as_p_in n b.suffix b.tree in_b) now.1.0 now.1.1
       (λ others world near matches frame.
-      (copies s locals body size align (types_are_aligned s.unit.tags of) m le f st.slots map old others world matches frame a b p v
-      (value_stays s map map (grown_refl map) values others w world near.alike n near.kept a p in_a ha)
+      let y = near_holds keeps s.body map n values others w world near a p in_a set_a ha.holds in
+      (copies s locals body size align (types_are_aligned s.unit.tags of) m le f st.slots map old others world matches frame a b p v y.0 y.1
       (value_stays s map map (grown_refl map) values others w world near.alike n near.kept b v in_b hb) new source.0 copied_is).0)
-      a in_a ha h1 in
-      let keeps1 = keeps_at s.body m1.pieces m1.entries h1 in
+      b in_b hb h1 in
+      let la = lasts s locals body chars shorts start turns m m1 x1 f h1 b map old values w k st (Some v) (c.with_objects old new) k one a p in_a ha in
       let two = placed_came s locals body chars shorts start turns m1 (slots_on le (extends_slots m m1 x1)) h1 one.later (c.with_objects old new) one.others one.world k one.stands p a (in_later s locals body chars shorts m m1 x1 a in_a)
-      (operand_settled keeps1 s a one.later one.others one.world p one.has) one.has.holds h in
-      both s locals body chars shorts start turns m m1 out.low x1 x2 h1 h a out.value map old values w (Some p) (c.with_objects old new) k one (Gives p k (c.with_objects old new)) two))
+      (lasting_settled s locals body m1 h1 one.stands.slots (length m1.slots) (omega arith) one.later one.others one.world a p la) la.holds h in
+      both s locals body chars shorts start turns m m1 out.low x1 x2 h1 h b out.value map old values w (Some v) (c.with_objects old new) k one (Gives p k (c.with_objects old new)) two))

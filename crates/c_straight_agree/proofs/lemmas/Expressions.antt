@@ -1,4 +1,4 @@
--- Straight expressions are lowered.
+-- Expressions that are neither tests nor conditionals nor calls are lowered where their parts are; and so straight ones are.
 use Rattle.std.specs.Prelude.{◌≡◌, ◌≤◌, ℕ, ◌-◌, pos, nat_lt, ◌&&◌, ◌||◌, ℤ, Bool, true, false, Option, Some, Ok, length, slice_get, if◌then◌else◌}
 use Rattle.std.proofs.Common.{true≢false, refl, sym, ap, subst, arith}
 use Rattle.objects.specs.declared.value.Value.TheVariants.{Number, Function}
@@ -35,26 +35,31 @@ use Rattle.c_expr_agreement.specs.Scenes.{Scene}
 use Rattle.lowered_forms.specs.Accesses.{read, kept, written_by, copy_root}
 use Rattle.lowered_forms.specs.Changes as low_change
 use Rattle.lowered_forms.specs.Contexts.{Context, function_name, object_name, text_name, built_in_name}
-use Rattle.lowered_forms.specs.Expressions.{comma_from, plain_row, low_e, parts_of}
+use Rattle.lowered_forms.specs.Expressions.{comma_from, plain_row, row, low_e, parts_of}
 use Rattle.lowered_forms.specs.Lows.{Low, acted}
 use Rattle.lowered_forms.specs.Places.{address_at, local_by, local_place, is_passed_whole, room_of, further}
 use Rattle.lowered_forms.specs.Straight.{straight, all_straight, goes_on}
-use Rattle.lowered_forms.specs.Values.{with_value, nothing, placed}
+use Rattle.lowered_forms.specs.Values.{Lowered, with_value, nothing, placed}
+use Rattle.lowered_forms.proofs.lemmas.Adding.{lowering_adds}
+use Rattle.lowered_forms.proofs.lemmas.Fronts.{front_itself}
 use Rattle.lowered_forms.proofs.lemmas.WithinTemplates.{as_p_in, converted_in, unary_in, binary_in, among_in, difference_in, further_in, local_in, read_in}
-use Rattle.c_straight_agree.specs.Agreement.{IsLowered, IsPart, ArePartsOf, CallsAreLowered}
+use Rattle.c_straight_agree.specs.Agreement.{IsLowered, ArePartsOf, CallsAreLowered}
 use Rattle.c_straight_agree.specs.Extends.{Extends}
 use Rattle.c_straight_agree.specs.Layouts.{FrameLayout, context_in, IsLaidOut, IsFair, AreFair, is_call, has_call, have_calls}
 use Rattle.c_straight_agree.specs.Narrow.{CharsAreNarrow, ShortsAreNarrow}
+use Rattle.c_straight_agree.specs.Parts.{is_plain, IsLoweredPart, EachTree, AreLoweredParts}
 use Rattle.c_straight_agree.specs.Settled.{seen}
 use Rattle.c_straight_agree.specs.Standing.{IsBody}
 use Rattle.c_straight_agree.proofs.lemmas.Assigning.{scalars_are_assigned}
 use Rattle.c_straight_agree.proofs.lemmas.Changing.{changes_are_given, old_values_are_given}
 use Rattle.c_straight_agree.proofs.lemmas.Coming.{operand_settled, joins}
 use Rattle.c_straight_agree.proofs.lemmas.Copying.{wholes_are_copied}
-use Rattle.c_straight_agree.proofs.lemmas.Extending.{extends_itself, extends_joins, placed_extends, acted_extends, straight_extends, extends_slots, front_back, slots_back}
-use Rattle.c_straight_agree.proofs.lemmas.Leaves.{place_came, number_has, function_has, object_has, text_has, address_has, whole_holds, whole_settled, local_is, whole_is}
+use Rattle.c_straight_agree.proofs.lemmas.Extending.{extends_itself, extends_joins, placed_extends, acted_extends, grows_later, later_extends}
+use Rattle.c_straight_agree.proofs.lemmas.Finals.{finals_go_back}
+use Rattle.c_straight_agree.proofs.lemmas.Kept.{front_length}
+use Rattle.c_straight_agree.proofs.lemmas.Leaves.{place_came, number_has, nothing_has, function_has, object_has, text_has, address_has, whole_holds, whole_settled, local_is, whole_is}
 use Rattle.c_straight_agree.proofs.lemmas.Members.{fewer_at, HasRoom, member_holds, further_room, placed_room, address_room, none_room, never_local}
-use Rattle.c_straight_agree.proofs.lemmas.Parts.{result, part, gives_came, GoesOne, GoesOneOf, GoesTwo, Results, one_of_comes, one_comes, two_come, computes_one, computes_two, sound_result, drops_sound, grows_by, slots_still}
+use Rattle.c_straight_agree.proofs.lemmas.Parts.{result, part, gives_came, GoesOne, GoesOneOf, GoesTwo, Results, TwoCome, lowered_part, one_of_comes, one_comes, two_come, computes_one, computes_two, sound_result, drops_sound, slots_later}
 use Rattle.c_straight_agree.proofs.lemmas.Placing.{value_came, placed_came}
 use Rattle.c_straight_agree.proofs.lemmas.Reading.{IsInUnit, reads_compute}
 use Rattle.c_straight_agree.proofs.lemmas.Rows.{unary_computes, conversion_computes, pointer_computes, binary_computes, move_computes, difference_computes}
@@ -132,40 +137,37 @@ module _ (chars : CharsAreNarrow) (shorts : ShortsAreNarrow) (evals : EvalStaysS
       (member_holds s y laid map values w (c.objects old) short offset p v u hv.holds is (member_agrees here (c.objects old) offset p v u short (operand_sound old.storage.made v sv).0 hv.holds is) (room_of x a) known) h)
 
   -- a part whose value isn't used
-  dropped : (a : CoreTree) → IsPart s locals y a → (l : Low) → locals ≤ length l.slots → Results s locals body y l (nothing (low_e x a l).low) (λ k old. then_drop (result s a k old) (λ k1 w1. GivesNone 0 k1 w1))
+  dropped : (a : CoreTree) → IsLoweredPart s locals y a → (l : Low) → locals ≤ length l.slots → Results s locals body y l (nothing (low_e x a l).low) (λ k old. then_drop (result s a k old) (λ k1 w1. GivesNone 0 k1 w1))
   dropped a pa l le start turns f h map before values first k slots st sound wholes =
       let l1 = (low_e x a l).low in
       let p = (low_e x a l).value in
       drops_sound s start turns l l1 l1 h h p (number true 0) map before values first sound (result s a k before) (λ k1 w1. GivesNone 0 k1 w1) (sound_result s locals body evals a pa.tame k before sound)
       (pa.lowered l le start turns f h map before values first k slots st sound wholes)
-      (λ v k1 old1 so one. record { later = one.later; grown = one.grown; others = one.others; world = one.world; stands = one.stands; alike = one.alike; left = one.left; private = one.private; kept = one.kept; has = tt })
+      (λ v k1 old1 so one. record { later = one.later; grown = one.grown; others = one.others; world = one.world; stands = one.stands; alike = one.alike; left = one.left; private = one.private; kept = one.kept; has = nothing_has s locals body y laid start turns l1 h one.later old1 one.others one.world k1 one.stands so })
 
   -- ---- the comma
 
-  comma_extends : (a : CoreTree) (cs : CoreTrees) → straight a ≡ true → all_straight cs ≡ true → (l : Low) → Extends l (comma_from (part x a) (parts_of x cs) l).low
-  comma_extends a NoCore h g l = straight_extends x a h l
-  comma_extends a (Cores b cs) h g l =
-      let q = both_true (straight b) (all_straight cs) g in
-      extends_joins l (low_e x a l).low _ (straight_extends x a h l) (comma_extends b cs q.0 q.1 (low_e x a l).low)
+  abbrev comma : CoreTree → CoreTrees → CoreTree
+  comma a cs = Core kind.Comma (type_of a) 0 (Cores a cs)
 
-  comma_comes : (a : CoreTree) (cs : CoreTrees) → IsPart s locals y a → ArePartsOf s locals y cs → all_straight cs ≡ true → (l : Low) → locals ≤ length l.slots
+  comma_comes : (a : CoreTree) (cs : CoreTrees) → IsLoweredPart s locals y a → AreLoweredParts s locals y cs → (l : Low) → locals ≤ length l.slots
       → Results s locals body y l (comma_from (part x a) (parts_of x cs) l) (λ k old. does.comma_from (record { tree = a; does = λ k1 w1. result s a k1 w1 }) (does.parts_of (context s.unit s.lowered.order) cs) k old)
-  comma_comes a NoCore pa ps g l le start turns f h map before values first k slots st sound wholes = pa.lowered l le start turns f h map before values first k slots st sound wholes
-  comma_comes a (Cores b cs) pa ps g l le start turns f h map before values first k slots st sound wholes =
-      let q = both_true (straight b) (all_straight cs) g in
+  comma_comes a NoCore pa ps l le start turns f h map before values first k slots st sound wholes = pa.lowered l le start turns f h map before values first k slots st sound wholes
+  comma_comes a (Cores b cs) pa ps l le start turns f h map before values first k slots st sound wholes =
       let l1 = (low_e x a l).low in
       let p = (low_e x a l).value in
       let r = comma_from (part x b) (parts_of x cs) l1 in
-      let x1 = straight_extends x a pa.goes_on l in
-      let x2 = comma_extends b cs ps.0.goes_on q.1 l1 in
-      let h1 = front_back s.body.pieces l1 r.low x2 h in
-      let s1 = slots_back s.body.pieces l1 r.low x2 h slots in
+      let x1 = lowering_adds x a l in
+      let x2 = lowering_adds x (comma b cs) l1 in
+      let last = finals_go_back s.body.pieces x (comma b cs) l1 (record { front = h; slots = slots }) in
       let rest : ℕ → c.World → Result = λ k1 w1. does.comma_from (record { tree = b; does = λ k2 w2. result s b k2 w2 }) (does.parts_of (context s.unit s.lowered.order) cs) k1 w1 in
-      drops_sound s start turns l l1 r.low h1 h p r.value map before values first sound (result s a k before) rest (sound_result s locals body evals a pa.tame k before sound)
-      (pa.lowered l le start turns f h1 map before values first k s1 st sound wholes)
+      drops_sound s start turns l l1 r.low last.front h p r.value map before values first sound (result s a k before) rest (sound_result s locals body evals a pa.tame k before sound)
+      (pa.lowered l le start turns f last.front map before values first k last.slots st sound wholes)
       (λ v k1 old1 so one.
-      joins s start turns l l1 r.low h1 h p r.value map before values first v old1 k1 (extends_slots l l1 x1) (grows_by s locals body l l1 r.low x1 x2) one (rest k1 old1)
-      (comma_comes b cs ps.0 ps.1 q.1 l1 (slots_still s locals body l l1 x1 le) start turns h1 h one.later old1 one.others one.world k1 slots one.stands so (wholes_stay s y laid start turns l l1 f h1 p map before values first k st v old1 k1 one wholes)))
+      joins s start turns l l1 r.low last.front h p r.value map before values first v old1 k1 (front_length l.slots l1.slots x1.slots)
+      (grows_later l l1 r.low x1 x2.pieces (λ e. later_extends l1 r.low r.low.pieces x2 (front_itself r.low.pieces) e)) one (rest k1 old1)
+      (comma_comes b cs ps.0 ps.1 l1 (slots_later s locals body l l1 x1.slots le) start turns last.front h one.later old1 one.others one.world k1 slots one.stands so
+      (wholes_stay s y laid start turns l l1 f last.front p map before values first k st v old1 k1 one wholes)))
 
   -- ---- assignments and changes
 
@@ -224,86 +226,118 @@ module _ (chars : CharsAreNarrow) (shorts : ShortsAreNarrow) (evals : EvalStaysS
   same_whole : (n : ℕ) (of t : CType) → is_record of ≡ is_record t → is_passed_whole x n t ≡ is_passed_whole x n of
   same_whole n of t e = ap (λ (b : Bool). nat_lt n y.parameters && b) (sym e)
 
-  plain_lowered : (what : CoreKind) (of : CType) (line : ℕ) (kids : CoreTrees) → (goes_on what && all_straight kids) ≡ true → IsTame (Core what of line kids) → IsFair s y (Core what of line kids) → ((is_call what || have_calls kids) ≡ true → CallsAreLowered s locals y) → ArePartsOf s locals y kids → (l : Low) → locals ≤ length l.slots
-      → Results s locals body y l (plain_row x what of (parts_of x kids) l) (λ k old. result s (Core what of line kids) k old)
-  unfolding context
-  plain_lowered (kind.Local n register) of line NoCore h tame fair calls ps l le = local_lowered n register of fair.0.0 line l le fair.0.1 (is_passed_whole x n of) refl (same_whole n of fair.0.0 fair.0.2)
-  plain_lowered (kind.Object n) of line NoCore h tame fair calls ps l le = λ start turns f q map before values first k slots st sound wholes.
-      let a = name (object_name s.unit n) (pos 0) in
-      place_came (place_of_object s.unit n (slice_get s.unit.objects n)) s start turns l l q a map before values first line k before
-      (λ p e. value_came s locals body chars shorts start turns l le f map before values first k st p a q (object_has s locals body y laid start turns l f map before values first k st sound n p e))
-  plain_lowered (kind.Text n) of line NoCore h tame fair calls ps l le = λ start turns f q map before values first k slots st sound wholes.
-      let a = name (text_name s.unit n) (pos 0) in
-      place_came (place_of_text s.unit n (slice_get s.unit.texts n)) s start turns l l q a map before values first line k before
-      (λ p e. value_came s locals body chars shorts start turns l le f map before values first k st p a q (text_has s locals body y laid start turns l f map before values first k st sound n p e))
-  plain_lowered (kind.Function n) of line NoCore h tame fair calls ps l le = λ start turns f q map before values first k slots st sound wholes.
-      value_came s locals body chars shorts start turns l le f map before values first k st (Function n) (name (function_name s.unit n) (pos 0)) q
-      (function_has s locals body y laid start turns l f map before values first k st sound (function_name s.unit n) n (laid.functions n fair.0))
-  plain_lowered (kind.BuiltIn b) of line NoCore h tame fair calls ps l le = λ start turns f q map before values first k slots st sound wholes.
-      value_came s locals body chars shorts start turns l le f map before values first k st (Function (built_in_number s.unit b)) (name (built_in_name s.unit b) (pos 0)) q
-      (function_has s locals body y laid start turns l f map before values first k st sound (built_in_name s.unit b) (built_in_number s.unit b) fair.0)
-  plain_lowered (kind.Number n) of line NoCore h tame fair calls ps l le = λ start turns f q map before values first k slots st sound wholes.
-      value_came s locals body chars shorts start turns l le f map before values first k st (Number n) (number (is_signed of) n) q
-      (number_has s locals body y laid start turns l f map before values first k st sound (is_signed of) n tame.0)
-  plain_lowered (kind.Member offset first width) of line (Cores a NoCore) h tame fair calls ps l le =
-      one_of_comes s locals body evals y laid (λ p. HasRoom s (room_of x a) p.tree) a ps.0 (λ l1. place_has_room s y laid a fair.0 fair.1.0 l1) (λ p l1. placed (further (nat_lt offset (room_of x a)) offset p) l1) (λ p l1. placed_extends (further (nat_lt offset (room_of x a)) offset p) l1) _ (member_goes a offset line) l le
-  plain_lowered kind.Pointed of line (Cores a NoCore) h tame fair calls ps l le = one_comes s locals body evals y laid a ps.0 (λ p l1. with_value p l1) (λ p l1. extends_itself l1) (λ v k old. Gives v k old) value_goes l le
-  plain_lowered kind.Address of line (Cores a NoCore) h tame fair calls ps l le = one_comes s locals body evals y laid a ps.0 (λ p l1. with_value p l1) (λ p l1. extends_itself l1) (λ v k old. Gives v k old) value_goes l le
-  plain_lowered kind.First of line (Cores a NoCore) h tame fair calls ps l le = one_comes s locals body evals y laid a ps.0 (λ p l1. with_value p l1) (λ p l1. extends_itself l1) (λ v k old. Gives v k old) value_goes l le
-  plain_lowered kind.Read of line (Cores a NoCore) h tame fair calls ps l le =
-      one_comes s locals body evals y laid a ps.0 (λ p l1. placed (read s.lowered.order (spot_of a) p) l1) (λ p l1. placed_extends (read s.lowered.order (spot_of a) p) l1) _
-      (computes_one s locals body chars shorts (λ p. read s.lowered.order (spot_of a) p) (λ os p. place.held s.lowered.order (spot_of a) os p) line (λ n p g. read_in n s.lowered.order (spot_of a) p g) (reads_compute s locals body (spot_of a) (spot_is_in_unit a tame.1.0))) l le
-  plain_lowered (kind.Convert to.Void) of line (Cores a NoCore) h tame fair calls ps l le = dropped a ps.0 l le
-  plain_lowered (kind.Convert to.Pointer) of line (Cores a NoCore) h tame fair calls ps l le =
-      one_comes s locals body evals y laid a ps.0 (λ p l1. placed (as_pointer p) l1) (λ p l1. placed_extends (as_pointer p) l1) _
-      (computes_one s locals body chars shorts as_pointer (λ os v. Ok v) line (λ n p g. as_p_in n p.suffix p.tree g) (pointer_computes s locals body)) l le
-  plain_lowered (kind.Convert (to.Integer z)) of line (Cores a NoCore) h tame fair calls ps l le =
-      one_comes s locals body evals y laid a ps.0 (λ p l1. placed (converted_to z p) l1) (λ p l1. placed_extends (converted_to z p) l1) _
-      (computes_one s locals body chars shorts (λ p. converted_to z p) (λ os v. converted z v) (line_of a) (λ n p g. converted_in n z.width z.signed p g) (conversion_computes s locals body z)) l le
-  plain_lowered (kind.Unary o) of line (Cores a NoCore) h tame fair calls ps l le =
-      one_comes s locals body evals y laid a ps.0 (λ p l1. placed (unary_of o p) l1) (λ p l1. placed_extends (unary_of o p) l1) _
-      (computes_one s locals body chars shorts (λ p. unary_of o p) (λ os v. unary_value o v) line (λ n p g. unary_in n o p g) (unary_computes s locals body o)) l le
-  plain_lowered (kind.Binary o signed) of line (Cores a (Cores b NoCore)) h tame fair calls ps l le =
-      two_come s locals body evals y laid a b ps.0 ps.1.0 (λ p q l1. placed (binary_of o signed p q) l1) (λ p q l1. placed_extends (binary_of o signed p q) l1) _
-      (computes_two s locals body chars shorts (λ p q. binary_of o signed p q) (λ os v u. binary_value signed o v u) line (λ n p q g i. binary_in n o signed p q g i) (binary_computes s locals body o signed)) l le
-  plain_lowered (kind.Move size back) of line (Cores a (Cores b NoCore)) h tame fair calls ps l le =
-      two_come s locals body evals y laid a b ps.0 ps.1.0 (λ p q l1. placed (moved_among size back (is_pointer (type_of a)) p q) l1) (λ p q l1. placed_extends (moved_among size back (is_pointer (type_of a)) p q) l1) _
-      (computes_two s locals body chars shorts (λ p q. moved_among size back (is_pointer (type_of a)) p q) (λ os v u. does.moved_among size back (type_of a) (type_of b) os v u) line (λ n p q g i. among_in n size back (is_pointer (type_of a)) p q g i) (move_computes s locals body size back (type_of a) (type_of b) fair.0)) l le
-  plain_lowered (kind.Difference size) of line (Cores a (Cores b NoCore)) h tame fair calls ps l le =
-      two_come s locals body evals y laid a b ps.0 ps.1.0 (λ p q l1. placed (difference size p q) l1) (λ p q l1. placed_extends (difference size p q) l1) _
-      (computes_two s locals body chars shorts (λ p q. difference size p q) (λ os v u. subtracted os size v u) line (λ n p q g i. difference_in n size p q g i) (difference_computes s locals body size fair.0)) l le
-  plain_lowered kind.Comma of line (Cores a cs) h tame fair calls ps l le = comma_comes a cs ps.0 ps.1 (both_true (straight a) (all_straight cs) h).1 l le
-  plain_lowered kind.Assign of line (Cores a (Cores b NoCore)) h tame fair calls ps l le =
-      two_come s locals body evals y laid a b ps.0 ps.1.0 (λ p q l1. low_change.assigned_by (is_record of) x of (spot_of a) p q l1) (λ p q l1. assigned_extends (is_record of) of a p q l1) _
-      (assigned_goes of a tame.1.0 (line_of b) line (is_record of)) l le
-  plain_lowered (kind.Change by) of line (Cores a (Cores b NoCore)) h tame fair calls ps l le =
-      two_come s locals body evals y laid a b ps.0 ps.1.0 (λ p q l1. low_change.changed_at s.lowered.order by (spot_of a) low_change.new_given p q l1) (λ p q l1. (changed_extends by a p q l1).0) _
-      (changes_are_given s locals body chars shorts evals (spot_of a) (spot_is_in_unit a tame.1.0) line by fair.0 (type_of b)) l le
-  plain_lowered (kind.Postfix by) of line (Cores a (Cores b NoCore)) h tame fair calls ps l le =
-      two_come s locals body evals y laid a b ps.0 ps.1.0 (λ p q l1. low_change.changed_at s.lowered.order by (spot_of a) low_change.old_given p q l1) (λ p q l1. (changed_extends by a p q l1).1) _
-      (old_values_are_given s locals body chars shorts evals (spot_of a) (spot_is_in_unit a tame.1.0) line by fair.0 (type_of b)) l le
-  plain_lowered (kind.Compare o signed) of line kids h tame fair calls ps l le = absurd (true≢false (sym h))
-  plain_lowered kind.Not of line kids h tame fair calls ps l le = absurd (true≢false (sym h))
-  plain_lowered kind.And of line kids h tame fair calls ps l le = absurd (true≢false (sym h))
-  plain_lowered kind.Or of line kids h tame fair calls ps l le = absurd (true≢false (sym h))
-  plain_lowered kind.Conditional of line kids h tame fair calls ps l le = absurd (true≢false (sym h))
-  plain_lowered (kind.Call n) of line kids h tame fair calls ps l le = calls refl n of line kids h tame fair ps l le
-  plain_lowered what of line kids h tame fair calls ps l le = λ start turns f q map before values first k slots st sound wholes. tt
+  -- an expression that is neither a test nor a conditional nor a call, where these expressions of two parts are lowered
+  module _ (Is : CoreTree → Type 0) (two : TwoCome s locals body evals y laid Is) where
+    pub plain_lowered : (what : CoreKind) (of : CType) (line : ℕ) (kids : CoreTrees) → is_plain what ≡ true → IsTame (Core what of line kids) → IsFair s y (Core what of line kids) → AreLoweredParts s locals y kids → EachTree Is kids → (l : Low) → locals ≤ length l.slots
+        → Results s locals body y l (plain_row x what of (parts_of x kids) l) (λ k old. result s (Core what of line kids) k old)
+    unfolding context
+    plain_lowered (kind.Local n register) of line NoCore plain tame fair ps is l le = local_lowered n register of fair.0.0 line l le fair.0.1 (is_passed_whole x n of) refl (same_whole n of fair.0.0 fair.0.2)
+    plain_lowered (kind.Object n) of line NoCore plain tame fair ps is l le = λ start turns f q map before values first k slots st sound wholes.
+        let a = name (object_name s.unit n) (pos 0) in
+        place_came (place_of_object s.unit n (slice_get s.unit.objects n)) s start turns l l q a map before values first line k before
+        (λ p e. value_came s locals body chars shorts start turns l le f map before values first k st p a q (object_has s locals body y laid start turns l f map before values first k st sound n p e))
+    plain_lowered (kind.Text n) of line NoCore plain tame fair ps is l le = λ start turns f q map before values first k slots st sound wholes.
+        let a = name (text_name s.unit n) (pos 0) in
+        place_came (place_of_text s.unit n (slice_get s.unit.texts n)) s start turns l l q a map before values first line k before
+        (λ p e. value_came s locals body chars shorts start turns l le f map before values first k st p a q (text_has s locals body y laid start turns l f map before values first k st sound n p e))
+    plain_lowered (kind.Function n) of line NoCore plain tame fair ps is l le = λ start turns f q map before values first k slots st sound wholes.
+        value_came s locals body chars shorts start turns l le f map before values first k st (Function n) (name (function_name s.unit n) (pos 0)) q
+        (function_has s locals body y laid start turns l f map before values first k st sound (function_name s.unit n) n (laid.functions n fair.0))
+    plain_lowered (kind.BuiltIn b) of line NoCore plain tame fair ps is l le = λ start turns f q map before values first k slots st sound wholes.
+        value_came s locals body chars shorts start turns l le f map before values first k st (Function (built_in_number s.unit b)) (name (built_in_name s.unit b) (pos 0)) q
+        (function_has s locals body y laid start turns l f map before values first k st sound (built_in_name s.unit b) (built_in_number s.unit b) fair.0)
+    plain_lowered (kind.Number n) of line NoCore plain tame fair ps is l le = λ start turns f q map before values first k slots st sound wholes.
+        value_came s locals body chars shorts start turns l le f map before values first k st (Number n) (number (is_signed of) n) q
+        (number_has s locals body y laid start turns l f map before values first k st sound (is_signed of) n tame.0)
+    plain_lowered (kind.Member offset first width) of line (Cores a NoCore) plain tame fair ps is l le =
+        one_of_comes s locals body evals y laid (λ p. HasRoom s (room_of x a) p.tree) a ps.0 (λ l1. place_has_room s y laid a fair.0 fair.1.0 l1) (λ p l1. placed (further (nat_lt offset (room_of x a)) offset p) l1) (λ p l1. placed_extends (further (nat_lt offset (room_of x a)) offset p) l1) _ (member_goes a offset line) l le
+    plain_lowered kind.Pointed of line (Cores a NoCore) plain tame fair ps is l le = one_comes s locals body evals y laid a ps.0 (λ p l1. with_value p l1) (λ p l1. extends_itself l1) (λ v k old. Gives v k old) value_goes l le
+    plain_lowered kind.Address of line (Cores a NoCore) plain tame fair ps is l le = one_comes s locals body evals y laid a ps.0 (λ p l1. with_value p l1) (λ p l1. extends_itself l1) (λ v k old. Gives v k old) value_goes l le
+    plain_lowered kind.First of line (Cores a NoCore) plain tame fair ps is l le = one_comes s locals body evals y laid a ps.0 (λ p l1. with_value p l1) (λ p l1. extends_itself l1) (λ v k old. Gives v k old) value_goes l le
+    plain_lowered kind.Read of line (Cores a NoCore) plain tame fair ps is l le =
+        one_comes s locals body evals y laid a ps.0 (λ p l1. placed (read s.lowered.order (spot_of a) p) l1) (λ p l1. placed_extends (read s.lowered.order (spot_of a) p) l1) _
+        (computes_one s locals body chars shorts (λ p. read s.lowered.order (spot_of a) p) (λ os p. place.held s.lowered.order (spot_of a) os p) line (λ n p g. read_in n s.lowered.order (spot_of a) p g) (reads_compute s locals body (spot_of a) (spot_is_in_unit a tame.1.0))) l le
+    plain_lowered (kind.Convert to.Void) of line (Cores a NoCore) plain tame fair ps is l le = dropped a ps.0 l le
+    plain_lowered (kind.Convert to.Pointer) of line (Cores a NoCore) plain tame fair ps is l le =
+        one_comes s locals body evals y laid a ps.0 (λ p l1. placed (as_pointer p) l1) (λ p l1. placed_extends (as_pointer p) l1) _
+        (computes_one s locals body chars shorts as_pointer (λ os v. Ok v) line (λ n p g. as_p_in n p.suffix p.tree g) (pointer_computes s locals body)) l le
+    plain_lowered (kind.Convert (to.Integer z)) of line (Cores a NoCore) plain tame fair ps is l le =
+        one_comes s locals body evals y laid a ps.0 (λ p l1. placed (converted_to z p) l1) (λ p l1. placed_extends (converted_to z p) l1) _
+        (computes_one s locals body chars shorts (λ p. converted_to z p) (λ os v. converted z v) (line_of a) (λ n p g. converted_in n z.width z.signed p g) (conversion_computes s locals body z)) l le
+    plain_lowered (kind.Unary o) of line (Cores a NoCore) plain tame fair ps is l le =
+        one_comes s locals body evals y laid a ps.0 (λ p l1. placed (unary_of o p) l1) (λ p l1. placed_extends (unary_of o p) l1) _
+        (computes_one s locals body chars shorts (λ p. unary_of o p) (λ os v. unary_value o v) line (λ n p g. unary_in n o p g) (unary_computes s locals body o)) l le
+    plain_lowered (kind.Binary o signed) of line (Cores a (Cores b NoCore)) plain tame fair ps is l le =
+        two a b ps.0 ps.1.0 is.1.0 (λ p q l1. placed (binary_of o signed p q) l1) (λ p q l1. placed_extends (binary_of o signed p q) l1) _
+        (computes_two s locals body chars shorts (λ p q. binary_of o signed p q) (λ os v u. binary_value signed o v u) line (λ n p q g i. binary_in n o signed p q g i) (binary_computes s locals body o signed)) l le
+    plain_lowered (kind.Move size back) of line (Cores a (Cores b NoCore)) plain tame fair ps is l le =
+        two a b ps.0 ps.1.0 is.1.0 (λ p q l1. placed (moved_among size back (is_pointer (type_of a)) p q) l1) (λ p q l1. placed_extends (moved_among size back (is_pointer (type_of a)) p q) l1) _
+        (computes_two s locals body chars shorts (λ p q. moved_among size back (is_pointer (type_of a)) p q) (λ os v u. does.moved_among size back (type_of a) (type_of b) os v u) line (λ n p q g i. among_in n size back (is_pointer (type_of a)) p q g i) (move_computes s locals body size back (type_of a) (type_of b) fair.0)) l le
+    plain_lowered (kind.Difference size) of line (Cores a (Cores b NoCore)) plain tame fair ps is l le =
+        two a b ps.0 ps.1.0 is.1.0 (λ p q l1. placed (difference size p q) l1) (λ p q l1. placed_extends (difference size p q) l1) _
+        (computes_two s locals body chars shorts (λ p q. difference size p q) (λ os v u. subtracted os size v u) line (λ n p q g i. difference_in n size p q g i) (difference_computes s locals body size fair.0)) l le
+    plain_lowered kind.Comma of line (Cores a cs) plain tame fair ps is l le = comma_comes a cs ps.0 ps.1 l le
+    plain_lowered kind.Assign of line (Cores a (Cores b NoCore)) plain tame fair ps is l le =
+        two a b ps.0 ps.1.0 is.1.0 (λ p q l1. low_change.assigned_by (is_record of) x of (spot_of a) p q l1) (λ p q l1. assigned_extends (is_record of) of a p q l1) _
+        (assigned_goes of a tame.1.0 (line_of b) line (is_record of)) l le
+    plain_lowered (kind.Change by) of line (Cores a (Cores b NoCore)) plain tame fair ps is l le =
+        two a b ps.0 ps.1.0 is.1.0 (λ p q l1. low_change.changed_at s.lowered.order by (spot_of a) low_change.new_given p q l1) (λ p q l1. (changed_extends by a p q l1).0) _
+        (changes_are_given s locals body chars shorts evals (spot_of a) (spot_is_in_unit a tame.1.0) line by fair.0 (type_of b)) l le
+    plain_lowered (kind.Postfix by) of line (Cores a (Cores b NoCore)) plain tame fair ps is l le =
+        two a b ps.0 ps.1.0 is.1.0 (λ p q l1. low_change.changed_at s.lowered.order by (spot_of a) low_change.old_given p q l1) (λ p q l1. (changed_extends by a p q l1).1) _
+        (old_values_are_given s locals body chars shorts evals (spot_of a) (spot_is_in_unit a tame.1.0) line by fair.0 (type_of b)) l le
+    plain_lowered (kind.Compare o signed) of line kids plain tame fair ps is l le = absurd (true≢false (sym plain))
+    plain_lowered kind.Not of line kids plain tame fair ps is l le = absurd (true≢false (sym plain))
+    plain_lowered kind.And of line kids plain tame fair ps is l le = absurd (true≢false (sym plain))
+    plain_lowered kind.Or of line kids plain tame fair ps is l le = absurd (true≢false (sym plain))
+    plain_lowered kind.Conditional of line kids plain tame fair ps is l le = absurd (true≢false (sym plain))
+    plain_lowered (kind.Call n) of line kids plain tame fair ps is l le = absurd (true≢false (sym plain))
+    plain_lowered what of line kids plain tame fair ps is l le = λ start turns f q map before values first k slots st sound wholes. tt
 
-  row_lowered : (what : CoreKind) (of : CType) (line : ℕ) (kids : CoreTrees) → (goes_on what && all_straight kids) ≡ true → IsTame (Core what of line kids) → IsFair s y (Core what of line kids) → ((is_call what || have_calls kids) ≡ true → CallsAreLowered s locals y) → ArePartsOf s locals y kids → (l : Low) → locals ≤ length l.slots
-      → IsLowered s y (Core what of line kids) l (low_e x (Core what of line kids) l)
-  row_lowered (kind.Compare o signed) of line kids h tame fair calls ps l le = absurd (true≢false (sym h))
-  row_lowered kind.Not of line kids h tame fair calls ps l le = absurd (true≢false (sym h))
-  row_lowered kind.And of line kids h tame fair calls ps l le = absurd (true≢false (sym h))
-  row_lowered kind.Or of line kids h tame fair calls ps l le = absurd (true≢false (sym h))
-  row_lowered what of line kids h tame fair calls ps l le = plain_lowered what of line kids h tame fair calls ps l le
+    plain_is_row : (what : CoreKind) (of : CType) (kids : CoreTrees) → is_plain what ≡ true → (l : Low) → plain_row x what of (parts_of x kids) l ≡ row x what of (parts_of x kids) l
+    plain_is_row (kind.Compare o signed) of kids plain l = absurd (true≢false (sym plain))
+    plain_is_row kind.Not of kids plain l = absurd (true≢false (sym plain))
+    plain_is_row kind.And of kids plain l = absurd (true≢false (sym plain))
+    plain_is_row kind.Or of kids plain l = absurd (true≢false (sym plain))
+    plain_is_row what of kids plain l = refl
+
+    pub row_lowered : (what : CoreKind) (of : CType) (line : ℕ) (kids : CoreTrees) → is_plain what ≡ true → IsTame (Core what of line kids) → IsFair s y (Core what of line kids) → AreLoweredParts s locals y kids → EachTree Is kids → (l : Low) → locals ≤ length l.slots
+        → IsLowered s y (Core what of line kids) l (low_e x (Core what of line kids) l)
+    row_lowered what of line kids plain tame fair ps is l le =
+        subst (λ (r : Lowered). IsLowered s y (Core what of line kids) l r) (plain_is_row what of kids plain l) (plain_lowered what of line kids plain tame fair ps is l le)
 
   -- ---- the induction
+
+  -- what is straight and no call
+  straight_is_plain : (what : CoreKind) → goes_on what ≡ true → is_call what ≡ false → is_plain what ≡ true
+  straight_is_plain (kind.Compare o signed) h e = absurd (true≢false (sym h))
+  straight_is_plain kind.Not h e = absurd (true≢false (sym h))
+  straight_is_plain kind.And h e = absurd (true≢false (sym h))
+  straight_is_plain kind.Or h e = absurd (true≢false (sym h))
+  straight_is_plain kind.Conditional h e = absurd (true≢false (sym h))
+  straight_is_plain (kind.Call n) h e = absurd (true≢false e)
+  straight_is_plain what h e = refl
+
+  are_straight : (cs : CoreTrees) → all_straight cs ≡ true → EachTree (λ e. straight e ≡ true) cs
+  are_straight NoCore h = tt
+  are_straight (Cores e cs) h = let q = both_true (straight e) (all_straight cs) h in (q.0, are_straight cs q.1)
+
+  are_lowered : (cs : CoreTrees) → ArePartsOf s locals y cs → AreLoweredParts s locals y cs
+  are_lowered NoCore ps = tt
+  are_lowered (Cores e cs) ps = (lowered_part s locals body y e ps.0, are_lowered cs ps.1)
+
+  kind_lowered : (what : CoreKind) (of : CType) (line : ℕ) (kids : CoreTrees) → goes_on what ≡ true → all_straight kids ≡ true → IsTame (Core what of line kids) → IsFair s y (Core what of line kids) → (is_call what ≡ true → CallsAreLowered s locals y) → ArePartsOf s locals y kids → (l : Low) → locals ≤ length l.slots → (b : Bool) → is_call what ≡ b
+      → IsLowered s y (Core what of line kids) l (low_e x (Core what of line kids) l)
+  kind_lowered (kind.Call n) of line kids h g tame fair calls ps l le b e = calls refl n of line kids g tame fair ps l le
+  kind_lowered what of line kids h g tame fair calls ps l le true e = absurd (true≢false (sym e))
+  kind_lowered what of line kids h g tame fair calls ps l le false e =
+      row_lowered (λ z. straight z ≡ true) (two_come s locals body evals y laid) what of line kids (straight_is_plain what h e) tame fair (are_lowered kids ps) (are_straight kids g) l le
 
   mutual
     pub straight_is_lowered : (e : CoreTree) → straight e ≡ true → IsTame e → IsFair s y e → (has_call e ≡ true → CallsAreLowered s locals y) → (l : Low) → locals ≤ length l.slots → IsLowered s y e l (low_e x e l)
     straight_is_lowered (Core what of line kids) h tame fair calls l le =
-        row_lowered what of line kids h tame fair calls (parts_are kids (both_true (goes_on what) (all_straight kids) h).1 tame.1 fair.1 (λ e. calls (or_second (is_call what) (have_calls kids) e))) l le
+        let q = both_true (goes_on what) (all_straight kids) h in
+        kind_lowered what of line kids q.0 q.1 tame fair (λ e. calls (or_first (is_call what) (have_calls kids) e)) (parts_are kids q.1 tame.1 fair.1 (λ e. calls (or_second (is_call what) (have_calls kids) e))) l le (is_call what) refl
 
     parts_are : (cs : CoreTrees) → all_straight cs ≡ true → AreTame cs → AreFair s y cs → (have_calls cs ≡ true → CallsAreLowered s locals y) → ArePartsOf s locals y cs
     parts_are NoCore h tame fair calls = tt

@@ -1,7 +1,6 @@
 -- States that go on in the same block.
 use Rattle.std.specs.Prelude.{◌≡◌, ◌≤◌, true, List, [], ◌∷◌, ◌++◌, length}
-use Rattle.std.proofs.Common.{refl, sym, ap, ◌∙◌, subst, arith, append_assoc, length-append}
-use Rattle.op_forest.specs.declared.frame.Slot.{Slot}
+use Rattle.std.proofs.Common.{refl, sym, ap, ◌∙◌, subst, arith, append_assoc, append-nil, length-append}
 use Rattle.op_forest.specs.declared.suffix.Suffix.{Suffix}
 use Rattle.dag_forest.specs.declared.entry.Entry.{Entry}
 use Rattle.dag_forest.specs.declared.entry.Entry.TheVariants as entry
@@ -13,7 +12,7 @@ use Rattle.piece_runs.specs.Pieces.{Piece, OfBlock, Front}
 use Rattle.c_expr_agreement.specs.LoweredExpr.{GrowsTo}
 use Rattle.lowered_forms.specs.Contexts.{Context}
 use Rattle.lowered_forms.specs.Expressions.{low_e}
-use Rattle.lowered_forms.specs.Later.{IsFront}
+use Rattle.lowered_forms.specs.Later.{IsFront, HoldsOpen, IsLater}
 use Rattle.lowered_forms.specs.Lows.{Low, with_entries, acted}
 use Rattle.lowered_forms.specs.Straight.{straight}
 use Rattle.lowered_forms.specs.Values.{placed_tree, placed}
@@ -22,6 +21,7 @@ use Rattle.lowered_forms.proofs.lemmas.Fronts.{front_itself, front_joins, asked_
 use Rattle.lowered_forms.proofs.lemmas.Going.{straight_goes_on}
 use Rattle.c_straight_agree.specs.Extends.{Extends}
 use Rattle.c_straight_agree.specs.Standing.{place_of}
+use Rattle.c_straight_agree.proofs.lemmas.Kept.{front_length}
 
 pub extends_itself : (l : Low) → Extends l l
 extends_itself l = record { pieces = refl; entries = front_itself l.entries; slots = front_itself l.slots }
@@ -59,10 +59,40 @@ pub extends_nodes : (l m : Low) → Extends l m → node_count l.entries ≤ nod
 extends_nodes l m x = subst (λ (es : List Entry). node_count l.entries ≤ node_count es) (sym x.entries.is) (count_more l.entries x.entries.more)
 
 pub extends_slots : (l m : Low) → Extends l m → length l.slots ≤ length m.slots
-extends_slots l m x = let e = ap (λ (ss : List Slot). length ss) x.slots.is in let d = length-append l.slots x.slots.more in omega (arith, e, d)
+extends_slots l m x = front_length l.slots m.slots x.slots
 
 pub extends_grows : (l m : Low) → Extends l m → GrowsTo (place_of l) (place_of m)
 extends_grows l m x = record { more = x.entries.more; done = x.pieces; entries = x.entries.is }
+
+-- ---- states that go on from others, in the same block or in a later one
+
+none_more : (xs ys zs more rest : List Piece) → ys ≡ xs ++ more → zs ≡ ys ++ rest → zs ≡ xs → more ≡ []
+none_more xs ys zs [] rest e f g = refl
+none_more xs ys zs (p ∷ more) rest e f g =
+    let a = ap (λ (ps : List Piece). length ps) e in
+    let b = ap (λ (ps : List Piece). length ps) f in
+    let d = ap (λ (ps : List Piece). length ps) g in
+    let m = length-append xs (p ∷ more) in
+    let n = length-append ys rest in
+    absurd (let never : ⊥ = omega (arith, a, b, d, m, n) in never)
+
+block_goes_on : (l m : Low) (more : List Piece) → m.pieces ≡ l.pieces ++ more → HoldsOpen l.entries more m.entries → IsFront l.slots m.slots → more ≡ [] → Extends l m
+block_goes_on l m [] is begins slots e = record { pieces = is ∙ append-nil l.pieces; entries = begins; slots = slots }
+block_goes_on l m (p ∷ more) is begins slots e = absurd (let never : ⊥ = cc in never)
+
+-- where a state behind the later one has no more pieces, no block is finished
+pub later_extends : (l m : Low) (ps : List Piece) → IsLater l m → IsFront m.pieces ps → ps ≡ l.pieces → Extends l m
+later_extends l m ps x p e = block_goes_on l m x.pieces.more x.pieces.is x.begins x.slots (none_more l.pieces m.pieces ps x.pieces.more p.more x.pieces.is p.is e)
+
+-- what stays of a block over two steps, of which the second one may finish blocks, too
+pub grows_later : (l m p : Low) → IsLater l m → IsFront m.pieces p.pieces → (p.pieces ≡ m.pieces → Extends m p) → GrowsTo (place_of l) (place_of p) → GrowsTo (place_of l) (place_of m) × (GrowsTo (place_of m) (place_of p) × (node_count l.entries ≤ node_count m.entries))
+grows_later l m p x ps next g =
+    let one = later_extends l m p.pieces x ps g.done in
+    let two = next (g.done ∙ sym one.pieces) in
+    (extends_grows l m one, (extends_grows m p two, extends_nodes l m one))
+
+pub extends_pieces : (l m : Low) → Extends l m → IsFront l.pieces m.pieces
+extends_pieces l m x = record { more = []; is = x.pieces ∙ sym (append-nil l.pieces) }
 
 -- what the later block comes to be, the earlier one comes to be
 pub front_back : (all : List Piece) (l m : Low) → Extends l m → Front all m.pieces m.entries → Front all l.pieces l.entries

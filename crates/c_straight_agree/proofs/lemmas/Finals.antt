@@ -11,11 +11,11 @@ use Rattle.lowered_forms.proofs.lemmas.Induction.{value_steps, test_steps}
 use Rattle.c_straight_agree.specs.Finals.{Final, FinalsGoBack, TestFinalsGoBack}
 
 module _ (all : List Piece) where
-  abbrev back : Relation
+  abbrev pub back : Relation
   back n a b = Final all b → Final all a
 
   -- with fewer entries
-  fewer_entries : (l : Low) (es : List Entry) → IsFront l.entries es → Final all (with_entries es l) → Final all l
+  pub fewer_entries : (l : Low) (es : List Entry) → IsFront l.entries es → Final all (with_entries es l) → Final all l
   fewer_entries l es p f = record {
     front = record {
       more = p.more ++ f.front.more;
@@ -33,13 +33,13 @@ module _ (all : List Piece) where
   }
 
   -- where it is finished it is split behind its slots, whatever follows
-  finished : (l : Low) (rest : List Piece) → all ≡ l.pieces ++ OfBlock l.slots l.entries ∷ rest → Final all l
+  pub finished : (l : Low) (rest : List Piece) → all ≡ l.pieces ++ OfBlock l.slots l.entries ∷ rest → Final all l
   finished l rest is = record {
     front = record { more = []; before = l.slots; rest = rest; is = is ∙ ap (λ (gs : List Entry). l.pieces ++ OfBlock l.slots gs ∷ rest) (sym (append-nil l.entries)) };
     slots = front_itself l.slots;
   }
 
-  back_steps : Steps back
+  pub back_steps : Steps back
   back_steps = record {
     same = λ l f. f;
     joins = λ m n a b c x y f. x (y f);
@@ -50,7 +50,7 @@ module _ (all : List Piece) where
     slot = λ l. fewer_slots l;
   }
 
-  back_jumps : Jumps back
+  pub back_jumps : Jumps back
   back_jumps = record {
     uncounted = λ m n a b x. x;
     ends = λ l f. finished l _ (f.front.is ∙ append_assoc l.pieces (OfBlock l.slots l.entries ∷ []) _);

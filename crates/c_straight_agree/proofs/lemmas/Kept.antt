@@ -76,7 +76,7 @@ kept_is : (f : Room → Temporary) (o : Option Room) (t : Temporary) → kept_by
 kept_is f None t e = absurd (let never : ⊥ = cc in never)
 kept_is f (Some r) t e = (r, refl, cc)
 
-front_length : {A : Type 0} (xs ys : List A) → IsFront xs ys → length xs ≤ length ys
+pub front_length : {A : Type 0} (xs ys : List A) → IsFront xs ys → length xs ≤ length ys
 front_length xs ys f = let e = ap length f.is in let d = length-append xs f.more in omega (arith, e, d)
 
 module _ (s : Scene) (locals : ℕ) (body : IsBody s locals) (slots : List Slot) (done : List Piece) where

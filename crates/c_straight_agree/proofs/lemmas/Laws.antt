@@ -5,7 +5,7 @@ use Rattle.lowered_forms.specs.Lows.{with_entries}
 use Rattle.c_straight_agree.specs.Laws.{TemplatesAnswer, ValuesArePlaced, RootsStore, OperandsWait, StepsJoin}
 use Rattle.c_straight_agree.specs.Narrow.{CharsAreNarrow, ShortsAreNarrow}
 use Rattle.c_straight_agree.proofs.lemmas.AskedTemplates.{template_answers}
-use Rattle.c_straight_agree.proofs.lemmas.At.{at_of, standing_of}
+use Rattle.c_straight_agree.proofs.lemmas.At.{at_of, standing_of, ready_still}
 use Rattle.c_straight_agree.proofs.lemmas.Coming.{value_stays, joins}
 use Rattle.c_straight_agree.proofs.lemmas.Placing.{placed_came, stored_came}
 
@@ -13,7 +13,7 @@ pub templates_answer : CharsAreNarrow → ShortsAreNarrow → TemplatesAnswer
 templates_answer chars shorts s locals body start turns l le f map old values w k st t u within settled gives h =
     let keeps = keeps_at s.body l.pieces l.entries f in
     let a = template_answers chars shorts s locals body start turns l.pieces l.slots le keeps k map old t l.entries f values w (at_of s start turns l f map old values w k st) within settled u gives h in
-    record { others = a.others; world = a.world; stands = standing_of s start turns (with_entries (asked t l.entries).entries l) h map old a.others a.world k keeps a.stands; near = a.near; has = a.has }
+    record { others = a.others; world = a.world; stands = standing_of s start turns (with_entries (asked t l.entries).entries l) h map old a.others a.world k keeps a.stands (ready_still s w a.world k a.near.arguments st.ready); near = a.near; has = a.has }
 
 pub values_are_placed : CharsAreNarrow → ShortsAreNarrow → ValuesArePlaced
 values_are_placed chars shorts s locals body start turns m le f map old values w k st u a within settled holds h =

@@ -37,13 +37,14 @@ use Rattle.c_expr_agreement.specs.Scenes.{Scene}
 use Rattle.lowered_forms.specs.Contexts.{object_name, text_name}
 use Rattle.lowered_forms.specs.Lows.{Low}
 use Rattle.lowered_forms.specs.Places.{address_at, local_by, local_place, is_passed_whole}
-use Rattle.c_straight_agree.specs.Agreement.{Waits, HasValue, Came, CameTo}
+use Rattle.c_straight_agree.specs.Agreement.{Waits, HasValue, HasWord, Came, CameTo}
 use Rattle.c_straight_agree.specs.Layouts.{FrameLayout, context_in, address_of, IsLaidOut, HoldsWholes}
 use Rattle.c_straight_agree.specs.Settled.{seen, IsApart, IsSettled}
 use Rattle.c_straight_agree.specs.Standing.{IsBody, Standing, IsSoundIn}
+use Rattle.c_straight_agree.proofs.lemmas.Coming.{value_word}
 use Rattle.c_straight_agree.proofs.lemmas.SettledTemplates.{number_set, as_p_set, address_set}
 use Rattle.c_straight_agree.proofs.lemmas.Kept.{any_slot}
-use Rattle.c_straight_agree.proofs.lemmas.Reading.{same_name}
+use Rattle.c_straight_agree.proofs.lemmas.Lasting.{same_name}
 use Rattle.c_straight_agree.proofs.lemmas.Near.{gives_word}
 
 -- the word of a local's address
@@ -95,6 +96,10 @@ module _ (s : Scene) (locals : ℕ) (body : IsBody s locals) (y : FrameLayout) (
 
   pub number_has : (signed : Bool) (n : ℕ) → n < 2 ^ 32 → HasValue s (number signed n) map values w (Number n)
   number_has signed n small = has_by (number signed n) (Number n) (number_set (λ m. None) here signed n) (number_waits signed n) (number_holds here signed n small)
+
+  -- what has no value of C is lowered to a number
+  pub nothing_has : HasWord s (number true 0) map values w
+  nothing_has = value_word s (number true 0) map values w (Number 0) (number_has true 0 (omega arith))
 
   pub function_has : (n number : ℕ) → s.body.setting.environment.global n ≡ Some (Function number) → HasValue s (name n (pos 0)) map values w (Function number)
   function_has n number e = has_by (name n (pos 0)) (Function number) tt tt (function_stands here n number e)

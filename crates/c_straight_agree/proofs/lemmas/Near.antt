@@ -1,6 +1,7 @@
 -- What templates give stays where temporaries of their block are written.
 use Rattle.std.specs.Prelude.{◌≡◌, ◌≤◌, ℕ, List, [], ◌∷◌}
 use Rattle.std.proofs.Common.{⊎_elim, refl, sym, subst, ◌∙◌, arith}
+use Rattle.objects.specs.declared.value.Value.{Value}
 use Rattle.op_forest.specs.Nodes.{Head}
 use Rattle.forests.specs.Actions.{Gave}
 use Rattle.forests.specs.Alike.{acts_alike}
@@ -12,6 +13,7 @@ use Rattle.forests.specs.Worlds.{World}
 use Rattle.dag_forest.specs.Meaning.{Keeps}
 use Rattle.c_match.specs.Ranges.{Map}
 use Rattle.c_rows_agree.specs.Templates.{Template, Given, Leaf, One, Two, Scene, Gives}
+use Rattle.c_rows_agree.specs.Typed.{Typed, Holds}
 use Rattle.c_rows_agree.proofs.lemmas.Once.{gives_once}
 use Rattle.lowered_forms.specs.Blocks.{IsWithin}
 use Rattle.piece_runs.specs.Reaches.{BodyRun}
@@ -19,17 +21,18 @@ use Rattle.c_straight_agree.specs.Settled.{seen, IsApart, IsMild, IsSettled, IsN
 use Rattle.c_straight_agree.proofs.lemmas.Mild.{mild_cases, mild_still, mild_map, read_gives}
 
 pub near_itself : (keeps : Keeps) (n : ℕ) (values : ℕ → Word) (w : World) → IsNear keeps n values values w w
-near_itself keeps n values w = record { kept = λ m lt. refl; alike = refl; same = λ place lone. refl }
+near_itself keeps n values w = record { kept = λ m lt. refl; alike = refl; same = λ place lone. refl; arguments = refl }
 
 pub near_joins : (keeps : Keeps) (n m : ℕ) (a b c : ℕ → Word) (u v w : World) → n ≤ m → IsNear keeps n a b u v → IsNear keeps m b c v w → IsNear keeps n a c u w
 near_joins keeps n m a b c u v w le x y = record {
   kept = λ i lt. y.kept i (omega (arith, le, lt)) ∙ x.kept i lt;
   alike = x.alike ∙ y.alike;
   same = λ place lone. y.same place lone ∙ x.same place lone;
+  arguments = y.arguments ∙ x.arguments;
 }
 
 pub near_fewer : (keeps : Keeps) (n m : ℕ) (a b : ℕ → Word) (u v : World) → n ≤ m → IsNear keeps m a b u v → IsNear keeps n a b u v
-near_fewer keeps n m a b u v le x = record { kept = λ i lt. x.kept i (omega (arith, le, lt)); alike = x.alike; same = x.same }
+near_fewer keeps n m a b u v le x = record { kept = λ i lt. x.kept i (omega (arith, le, lt)); alike = x.alike; same = x.same; arguments = x.arguments }
 
 -- what gives a word from words
 pub gives_word : (k : Scene) (keeps : Keeps) → AreSoundObjects k.objects → IsSoundEnvironment k.environment → (t : Template) (u : Word) → IsSettled keeps k t → Gives k t u → IsWord u
@@ -66,3 +69,11 @@ module _ (keeps : Keeps) (g : BodyRun) (map more : Map) (n : ℕ) (values others
     mild_map h.operator.op _ _ (λ f x q. subst (IsApart keeps) (gives_once (seen g more others v) a e.0 x (near_gives a e.0 i s.0 e.1) q) (f e.0 e.1)) s.1,
   )
   near_settled (Two h a b) u i s e = (near_settled a e.0 i.0 s.0 e.2, (near_settled b e.1 i.1 s.1.0 e.3, s.1.1))
+
+-- so it holds a value of C still, and is settled
+pub near_holds : (keeps : Keeps) (g : BodyRun) (map : Map) (n : ℕ) (values others : ℕ → Word) (w v : World) → IsNear keeps n values others w v → (a : Typed) (u : Value) → IsWithin n a.tree → IsSettled keeps (seen g map values w) a.tree → Holds (seen g map values w) a u
+    → Holds (seen g map others v) a u × IsSettled keeps (seen g map others v) a.tree
+near_holds keeps g map n values others w v near a u i s h = (
+  record { word = h.word; gives = near_gives keeps g map map n values others w v near a.tree h.word i s h.gives; is = h.is },
+  near_settled keeps g map map n values others w v near a.tree h.word i s h.gives,
+)

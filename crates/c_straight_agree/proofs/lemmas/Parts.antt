@@ -1,4 +1,4 @@
--- Expressions of one part and of two, where the parts are straight and lowered.
+-- Expressions of one part and of two, where the parts are lowered, and the second one is straight.
 use Rattle.std.specs.Prelude.{◌≡◌, ◌≤◌, ℕ, Bool, true, Option, Some, None, Ok, Err, List, length, Result as Checked}
 use Rattle.std.proofs.Common.{refl, sym, ap, subst, arith}
 use Rattle.lcc_base.specs.declared.cause.Cause.{Cause}
@@ -27,18 +27,23 @@ use Rattle.lowered_forms.specs.Later.{IsFront}
 use Rattle.lowered_forms.specs.Lows.{Low}
 use Rattle.lowered_forms.specs.Straight.{straight}
 use Rattle.lowered_forms.specs.Values.{Lowered, Part, then_low, placed, held, of_two}
+use Rattle.lowered_forms.proofs.lemmas.Adding.{lowering_adds}
 use Rattle.lowered_forms.proofs.lemmas.Blocks.{within_more}
 use Rattle.lowered_forms.proofs.lemmas.NodesOf.{values_have_nodes}
 use Rattle.lowered_forms.proofs.lemmas.WithinTemplates.{HasIn}
 use Rattle.c_straight_agree.specs.Agreement.{HasValue, Came, CameTo, IsPart}
 use Rattle.c_straight_agree.specs.Layouts.{FrameLayout, context_in, IsLaidOut, HoldsWholes}
 use Rattle.c_straight_agree.specs.Extends.{Extends}
+use Rattle.c_straight_agree.specs.Lasting.{LastingValue}
 use Rattle.c_straight_agree.specs.Narrow.{CharsAreNarrow, ShortsAreNarrow}
+use Rattle.c_straight_agree.specs.Parts.{IsLoweredPart}
 use Rattle.c_straight_agree.specs.Settled.{seen, IsSettled}
 use Rattle.c_straight_agree.specs.Standing.{place_of, IsBody, Standing, IsSoundIn}
-use Rattle.c_straight_agree.proofs.lemmas.Coming.{value_stays, joins, ends_so, gives_then}
+use Rattle.c_straight_agree.proofs.lemmas.Coming.{operand_settled, value_stays, joins, ends_so, gives_then}
 use Rattle.c_straight_agree.proofs.lemmas.Wholes.{wholes_stay}
-use Rattle.c_straight_agree.proofs.lemmas.Extending.{extends_joins, straight_extends, extends_nodes, extends_slots, extends_grows, front_back, slots_back}
+use Rattle.c_straight_agree.proofs.lemmas.Extending.{extends_joins, straight_extends, extends_nodes, extends_slots, extends_grows, extends_pieces, grows_later, front_back, slots_back}
+use Rattle.c_straight_agree.proofs.lemmas.Kept.{front_length}
+use Rattle.c_straight_agree.proofs.lemmas.Lasting.{lasting_value, lasting_settled}
 use Rattle.c_straight_agree.proofs.lemmas.Placing.{placed_came}
 
 -- ---- soundness
@@ -109,7 +114,7 @@ module _ (s : Scene) (locals : ℕ) (body : IsBody s locals) where
   GoesTwo go act =
       (m : Low) → locals ≤ length m.slots → (p q : Typed) → HasIn (node_count m.entries) p → HasIn (node_count m.entries) q → (v u : Value) (start : ℕ → Outcome) (turns : ℕ) (f : Front s.body.pieces m.pieces m.entries) (h : Front s.body.pieces (go p q m).low.pieces (go p q m).low.entries)
       (map : Map) (old : c.World) (values : ℕ → Word) (w : World) (k : ℕ) → IsFront (go p q m).low.slots h.before → Standing s start turns m f map old values w k → IsSoundIn s old → IsSoundValue old.storage.made v → IsSoundValue old.storage.made u
-      → HasValue s p map values w v → HasValue s q map values w u
+      → LastingValue s locals (length m.slots) p map values w v → HasValue s q map values w u
       → CameTo s start turns m (go p q m).low h (go p q m).value map old values w (act v u k old)
 
   abbrev pub Results : FrameLayout → Low → Lowered → (ℕ → c.World → Result) → Type 0
@@ -121,20 +126,23 @@ module _ (s : Scene) (locals : ℕ) (body : IsBody s locals) where
   pub grows_by : (l m p : Low) → Extends l m → Extends m p → GrowsTo (place_of l) (place_of p) → GrowsTo (place_of l) (place_of m) × (GrowsTo (place_of m) (place_of p) × (node_count l.entries ≤ node_count m.entries))
   grows_by l m p x y g = (extends_grows l m x, (extends_grows m p y, extends_nodes l m x))
 
-  pub slots_still : (l m : Low) → Extends l m → locals ≤ length l.slots → locals ≤ length m.slots
-  slots_still l m x le = let e = extends_slots l m x in omega (arith, le, e)
+  pub slots_later : (l m : Low) → IsFront l.slots m.slots → locals ≤ length l.slots → locals ≤ length m.slots
+  slots_later l m x le = let e = front_length l.slots m.slots x in omega (arith, le, e)
+
+  pub lowered_part : (y : FrameLayout) (e : CoreTree) → IsPart s locals y e → IsLoweredPart s locals y e
+  lowered_part y e p = record { tame = p.tame; lowered = p.lowered }
 
   module _ (evals : EvalStaysSound) (y : FrameLayout) (laid : IsLaidOut s y) where
     abbrev x : Context
     x = context_in s y
 
-    pub one_of_comes : (Known : Typed → Type 0) (a : CoreTree) → IsPart s locals y a → ((l : Low) → Known (low_e x a l).value) → (go : Typed → Low → Lowered) → ((p : Typed) (l : Low) → Extends l (go p l).low) → (act : Value → ℕ → c.World → Result) → GoesOneOf Known go act
+    pub one_of_comes : (Known : Typed → Type 0) (a : CoreTree) → IsLoweredPart s locals y a → ((l : Low) → Known (low_e x a l).value) → (go : Typed → Low → Lowered) → ((p : Typed) (l : Low) → Extends l (go p l).low) → (act : Value → ℕ → c.World → Result) → GoesOneOf Known go act
         → (l : Low) → locals ≤ length l.slots → Results y l (then_low (low_e x a l) go) (λ k old. then_give (result s a k old) (λ v k1 w1. act v k1 w1))
     one_of_comes Known a pa known go further act goes l le start turns f h map before values first k slots st sound wholes =
         let l1 = (low_e x a l).low in
         let p = (low_e x a l).value in
         let r = go p l1 in
-        let x1 = straight_extends x a pa.goes_on l in
+        let x1 = lowering_adds x a l in
         let x2 = further p l1 in
         let h1 = front_back s.body.pieces l1 r.low x2 h in
         let s1 = slots_back s.body.pieces l1 r.low x2 h slots in
@@ -142,25 +150,25 @@ module _ (s : Scene) (locals : ℕ) (body : IsBody s locals) where
         (pa.lowered l le start turns f h1 map before values first k s1 st sound wholes)
         (λ v k1 old1 is one.
         let so = sound_behind s locals body evals a pa.tame k k1 v before old1 sound is in
-        joins s start turns l l1 r.low h1 h p r.value map before values first (Some v) old1 k1 (extends_slots l l1 x1) (grows_by l l1 r.low x1 x2) one (act v k1 old1)
-        (goes l1 (slots_still l l1 x1 le) p (values_have_nodes x a l st.block).value (known l) v start turns h1 h one.later old1 one.others one.world k1 slots one.stands so.world so.value one.has))
+        joins s start turns l l1 r.low h1 h p r.value map before values first (Some v) old1 k1 (front_length l.slots l1.slots x1.slots) (grows_later l l1 r.low x1 (extends_pieces l1 r.low x2) (λ e. x2)) one (act v k1 old1)
+        (goes l1 (slots_later l l1 x1.slots le) p (values_have_nodes x a l st.block).value (known l) v start turns h1 h one.later old1 one.others one.world k1 slots one.stands so.world so.value one.has))
 
-    pub one_comes : (a : CoreTree) → IsPart s locals y a → (go : Typed → Low → Lowered) → ((p : Typed) (l : Low) → Extends l (go p l).low) → (act : Value → ℕ → c.World → Result) → GoesOne go act
+    pub one_comes : (a : CoreTree) → IsLoweredPart s locals y a → (go : Typed → Low → Lowered) → ((p : Typed) (l : Low) → Extends l (go p l).low) → (act : Value → ℕ → c.World → Result) → GoesOne go act
         → (l : Low) → locals ≤ length l.slots → Results y l (then_low (low_e x a l) go) (λ k old. then_give (result s a k old) (λ v k1 w1. act v k1 w1))
     one_comes a pa go further act goes l le = one_of_comes (λ p. Unit {0}) a pa (λ l1. tt) go further act (λ m ls p in_p known v start turns f h map old values w k slots st sound sv hv. goes m ls p in_p v start turns f h map old values w k slots st sound sv hv) l le
 
     -- two operands, of which the first one waits
-    both_come : (a b : CoreTree) → IsPart s locals y a → IsPart s locals y b → (go : Typed → Typed → Low → Lowered) → ((p q : Typed) (l : Low) → Extends l (go p q l).low) → (act : Value → Value → ℕ → c.World → Result) → GoesTwo go act
+    both_come : (a b : CoreTree) → IsLoweredPart s locals y a → IsLoweredPart s locals y b → straight b ≡ true → (go : Typed → Typed → Low → Lowered) → ((p q : Typed) (l : Low) → Extends l (go p q l).low) → (act : Value → Value → ℕ → c.World → Result) → GoesTwo go act
         → (l : Low) → locals ≤ length l.slots
         → Results y l (then_low (low_e x a l) (λ p l1. then_low (low_e x b l1) (λ q l2. go p q l2))) (λ k old. then_give (result s a k old) (λ v k1 w1. then_give (result s b k1 w1) (λ u k2 w2. act v u k2 w2)))
-    both_come a b pa pb go further act goes l le start turns f h map before values first k slots st sound wholes =
+    both_come a b pa pb goes_on go further act goes l le start turns f h map before values first k slots st sound wholes =
         let l1 = (low_e x a l).low in
         let p = (low_e x a l).value in
         let l2 = (low_e x b l1).low in
         let q = (low_e x b l1).value in
         let r = go p q l2 in
-        let x1 = straight_extends x a pa.goes_on l in
-        let x2 = straight_extends x b pb.goes_on l1 in
+        let x1 = lowering_adds x a l in
+        let x2 = straight_extends x b goes_on l1 in
         let x3 = further p q l2 in
         let h2 = front_back s.body.pieces l2 r.low x3 h in
         let s2 = slots_back s.body.pieces l2 r.low x3 h slots in
@@ -171,17 +179,17 @@ module _ (s : Scene) (locals : ℕ) (body : IsBody s locals) where
         (pa.lowered l le start turns f h1 map before values first k s1 st sound wholes)
         (λ v k1 old1 is one.
         let so = sound_behind s locals body evals a pa.tame k k1 v before old1 sound is in
-        let le1 = slots_still l l1 x1 le in
-        joins s start turns l l1 r.low h1 h p r.value map before values first (Some v) old1 k1 (extends_slots l l1 x1) (grows_by l l1 r.low x1 x23) one (then_give (result s b k1 old1) (λ u k2 w2. act v u k2 w2))
+        let le1 = slots_later l l1 x1.slots le in
+        joins s start turns l l1 r.low h1 h p r.value map before values first (Some v) old1 k1 (front_length l.slots l1.slots x1.slots) (grows_later l l1 r.low x1 (extends_pieces l1 r.low x23) (λ e. x23)) one (then_give (result s b k1 old1) (λ u k2 w2. act v u k2 w2))
         (gives_then s start turns l1 l2 r.low h2 h q r.value one.later old1 one.others one.world (result s b k1 old1) (λ u k2 w2. act v u k2 w2)
         (pb.lowered l1 le1 start turns h1 h2 one.later old1 one.others one.world k1 s2 one.stands so.world (wholes_stay s y laid start turns l l1 f h1 p map before values first k st (Some v) old1 k1 one wholes))
         (λ u k2 old2 is2 two.
         let so2 = sound_behind s locals body evals b pb.tame k1 k2 u old1 old2 so.world is2 in
         let within = (values_have_nodes x a l st.block).value in
         joins s start turns l1 l2 r.low h2 h q r.value one.later old1 one.others one.world (Some u) old2 k2 (extends_slots l1 l2 x2) (grows_by l1 l2 r.low x2 x3) two (act v u k2 old2)
-        (goes l2 (slots_still l1 l2 x2 le1) p q (within_more (node_count l1.entries) (node_count l2.entries) p.tree (extends_nodes l1 l2 x2) within) (values_have_nodes x b l1 one.stands.block).value v u start turns h2 h two.later old2 two.others two.world k2 slots two.stands so2.world
+        (goes l2 (slots_later l1 l2 x2.slots le1) p q (within_more (node_count l1.entries) (node_count l2.entries) p.tree (extends_nodes l1 l2 x2) within) (values_have_nodes x b l1 one.stands.block).value v u start turns h2 h two.later old2 two.others two.world k2 slots two.stands so2.world
         (value_later old1.storage.made old2.storage.made v so2.made so.value) so2.value
-        (value_stays s one.later two.later two.grown one.others two.others one.world two.world two.alike (node_count l1.entries) (two.kept (extends_grows l1 l2 x2)) p v within one.has)
+        (lasting_value s locals (length l2.slots) p two.later two.others two.world v (value_stays s one.later two.later two.grown one.others two.others one.world two.world two.alike (node_count l1.entries) (two.kept (extends_grows l1 l2 x2)) p v within one.has))
         two.has))))
 
     -- a second operand that is straight leaves the first one where it is
@@ -189,13 +197,18 @@ module _ (s : Scene) (locals : ℕ) (body : IsBody s locals) where
         → then_low (low_e x b l1) (λ q l2. go p q l2) ≡ then_low (held st p l1) (λ z l2. then_low (low_e x b l2) (λ q l3. go z q l3))
     waits_so st e b go p l1 = ap (λ (t : Bool). then_low (held t p l1) (λ z l2. then_low (low_e x b l2) (λ q l3. go z q l3))) (sym e)
 
-    pub two_come : (a b : CoreTree) → IsPart s locals y a → IsPart s locals y b → (go : Typed → Typed → Low → Lowered) → ((p q : Typed) (l : Low) → Extends l (go p q l).low) → (act : Value → Value → ℕ → c.World → Result) → GoesTwo go act
+    -- expressions of two parts of which the second one is of this sort
+    abbrev pub TwoCome : (CoreTree → Type 0) → Type 0
+    TwoCome Is =
+        (a b : CoreTree) → IsLoweredPart s locals y a → IsLoweredPart s locals y b → Is b → (go : Typed → Typed → Low → Lowered) → ((p q : Typed) (l : Low) → Extends l (go p q l).low) → (act : Value → Value → ℕ → c.World → Result) → GoesTwo go act
         → (l : Low) → locals ≤ length l.slots
         → Results y l (of_two (part x a) (part x b) l go) (λ k old. then_give (result s a k old) (λ v k1 w1. then_give (result s b k1 w1) (λ u k2 w2. act v u k2 w2)))
-    two_come a b pa pb go further act goes l le =
+
+    pub two_come : TwoCome (λ e. straight e ≡ true)
+    two_come a b pa pb goes_on go further act goes l le =
         subst (λ (r : Lowered). Results y l r (λ k old. then_give (result s a k old) (λ v k1 w1. then_give (result s b k1 w1) (λ u k2 w2. act v u k2 w2))))
-        (waits_so (straight b) pb.goes_on b go (low_e x a l).value (low_e x a l).low)
-        (both_come a b pa pb go further act goes l le)
+        (waits_so (straight b) goes_on b go (low_e x a l).value (low_e x a l).low)
+        (both_come a b pa pb goes_on go further act goes l le)
 
   -- ---- what is computed of operands
 
@@ -203,13 +216,15 @@ module _ (s : Scene) (locals : ℕ) (body : IsBody s locals) where
   abbrev pub ComputesOne : (Typed → Typed) → (List Old → Value → Checked Value Cause) → Type 0
   ComputesOne make check =
       (m : Low) → locals ≤ length m.slots → (p : Typed) (v u : Value) (start : ℕ → Outcome) (turns : ℕ) (f : Front s.body.pieces m.pieces m.entries) (map : Map) (old : c.World) (values : ℕ → Word) (w : World) (k : ℕ)
-      → Standing s start turns m f map old values w k → IsSoundIn s old → IsSoundValue old.storage.made v → HasValue s p map values w v → check (c.objects old) v ≡ Ok u
+      → Standing s start turns m f map old values w k → IsSoundIn s old → IsSoundValue old.storage.made v
+      → Holds (seen s.body map values w) p v → IsSettled (keeps_at s.body m.pieces m.entries f) (seen s.body map values w) p.tree → check (c.objects old) v ≡ Ok u
       → Holds (seen s.body map values w) (make p) u × IsSettled (keeps_at s.body m.pieces m.entries f) (seen s.body map values w) (make p).tree
 
   abbrev pub ComputesTwo : (Typed → Typed → Typed) → (List Old → Value → Value → Checked Value Cause) → Type 0
   ComputesTwo make check =
       (m : Low) → locals ≤ length m.slots → (p q : Typed) (v u z : Value) (start : ℕ → Outcome) (turns : ℕ) (f : Front s.body.pieces m.pieces m.entries) (map : Map) (old : c.World) (values : ℕ → Word) (w : World) (k : ℕ)
-      → Standing s start turns m f map old values w k → IsSoundIn s old → IsSoundValue old.storage.made v → IsSoundValue old.storage.made u → HasValue s p map values w v → HasValue s q map values w u → check (c.objects old) v u ≡ Ok z
+      → Standing s start turns m f map old values w k → IsSoundIn s old → IsSoundValue old.storage.made v → IsSoundValue old.storage.made u
+      → Holds (seen s.body map values w) p v → IsSettled (keeps_at s.body m.pieces m.entries f) (seen s.body map values w) p.tree → Holds (seen s.body map values w) q u → IsSettled (keeps_at s.body m.pieces m.entries f) (seen s.body map values w) q.tree → check (c.objects old) v u ≡ Ok z
       → Holds (seen s.body map values w) (make p q) z × IsSettled (keeps_at s.body m.pieces m.entries f) (seen s.body map values w) (make p q).tree
 
   module _ (chars : CharsAreNarrow) (shorts : ShortsAreNarrow) where
@@ -218,7 +233,7 @@ module _ (s : Scene) (locals : ℕ) (body : IsBody s locals) where
     computes_one make check line within computes m le p in_p v start turns f h map old values w k slots st sound sv hv =
         gives_came (check (c.objects old) v) s start turns m (placed (make p) m).low h (placed (make p) m).value map old values w line k old
         (λ u is.
-        let y = computes m le p v u start turns f map old values w k st sound sv hv is in
+        let y = computes m le p v u start turns f map old values w k st sound sv hv.holds (operand_settled (keeps_at s.body m.pieces m.entries f) s p map values w v hv) is in
         placed_came s locals body chars shorts start turns m le f map old values w k st u (make p) (within (node_count m.entries) p in_p) y.1 y.0 h)
 
     pub computes_two : (make : Typed → Typed → Typed) (check : List Old → Value → Value → Checked Value Cause) (line : ℕ) → ((n : ℕ) (p q : Typed) → HasIn n p → HasIn n q → HasIn n (make p q)) → ComputesTwo make check
@@ -226,5 +241,7 @@ module _ (s : Scene) (locals : ℕ) (body : IsBody s locals) where
     computes_two make check line within computes m le p q in_p in_q v u start turns f h map old values w k slots st sound sv su hv hu =
         gives_came (check (c.objects old) v u) s start turns m (placed (make p q) m).low h (placed (make p q) m).value map old values w line k old
         (λ z is.
-        let y = computes m le p q v u z start turns f map old values w k st sound sv su hv hu is in
+        let keeps = keeps_at s.body m.pieces m.entries f in
+        let set_p = lasting_settled s locals body m f st.slots (length m.slots) (omega arith) map values w p v hv in
+        let y = computes m le p q v u z start turns f map old values w k st sound sv su hv.holds set_p hu.holds (operand_settled keeps s q map values w u hu) is in
         placed_came s locals body chars shorts start turns m le f map old values w k st z (make p q) (within (node_count m.entries) p q in_p in_q) y.1 y.0 h)

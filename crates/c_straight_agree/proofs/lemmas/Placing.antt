@@ -32,7 +32,7 @@ use Rattle.c_straight_agree.specs.Standing.{IsBody, Standing}
 use Rattle.c_straight_agree.specs.Stores.{IsStoring}
 use Rattle.c_straight_agree.proofs.lemmas.Acting.{root_is_stored}
 use Rattle.c_straight_agree.proofs.lemmas.AskedTemplates.{template_answers}
-use Rattle.c_straight_agree.proofs.lemmas.At.{at_of, standing_of, at_front}
+use Rattle.c_straight_agree.proofs.lemmas.At.{at_of, standing_of, at_front, ready_still}
 use Rattle.c_straight_agree.proofs.lemmas.Coming.{value_stays}
 use Rattle.c_straight_agree.proofs.lemmas.Kept.{any_slot}
 use Rattle.c_straight_agree.proofs.lemmas.Near.{gives_word}
@@ -62,7 +62,7 @@ module _ (s : Scene) (locals : ℕ) (body : IsBody s locals) where
         grown = grown_refl map;
         others = values;
         world = w;
-        stands = standing_of s start turns m h map old values w k keeps (at_front s start turns m.pieces m.slots keeps k map old m.entries f h values w (at_of s start turns m f map old values w k st));
+        stands = standing_of s start turns m h map old values w k keeps (at_front s start turns m.pieces m.slots keeps k map old m.entries f h values w (at_of s start turns m f map old values w k st)) st.ready;
         alike = refl;
         left = λ place lt private none. refl;
         private = λ place lt private. private;
@@ -83,7 +83,7 @@ module _ (s : Scene) (locals : ℕ) (body : IsBody s locals) where
             grown = grown_refl map;
             others = a.others;
             world = a.world;
-            stands = standing_of s start turns (with_entries (asked t m.entries).entries m) h map old a.others a.world k keeps a.stands;
+            stands = standing_of s start turns (with_entries (asked t m.entries).entries m) h map old a.others a.world k keeps a.stands (ready_still s w a.world k a.near.arguments st.ready);
             alike = a.near.alike;
             left = left_near (node_count m.entries) a.others a.world a.near;
             private = λ place lt private. private;
@@ -121,7 +121,7 @@ module _ (s : Scene) (locals : ℕ) (body : IsBody s locals) where
             grown = grown_refl map;
             others = y.others;
             world = y.stored;
-            stands = standing_of s start turns (acted r m) h map new y.others y.stored k keeps y.stands;
+            stands = standing_of s start turns (acted r m) h map new y.others y.stored k keeps y.stands (ready_still s w y.stored k y.arguments st.ready);
             alike = y.alike;
             left = λ place lt private none. y.left place lt private none;
             private = λ place lt private. y.storing.private place private;

@@ -104,13 +104,18 @@ frame_stays s map more old new w v alike private h =
 
 -- ---- a word is kept
 
+-- a slot behind the locals holds nothing of C
+pub hidden_is_private : (s : Scene) (locals : ℕ) → IsBody s locals → (map : Map) (old : c.World) (number : ℕ) (slot : Slot) (w : World) → InFrame s.frame map old w → locals ≤ number → slice_get s.body.setting.environment.home.slots number ≡ Some slot
+    → (s.body.setting.environment.home.place + number < length w.objects) × IsPrivate map (c.objects old) (s.body.setting.environment.home.place + number)
+hidden_is_private s locals body map old number slot w frame behind there =
+    let among = body.hidden number behind (slice_get_within s.body.setting.environment.home.slots number slot there) in
+    each_at (λ place. (place < length w.objects) × IsPrivate map (c.objects old) place) s.frame.others among.0 (s.body.setting.environment.home.place + number) frame.others among.1
+
 module _ (s : Scene) (locals : ℕ) (body : IsBody s locals) (slots : List Slot) (le : locals ≤ length slots) (map : Map) (old : c.World) where
-  -- a slot behind the locals holds nothing of C
+  -- so does one behind slots that there are
   pub slot_is_private : (number : ℕ) (slot : Slot) (w : World) → InFrame s.frame map old w → length slots ≤ number → slice_get s.body.setting.environment.home.slots number ≡ Some slot
       → (s.body.setting.environment.home.place + number < length w.objects) × IsPrivate map (c.objects old) (s.body.setting.environment.home.place + number)
-  slot_is_private number slot w frame behind there =
-      let among = body.hidden number (omega (arith, le, behind)) (slice_get_within s.body.setting.environment.home.slots number slot there) in
-      each_at (λ place. (place < length w.objects) × IsPrivate map (c.objects old) place) s.frame.others among.0 (s.body.setting.environment.home.place + number) frame.others among.1
+  slot_is_private number slot w frame behind there = hidden_is_private s locals body map old number slot w frame (omega (arith, le, behind)) there
 
   -- the world in which a slot keeps a word
   abbrev pub put_in : Kind → ℕ → ℤ → Word → World → World

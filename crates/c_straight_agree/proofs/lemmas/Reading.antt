@@ -7,14 +7,13 @@ use Rattle.lcc_base.specs.declared.order.Order.{Order}
 use Rattle.objects.specs.declared.purpose.Purpose.{Purpose}
 use Rattle.objects.specs.declared.value.ObjectName.{ObjectName}
 use Rattle.objects.specs.declared.value.Value.{Value}
-use Rattle.objects.specs.declared.value.Value.TheVariants.{Pointer}
 use Rattle.objects.specs.declared.width.Width.TheVariants as width
 use Rattle.objects.specs.Accesses.{read_cause, write_cause, read, field_read, if_none}
 use Rattle.objects.specs.AccessLaws.{first_not, first_rest}
 use Rattle.objects.specs.Causes.{first_cause, is_outside, is_misaligned, is_dead, is_refused}
 use Rattle.objects.specs.Objects.{Object as Old}
 use Rattle.objects.specs.Values.{bytes_in}
-use Rattle.forests.specs.Words.{Word, Plain}
+use Rattle.forests.specs.Words.{Word}
 use Rattle.forests.specs.Worlds.{World, Outcome}
 use Rattle.dag_forest.specs.Meaning.{Keeps, Temporary}
 use Rattle.c_types.specs.CType.{CType, Kind}
@@ -49,11 +48,10 @@ use Rattle.lowered_forms.specs.Later.{IsFront}
 use Rattle.lowered_forms.specs.Accesses.{read_by}
 use Rattle.lowered_forms.specs.Accesses as low
 use Rattle.lowered_forms.specs.Lows.{Low}
-use Rattle.c_straight_agree.specs.Agreement.{HasValue}
 use Rattle.c_straight_agree.specs.Settled.{seen, IsApart, IsSettled}
 use Rattle.c_straight_agree.specs.Standing.{IsBody, Standing}
-use Rattle.c_straight_agree.proofs.lemmas.Coming.{operand_settled}
 use Rattle.c_straight_agree.proofs.lemmas.Kept.{any_slot}
+use Rattle.c_straight_agree.proofs.lemmas.Lasting.{same_name}
 use Rattle.c_straight_agree.proofs.lemmas.Parts.{ComputesOne}
 use Rattle.c_straight_agree.proofs.lemmas.Putting.{slot_is_private}
 use Rattle.c_straight_agree.proofs.lemmas.SettledTemplates.{ReadsApart, read_set}
@@ -85,9 +83,6 @@ written_is_read purpose os p size alignment e =
 
 -- ---- places that C reads
 
-pub same_name : (a b : ObjectName) (i j : ℕ) → Plain (Pointer a i) ≡ Plain (Pointer b j) → a ≡ b
-same_name a b i j e = cc
-
 module _ (s : Scene) (locals : ℕ) (body : IsBody s locals) (m : Low) (le : locals ≤ length m.slots) (f : Front s.body.pieces m.pieces m.entries) (behind : IsFront m.slots f.before) (map : Map) (old : c.World) (values : ℕ → Word) (w : World) (matches : Matches s.lowered s.own map old w) (frame : InFrame s.frame map old w) where
   abbrev keeps : Keeps
   keeps = keeps_at s.body m.pieces m.entries f
@@ -105,10 +100,10 @@ module _ (s : Scene) (locals : ℕ) (body : IsBody s locals) (m : Low) (le : loc
       (kept_is_private n t kept).1 a.name.place a.it a.range a.lives a.is (ap (λ (z : ObjectName). z.place) (sym named) ∙ sym same)
 
   -- whatever the suffix of its pointer
-  pub reads_apart : (a : Typed) (p : Value) (size alignment : ℕ) → HasValue s a map values w p → read_cause (c.objects old) p size alignment ≡ None → ReadsApart keeps (seen s.body map values w) a
+  pub reads_apart : (a : Typed) (p : Value) (size alignment : ℕ) → Holds (seen s.body map values w) a p → read_cause (c.objects old) p size alignment ≡ None → ReadsApart keeps (seen s.body map values w) a
   reads_apart a p size alignment h none x gives =
       let k1 = seen s.body map values w in
-      subst (IsApart keeps) (gives_once k1 (as_p a) h.holds.word x (p_gives k1 a.suffix a.tree h.holds.word h.holds.gives) gives) (read_apart p h.holds.word size alignment h.holds.is none)
+      subst (IsApart keeps) (gives_once k1 (as_p a) h.word x (p_gives k1 a.suffix a.tree h.word h.gives) gives) (read_apart p h.word size alignment h.is none)
 
 -- ---- what a place holds
 
@@ -128,7 +123,7 @@ pointer_is_word (ctype.Plain q x) e = pointer_kind_is_word x e
 pointer_is_word (ctype.Array of n) e = refl
 
 module _ (s : Scene) (locals : ℕ) (body : IsBody s locals) where
-  module _ (x : Spot) (unit : IsInUnit x) (m : Low) (le : locals ≤ length m.slots) (a : Typed) (p u : Value) (start : ℕ → Outcome) (turns : ℕ) (f : Front s.body.pieces m.pieces m.entries) (map : Map) (old : c.World) (values : ℕ → Word) (w : World) (k : ℕ) (st : Standing s start turns m f map old values w k) (h : HasValue s a map values w p) where
+  module _ (x : Spot) (unit : IsInUnit x) (m : Low) (le : locals ≤ length m.slots) (a : Typed) (p u : Value) (start : ℕ → Outcome) (turns : ℕ) (f : Front s.body.pieces m.pieces m.entries) (map : Map) (old : c.World) (values : ℕ → Word) (w : World) (k : ℕ) (st : Standing s start turns m f map old values w k) (h : Holds (seen s.body map values w) a p) (set : IsSettled (keeps_at s.body m.pieces m.entries f) (seen s.body map values w) a.tree) where
     abbrev here : Seen
     here = seen s.body map values w
 
@@ -142,12 +137,12 @@ module _ (s : Scene) (locals : ℕ) (body : IsBody s locals) where
     apart_so size none = reads_apart s locals body m le f st.slots map old values w st.stands.matches st.stands.frame a p size size h none
 
     scalar_by : (b : Bool) → is_pointer x.of ≡ b → read order (scalar_of x.of) (c.objects old) p ≡ Ok u → Holds here (low.scalar_read b (scalar_of x.of) a) u
-    scalar_by true is e = pointer_read here (c.objects old) (scalar_of x.of) a p u here_held h.holds (pointer_is_word x.of is) e
-    scalar_by false is e = scalar_read here (c.objects old) (scalar_of x.of) a p u here_held h.holds e
+    scalar_by true is e = pointer_read here (c.objects old) (scalar_of x.of) a p u here_held h (pointer_is_word x.of is) e
+    scalar_by false is e = scalar_read here (c.objects old) (scalar_of x.of) a p u here_held h e
 
     held_by : (b : Bool) → is_field x ≡ b → (if b then field_read order (field_of x) (c.objects old) p else read order (scalar_of x.of) (c.objects old) p) ≡ Ok u
         → Holds here (read_by b order x a) u × ReadsApart (keeps_at s.body m.pieces m.entries f) here a
-    held_by true is e = (field_read_holds here (c.objects old) (field_of x) a p u here_held (width_some x.width is) unit h.holds e, apart_so 4 (if_none_is (read_cause (c.objects old) p 4 4) _ u e).0)
+    held_by true is e = (field_read_holds here (c.objects old) (field_of x) a p u here_held (width_some x.width is) unit h e, apart_so 4 (if_none_is (read_cause (c.objects old) p 4 4) _ u e).0)
     held_by false is e =
         let size = bytes_in (scalar_of x.of).width in
         (scalar_by (is_pointer x.of) refl e, apart_so size (if_none_is (read_cause (c.objects old) p size size) _ u e).0)
@@ -155,13 +150,13 @@ module _ (s : Scene) (locals : ℕ) (body : IsBody s locals) where
     held_here : held order x (c.objects old) p ≡ Ok u → Holds here (low.read order x a) u × IsSettled (keeps_at s.body m.pieces m.entries f) here (low.read order x a).tree
     held_here e =
         let y = held_by (is_field x) refl e in
-        (y.0, read_set (keeps_at s.body m.pieces m.entries f) here order x a (operand_settled (keeps_at s.body m.pieces m.entries f) s a map values w p h) y.1)
+        (y.0, read_set (keeps_at s.body m.pieces m.entries f) here order x a set y.1)
 
   -- what C reads at a place, the operators read
   pub reads_compute : (x : Spot) → IsInUnit x → ComputesOne s locals body (λ a. low.read s.lowered.order x a) (λ os p. held s.lowered.order x os p)
-  reads_compute x unit m le a p u start turns f map old values w k st sound sv h =
+  reads_compute x unit m le a p u start turns f map old values w k st sound sv h set =
       subst (λ (z : Order). held z x (c.objects old) p ≡ Ok u → Holds (seen s.body map values w) (low.read z x a) u × IsSettled (keeps_at s.body m.pieces m.entries f) (seen s.body map values w) (low.read z x a).tree) body.order
-      (held_here x unit m le a p u start turns f map old values w k st h)
+      (held_here x unit m le a p u start turns f map old values w k st h set)
 
   -- ---- and it is sound
 

@@ -84,7 +84,7 @@ module _ (keeps : Keeps) (k : Scene) where
   integer_set B t h = h
   integer_set V t h = h
 
-  word_left_set : (s : Suffix) (a t : Template) → Set a → Set (word_stored s a t).left
+  pub word_left_set : (s : Suffix) (a t : Template) → Set a → Set (word_stored s a t).left
   word_left_set C a t h = h
   word_left_set S a t h = h
   word_left_set I a t h = h
@@ -93,7 +93,7 @@ module _ (keeps : Keeps) (k : Scene) where
   word_left_set B a t h = h
   word_left_set V a t h = h
 
-  word_right_set : (s : Suffix) (a t : Template) → Set t → Set (word_stored s a t).right
+  pub word_right_set : (s : Suffix) (a t : Template) → Set t → Set (word_stored s a t).right
   word_right_set C a t h = h
   word_right_set S a t h = h
   word_right_set I a t h = h
@@ -102,7 +102,7 @@ module _ (keeps : Keeps) (k : Scene) where
   word_right_set B a t h = h
   word_right_set V a t h = h
 
-  as_by_set : (b : Bool) (a : Typed) → Set a.tree → Set (as_by b a)
+  pub as_by_set : (b : Bool) (a : Typed) → Set a.tree → Set (as_by b a)
   as_by_set true a h = as_i_set a.suffix a.tree h
   as_by_set false a h = as_u_set a.suffix a.tree h
 

@@ -32,7 +32,7 @@ use Rattle.c_match_worlds.proofs.lemmas.Keeping.{store_keeps}
 use Rattle.c_rows_agree.specs.Places.{HoldsObjects, IsStored, word_stored, stored_by}
 use Rattle.c_rows_agree.specs.Templates.{Root, Acts}
 use Rattle.c_rows_agree.specs.Templates as template
-use Rattle.c_rows_agree.specs.Typed.{Typed, as_p}
+use Rattle.c_rows_agree.specs.Typed.{Typed, Holds, as_p}
 use Rattle.c_rows_agree.proofs.lemmas.Fields.{field_stored_holds}
 use Rattle.c_rows_agree.proofs.lemmas.Scalars.{scalar_stored}
 use Rattle.piece_runs.specs.Pieces.{Front}
@@ -49,7 +49,7 @@ use Rattle.c_straight_agree.specs.Settled.{seen, IsSettled}
 use Rattle.c_straight_agree.specs.Standing.{IsBody, Standing}
 use Rattle.c_straight_agree.specs.Stores.{IsStoring}
 use Rattle.c_straight_agree.proofs.lemmas.Coming.{operand_settled, value_stays}
-use Rattle.c_straight_agree.proofs.lemmas.Near.{gives_word}
+use Rattle.c_straight_agree.proofs.lemmas.Near.{gives_word, near_holds}
 use Rattle.c_straight_agree.proofs.lemmas.Placing.{stored_came}
 use Rattle.c_straight_agree.proofs.lemmas.Reading.{if_none_is, written_is_read, kept_is_private, reads_apart, IsInUnit, width_some}
 use Rattle.c_straight_agree.proofs.lemmas.SettledTemplates.{ReadsApart, written_left_set, written_right_set}
@@ -81,7 +81,7 @@ module _ (s : Scene) (locals : ℕ) (body : IsBody s locals) (m : Low) (le : loc
 
   -- ---- scalars and bit-fields
 
-  module _ (x : Spot) (unit : IsInUnit x) (shared : Bool) (a b : Typed) (p v : Value) (h : HasValue s a map values w p) (g : HasValue s b map values w v) (new : List Old) where
+  module _ (x : Spot) (unit : IsInUnit x) (shared : Bool) (a b : Typed) (p v : Value) (h : Holds (seen s.body map values w) a p) (set : IsSettled keeps (seen s.body map values w) a.tree) (g : HasValue s b map values w v) (new : List Old) where
     abbrev here : template.Scene
     here = seen s.body map values w
 
@@ -97,20 +97,19 @@ module _ (s : Scene) (locals : ℕ) (body : IsBody s locals) (m : Low) (le : loc
     written_so : (t : Bool) → is_field x ≡ t → (if t then field_written Assignment order (field_of x) v (c.objects old) p else written Assignment order (scalar_of x.of).width v (c.objects old) p) ≡ Ok new
         → IsStored here (c.objects old) new (written_by t shared order x a b) × ReadsApart keeps here a
     written_so true is e = (
-      field_stored_holds here (c.objects old) new Assignment (field_of x) (shared && (field_of x).signed) a b p v here_held tt (width_some x.width is) unit h.holds g.holds e,
+      field_stored_holds here (c.objects old) new Assignment (field_of x) (shared && (field_of x).signed) a b p v here_held tt (width_some x.width is) unit h g.holds e,
       apart_so 4 (unless_none (write_cause Assignment (c.objects old) p 4 4) _ new (if_none_is (first_cause ((is_no_number v, PointerNumber) ∷ [])) _ new e).1),
     )
     written_so false is e =
         let size = bytes_in (scalar_of x.of).width in (
-          scalar_stored here (c.objects old) new Assignment (scalar_of x.of).width a b p v here_held tt h.holds g.holds e,
+          scalar_stored here (c.objects old) new Assignment (scalar_of x.of).width a b p v here_held tt h g.holds e,
           apart_so size (unless_none (write_cause Assignment (c.objects old) p size size) _ new (if_none_is (first_cause ((is_narrowed (scalar_of x.of).width v, PointerNumber) ∷ [])) _ new e).1),
         )
 
     settled_by : (z : Order) → ReadsApart keeps here a → IsSettled keeps here (written_by (is_field x) shared z x a b).left × IsSettled keeps here (written_by (is_field x) shared z x a b).right
     settled_by z apart =
-        let first = operand_settled keeps s a map values w p h in
         let second = operand_settled keeps s b map values w v g in
-        (written_left_set keeps here (is_field x) shared z x a b first, written_right_set keeps here (is_field x) shared z x a b first second apart)
+        (written_left_set keeps here (is_field x) shared z x a b set, written_right_set keeps here (is_field x) shared z x a b set second apart)
 
     storing_so : place.stored Assignment order x v (c.objects old) p ≡ Ok new → IsStoring s (length m.slots) keeps map old (c.with_objects old new) values w (written_by (is_field x) shared order x a b) × ReadsApart keeps here a
     storing_so e =
@@ -125,40 +124,41 @@ module _ (s : Scene) (locals : ℕ) (body : IsBody s locals) (m : Low) (le : loc
         let y = subst (λ (z : Order). place.stored Assignment z x v (c.objects old) p ≡ Ok new → IsStoring s (length m.slots) keeps map old (c.with_objects old new) values w (written_by (is_field x) shared z x a b) × ReadsApart keeps here a) body.order storing_so e in
         (y.0, settled_by s.lowered.order y.1)
 
+pub word_head : (y : Suffix) (a t : template.Template) → (word_stored y a t).head.operator.op ≡ op.Asgn
+word_head C a t = refl
+word_head S a t = refl
+word_head I a t = refl
+word_head U a t = refl
+word_head P a t = refl
+word_head B a t = refl
+word_head V a t = refl
+
 stored_head : (t shared : Bool) (z : Order) (x : Spot) (a b : Typed) → (written_by t shared z x a b).head.operator.op ≡ op.Asgn
 stored_head true shared z x a b = refl
 stored_head false shared z x a b = by_width (scalar_of x.of).width b
   where
-    by_suffix : (y : Suffix) (t : template.Template) → (word_stored y (as_p a) t).head.operator.op ≡ op.Asgn
-    by_suffix C t = refl
-    by_suffix S t = refl
-    by_suffix I t = refl
-    by_suffix U t = refl
-    by_suffix P t = refl
-    by_suffix B t = refl
-    by_suffix V t = refl
-
     by_width : (n : Width) (y : Typed) → (stored_by n (as_p a) y).head.operator.op ≡ op.Asgn
     by_width width.One y = refl
     by_width width.Two y = refl
-    by_width width.Four y = by_suffix y.suffix y.tree
+    by_width width.Four y = word_head y.suffix (as_p a) y.tree
 
 -- ---- the write, before what waits
 
 module _ (s : Scene) (locals : ℕ) (body : IsBody s locals) (chars : CharsAreNarrow) (shorts : ShortsAreNarrow) where
   pub written_came : (x : Spot) → IsInUnit x → (shared : Bool) (m : Low) → locals ≤ length m.slots → (a b : Typed) → HasIn (node_count m.entries) a → HasIn (node_count m.entries) b → (p v : Value) (start : ℕ → Outcome) (turns : ℕ) (f : Front s.body.pieces m.pieces m.entries) (map : Map) (old : c.World) (values : ℕ → Word) (w : World) (k : ℕ)
-      → Standing s start turns m f map old values w k → HasValue s a map values w p → HasValue s b map values w v → (new : List Old) → place.stored Assignment s.lowered.order x v (c.objects old) p ≡ Ok new
+      → Standing s start turns m f map old values w k → Holds (seen s.body map values w) a p → IsSettled (keeps_at s.body m.pieces m.entries f) (seen s.body map values w) a.tree → HasValue s b map values w v → (new : List Old) → place.stored Assignment s.lowered.order x v (c.objects old) p ≡ Ok new
       → (waiting : Typed) (u : Value) → HasIn (node_count m.entries) waiting → HasValue s waiting map values w u
       → (h : Front s.body.pieces (low.written shared s.lowered.order x a b m).pieces (low.written shared s.lowered.order x a b m).entries)
       → Came s start turns m (low.written shared s.lowered.order x a b m) h waiting map old values w (Some u) (c.with_objects old new) k
-  written_came x unit shared m le a b in_a in_b p v start turns f map old values w k st ha hb new is waiting u in_u hu h =
+  written_came x unit shared m le a b in_a in_b p v start turns f map old values w k st ha set_a hb new is waiting u in_u hu h =
       let n = node_count m.entries in
+      let keeps = keeps_at s.body m.pieces m.entries f in
       let r = written_by (is_field x) shared s.lowered.order x a b in
-      let now = writes s locals body m le f st.slots map old values w st.stands.matches st.stands.frame x unit shared a b p v ha hb new is in
+      let now = writes s locals body m le f st.slots map old values w st.stands.matches st.stands.frame x unit shared a b p v ha set_a hb new is in
       stored_came s locals body chars shorts start turns m le f map old values w k st u r (stored_head (is_field x) shared s.lowered.order x a b) (c.with_objects old new)
       (written_left n (is_field x) shared s.lowered.order x a b in_a) (written_right n (is_field x) shared s.lowered.order x a b in_a in_b) now.1.0 now.1.1
       (λ others world near matches frame.
-      (writes s locals body m le f st.slots map old others world matches frame x unit shared a b p v
-      (value_stays s map map (grown_refl map) values others w world near.alike n near.kept a p in_a ha)
+      let y = near_holds keeps s.body map n values others w world near a p in_a set_a ha in
+      (writes s locals body m le f st.slots map old others world matches frame x unit shared a b p v y.0 y.1
       (value_stays s map map (grown_refl map) values others w world near.alike n near.kept b v in_b hb) new is).0)
       waiting in_u hu h

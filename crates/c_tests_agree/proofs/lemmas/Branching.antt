@@ -46,9 +46,9 @@ use Rattle.lowered_forms.proofs.lemmas.Pending.{empty_block}
 use Rattle.c_straight_agree.specs.Agreement.{IsLeftBut}
 use Rattle.c_straight_agree.specs.Narrow.{CharsAreNarrow, ShortsAreNarrow}
 use Rattle.c_straight_agree.specs.Settled.{seen, IsSettled, IsNear}
-use Rattle.c_straight_agree.specs.Standing.{IsBody, AreFree, Standing}
+use Rattle.c_straight_agree.specs.Standing.{IsBody, AreFree, IsReady, Standing}
 use Rattle.c_straight_agree.proofs.lemmas.AskedTemplates.{template_answers}
-use Rattle.c_straight_agree.proofs.lemmas.At.{At, at_of, front_of}
+use Rattle.c_straight_agree.proofs.lemmas.At.{At, at_of, front_of, ready_still}
 use Rattle.c_straight_agree.proofs.lemmas.Mild.{same_words, acts_on_two}
 use Rattle.c_straight_agree.proofs.lemmas.Near.{near_itself, near_joins, near_gives, near_settled}
 use Rattle.c_straight_agree.proofs.lemmas.Placing.{lone_by}
@@ -87,14 +87,15 @@ ended_slots all done before es h = front_itself before
 
 module _ (s : Scene) (start : ℕ → Outcome) (turns : ℕ) where
   pub block_begins : (ps : List Piece) (slots : List Slot) (labels : ℕ) (h : Front s.body.pieces ps []) → IsFront slots h.before → (map : Map) (old : c.World) (w : World) (k : ℕ)
-      → Reaches s.body start turns ps [] h (λ m. unknown) w k → Matches s.lowered s.own map old w → InFrame s.frame map old w → AreFree s.body w
+      → Reaches s.body start turns ps [] h (λ m. unknown) w k → Matches s.lowered s.own map old w → InFrame s.frame map old w → AreFree s.body w → IsReady s w k
       → Standing s start turns (record { pieces = ps; entries = []; slots = slots; labels = labels }) h map old (λ m. unknown) w k
-  block_begins ps slots labels h behind map old w k reaches matches frame free = record {
+  block_begins ps slots labels h behind map old w k reaches matches frame free ready = record {
     stands = record { reaches = reaches; matches = matches; frame = frame; nodes = none_open (acting s.body) (keeps_at s.body ps [] h) (λ m. unknown) w };
     block = empty_block;
     none_waits = refl;
     slots = behind;
     free = free;
+    ready = ready;
   }
 
 -- ---- one root
@@ -115,7 +116,7 @@ module _ (means : TurnsMean) (s : Scene) (once : AreMarkedOnce s.body) (locals :
       subst (λ (e : Effect). Acted e (Through values (with_left left w)) (λ p. Leaves (is_end x) keeps (made_of es) w p.world × RunsBehind false (acting s.body) keeps [] (made_of es) values p.left p.world (Through values (with_left left w)))) (sym (moves_so Next act left))
       (still (is_end x), refl)
 
-  jumps_so : (n : ℕ) → acts s.body.setting.environment (head_of x) (operands x.kids values) w.objects ≡ action.Moved (To n)
+  pub jumps_so : (n : ℕ) → acts s.body.setting.environment (head_of x) (operands x.kids values) w.objects ≡ action.Moved (To n)
       → (left : ℕ) → Runs (acting s.body) keeps (Acts x ∷ []) (made_of es) values (suc left) w (Jumps n (with_left left w))
   jumps_so n act left =
       subst (λ (e : Effect). Acted e (Jumps n (with_left left w)) (λ p. Leaves (is_end x) keeps (made_of es) w p.world × RunsBehind false (acting s.body) keeps [] (made_of es) values p.left p.world (Jumps n (with_left left w)))) (sym (moves_so (To n) act left))
@@ -141,25 +142,25 @@ module _ (means : TurnsMean) (s : Scene) (once : AreMarkedOnce s.body) (locals :
         (once t.before (OfBlock t.front.before t.front.more ∷ t.front.rest) n (t.front.is ∙ append_assoc t.before (Mark n ∷ []) (OfBlock t.front.before t.front.more ∷ t.front.rest)))
         (λ left. (suc left, omega arith, subst (λ (ks : Keeps). Runs (acting s.body) ks (Acts x ∷ []) (made_of es) values (suc left) w (Jumps n (with_left left w))) (sym st.keeps_is) (jumps_so n act left)))
 
-    pub passed_by : (labels n : ℕ) (t : Label s n) (first : World) → AreAlike first.objects w.objects → (from : ℕ) → IsLeftBut s from map (c.objects old) first.objects w.objects → IsFront (split_frame slots (es ++ entry.Root x ∷ [])) h.before
+    pub passed_by : IsReady s w k → (labels n : ℕ) (t : Label s n) (first : World) → AreAlike first.objects w.objects → (from : ℕ) → IsLeftBut s from map (c.objects old) first.objects w.objects → IsFront (split_frame slots (es ++ entry.Root x ∷ [])) h.before
         → (b : Bool) → acts s.body.setting.environment (head_of x) (operands x.kids values) w.objects ≡ action.Moved (move_by b n)
         → PassedBy b s start turns from (record { pieces = done ++ OfBlock slots (es ++ entry.Root x ∷ []) ∷ []; entries = []; slots = split_frame slots (es ++ entry.Root x ∷ []); labels = labels }) h n t map old first old k
-    passed_by labels n t first alike from left split false act = record {
+    passed_by ready labels n t first alike from left split false act = record {
       later = map;
       grown = grown_refl map;
       others = λ m. unknown;
       world = w;
-      stands = block_begins s start turns (done ++ OfBlock slots (es ++ entry.Root x ∷ []) ∷ []) (split_frame slots (es ++ entry.Root x ∷ [])) labels h split map old w k (next_reached act) st.matches st.frame st.free;
+      stands = block_begins s start turns (done ++ OfBlock slots (es ++ entry.Root x ∷ []) ∷ []) (split_frame slots (es ++ entry.Root x ∷ [])) labels h split map old w k (next_reached act) st.matches st.frame st.free ready;
       alike = alike;
       left = left;
       private = λ place lt private. private;
     }
-    passed_by labels n t first alike from left split true act = record {
+    passed_by ready labels n t first alike from left split true act = record {
       later = map;
       grown = grown_refl map;
       others = λ m. unknown;
       world = w;
-      stands = block_begins s start turns (t.before ++ Mark n ∷ []) t.slots t.labels t.front t.split map old w k (label_reached n t act) st.matches st.frame st.free;
+      stands = block_begins s start turns (t.before ++ Mark n ∷ []) t.slots t.labels t.front t.split map old w k (label_reached n t act) st.matches st.frame st.free ready;
       alike = alike;
       left = left;
       private = λ place lt private. private;
@@ -202,6 +203,6 @@ module _ (chars : CharsAreNarrow) (shorts : ShortsAreNarrow) (means : TurnsMean)
       let first_is = same_words (b.others first.node) now.first then.first (same_words (b.others first.node) (a.others first.node) now.first (b.near.kept first.node there.below) a.has) (gives_once k1 r.left now.first then.first left then.left) in
       let second_is = same_words (b.others second.node) now.second then.second b.has (gives_once k1 r.right now.second then.second right then.right) in
       let act = acts_on_two s.body.setting.environment r.head b.world.objects (b.others first.node) (b.others second.node) then.first then.second (action.Moved (move_where when is label)) first_is second_is then.does in
-      passed_by means s once locals body start turns m.pieces m.slots keeps k map old gs g b.others b.world b.stands x h m.labels label t w near.alike (length m.slots)
+      passed_by means s once locals body start turns m.pieces m.slots keeps k map old gs g b.others b.world b.stands x h (ready_still s w b.world k near.arguments st.ready) m.labels label t w near.alike (length m.slots)
       (λ place lt private none. near.same place (lone_by s locals body m.slots m.pieces m.entries f st.slots place none))
       slots (jumps when is) (act ∙ ap action.Moved (move_is when is label))

@@ -6,4 +6,4 @@ pub returns-clause-choices : goal.returns-clause-choices
 returns-clause-choices c = choice_is_lowered
 
 pub returns-clause-switches : goal.returns-clause-switches
-returns-clause-switches c = switch_is_lowered
+returns-clause-switches c p y e x cases default t a first behind b among with_default search h comes = switch_is_lowered p y e b t first behind h comes cases default among with_default x a search

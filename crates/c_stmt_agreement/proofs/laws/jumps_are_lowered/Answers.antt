@@ -1,12 +1,8 @@
-use Rattle.c_expr_agreement.specs.LoweredExpr.{of_node}
-use Rattle.c_stmt_agreement.proofs.lemmas.Sequences.{nothing_is_lowered, expression_is_lowered, break_is_lowered, continue_is_lowered, goto_is_lowered}
+use Rattle.c_stmt_agreement.proofs.lemmas.Sequences.{nothing_is_lowered, break_is_lowered, continue_is_lowered, goto_is_lowered}
 use Rattle.c_stmt_agreement.proofs.laws.jumps_are_lowered.Goals as goal
 
 pub returns-clause-nothing : goal.returns-clause-nothing
 returns-clause-nothing c = nothing_is_lowered
-
-pub returns-clause-expressions : goal.returns-clause-expressions
-returns-clause-expressions c s y e x a b n h = expression_is_lowered s y e x a b (of_node n) h
 
 pub returns-clause-breaks : goal.returns-clause-breaks
 returns-clause-breaks c = break_is_lowered

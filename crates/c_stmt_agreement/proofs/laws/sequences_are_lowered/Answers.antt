@@ -9,7 +9,7 @@ pub returns-clause-sequences : goal.returns-clause-sequences
 returns-clause-sequences c = sequence_is_lowered
 
 pub returns-clause-blocks : goal.returns-clause-blocks
-returns-clause-blocks c = block_is_lowered
+returns-clause-blocks c p y e first locals ts a b begins h = block_is_lowered p y e ts a b begins h first locals
 
 pub returns-clause-labels : goal.returns-clause-labels
 returns-clause-labels c = label_is_lowered

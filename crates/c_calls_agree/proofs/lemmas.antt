@@ -1,0 +1,14 @@
+pub mod Roots
+pub mod Words
+pub mod Returning
+pub mod BuiltIns
+pub mod Callees
+pub mod CallRoots
+pub mod NewCalls
+pub mod Holding
+pub mod Arguments
+pub mod Making
+pub mod Calls
+pub mod StoredCalls
+pub mod StoredRoots
+pub mod ScalarCalls

@@ -1,0 +1,4 @@
+pub mod Programs
+pub mod Passing
+pub mod Given
+pub mod Laws

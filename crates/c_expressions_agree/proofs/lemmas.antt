@@ -1,0 +1,2 @@
+pub mod Voids
+pub mod Expressions

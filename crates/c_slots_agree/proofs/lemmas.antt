@@ -1,0 +1,4 @@
+pub mod Taken
+pub mod Reads
+pub mod Storing
+pub mod Holding

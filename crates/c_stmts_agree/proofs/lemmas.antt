@@ -1,0 +1,10 @@
+pub mod Places
+pub mod Backing
+pub mod Rows
+pub mod Returning
+pub mod Checked
+pub mod Jumping
+pub mod Once
+pub mod Followed
+pub mod Induction
+pub mod Ends

@@ -1,0 +1,7 @@
+pub mod Ways
+pub mod Parts
+pub mod CheckedParts
+pub mod Jumps
+pub mod Labels
+pub mod Laws
+pub mod FunctionBodies
