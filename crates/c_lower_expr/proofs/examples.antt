@@ -1,0 +1,2 @@
+mod MarkExamples
+mod StepExamples

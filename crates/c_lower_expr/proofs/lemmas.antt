@@ -1,0 +1,14 @@
+pub mod Marking
+pub mod Ending
+pub mod Stepping
+pub mod Rows
+pub mod Pairing
+pub mod Commas
+pub mod Testing
+pub mod Choosing
+pub mod Calling
+pub mod Making
+pub mod Holding
+pub mod Noding
+pub mod Giving
+pub mod Keeping
