@@ -1,3 +1,4 @@
+//! The kinds of bytes that lines of assembly are cut by, beside decimal digits.
 ghost use Rattle.std.specs.Prelude.{◌≡◌};
 
 use lcc_text::ByteClass;

@@ -1,3 +1,4 @@
+//! The faults with which a line of assembly is refused as a statement.
 ghost use Rattle.std.specs.Prelude.{◌≡◌};
 
 use lcc_base::Memory;

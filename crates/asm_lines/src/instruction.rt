@@ -1,3 +1,4 @@
+//! The instructions of MIPS assembly with their operands: values, addresses and targets.
 use crate::operator::{BinaryOp, Condition, LoadOp, StoreOp, UnaryOp};
 use crate::register::Register;
 

@@ -1,3 +1,4 @@
+//! Labels at the front of a line: a name and a colon.
 ghost use Rattle.std.specs.Prelude.{List, ℕ, IfSome, IfNone, drop};
 ghost use Rattle.asm_lines.specs.Tokens.{Spaced, views};
 ghost use Rattle.asm_lines.specs.Statements.{IsLabelled};

@@ -1,3 +1,4 @@
+//! The lexer of assembly: a line is cut from the left into blanks, tokens and a remark.
 ghost use Rattle.std.specs.Prelude.{◌≡◌, ◌≢◌, ◌<◌, ◌≤◌, ◌∷◌, ◌++◌, [], List, ℕ, false, length, IsTrue, IfSome, IfNone, OnOk};
 ghost use Rattle.lcc_text.specs.Classes.{in_class, StartsIn, StopsIn};
 ghost use Rattle.lcc_text.specs.declared.class.Class.TheVariants.{Digit};

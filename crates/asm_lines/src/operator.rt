@@ -1,3 +1,4 @@
+//! The operators of MIPS instructions: arithmetic, loads, stores and the conditions of branches.
 /// What makes a word of one.
 #[derive(Clone, Copy, Debug, PartialEq, Eq)]
 pub enum UnaryOp {

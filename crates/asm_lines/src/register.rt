@@ -1,3 +1,4 @@
+//! The 32 general registers of MIPS by their numbers.
 ghost use Rattle.std.specs.Prelude.{◌≡◌, ◌<◌, IfSome, IfNone, ◌≤◌};
 
 use std::marker::Model;

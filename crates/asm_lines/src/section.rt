@@ -1,3 +1,4 @@
+//! The sections of an assembly program: code and data.
 /// The part of a program in which a line stands.
 #[derive(Clone, Copy, Debug, PartialEq, Eq)]
 pub enum Section {

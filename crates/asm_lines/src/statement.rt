@@ -1,3 +1,4 @@
+//! The statements of assembly: directives and instructions, with the items of data.
 use crate::instruction::Instruction;
 use lcc_base::{Bytes, Items};
 

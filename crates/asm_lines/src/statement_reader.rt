@@ -1,3 +1,4 @@
+//! The reader of statements: what the tokens behind a line's labels say in their section.
 ghost use Rattle.std.specs.Prelude.{◌≡◌, ◌⊎◌, IsTrue, false, IfOk, IfErr, IfSome, IfNone};
 ghost use Rattle.asm_lines.specs.Tokens.{views};
 ghost use Rattle.asm_lines.specs.KnownWords.{text_of};

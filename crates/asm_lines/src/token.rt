@@ -1,3 +1,4 @@
+//! The tokens of assembly: their kinds, and the bytes that they have in a line.
 /// A token of a line of assembly.
 #[derive(Clone, Copy, Debug)]
 pub struct Token<'a> {

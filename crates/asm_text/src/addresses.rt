@@ -1,3 +1,4 @@
+//! The memory map of a program: where code, data, stack and built-in functions stand.
 ghost use Rattle.std.specs.Prelude.{◌≡◌};
 ghost use Rattle.asm_text.specs.Addresses.{address_at, built_in_at, IsAddressable};
 

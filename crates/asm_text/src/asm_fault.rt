@@ -1,3 +1,4 @@
+//! The faults of a text of assembly, each with its line.
 ghost use Rattle.std.specs.Prelude.{◌≡◌};
 
 use lcc_base::{Memory, Which};

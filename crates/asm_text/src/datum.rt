@@ -1,3 +1,4 @@
+//! The data of a program as directives write them: bytes, halves, words and zeros.
 /// What stands in the data, without padding. Names are of some kind.
 #[derive(Clone, Copy, Debug, PartialEq, Eq)]
 pub enum Datum<N> {

@@ -1,3 +1,4 @@
+//! The instruction sets whose assembly can be read.
 /// An instruction set.
 #[derive(Clone, Copy, Debug, PartialEq, Eq)]
 pub enum Isa {

@@ -1,3 +1,4 @@
+//! The table of the labels that an assembly has defined, with their places.
 ghost use Rattle.std.specs.Prelude.{◌≡◌, ◌++◌, ◌∷◌, [], true, false, IfOk, IfSome, OnErr};
 ghost use Rattle.asm_text.specs.Program.{place_of};
 ghost use Rattle.asm_text.specs.Addresses.{IsAddressable, address_by};

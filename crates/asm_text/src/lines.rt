@@ -1,3 +1,4 @@
+//! A table of the lines of an assembly text, in which names are kept by their numbers.
 ghost use Rattle.std.specs.Prelude.{◌≡◌, ◌<◌, ◌+◌, ◌++◌, ◌∷◌, [], map, length, All, IfOk, OnOk, OnErr};
 ghost use Rattle.asm_lines.specs.Statements.{told, told_by, item_of, item_by, instruction_with};
 ghost use Rattle.asm_text.specs.Grown.{HasGrown, AddsLabels};

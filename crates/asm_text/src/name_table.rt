@@ -1,3 +1,4 @@
+//! A table of names that are numbered from 0 and kept in one buffer.
 ghost use Rattle.std.specs.Prelude.{◌≡◌, ◌<◌, ◌++◌, ◌∷◌, [], length, OnOk, OnErr, Some, slice_get};
 ghost use Rattle.asm_text.specs.NameTable.{names_behind, AreEnds, StartsAt};
 

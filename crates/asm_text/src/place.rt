@@ -1,3 +1,4 @@
+//! The places of labels, counted from the start of their section.
 /// Where a label stands: at the next place of its section.
 #[derive(Clone, Copy, Debug, PartialEq, Eq)]
 pub enum Place {

@@ -1,3 +1,4 @@
+//! Assembled programs: code, data and labels, with the addresses of the names in use.
 ghost use Rattle.std.specs.Prelude.{◌≡◌, ◌≤◌, length, map, All, IfSome};
 ghost use Rattle.asm_lines.specs.Statements.{instruction_with};
 

@@ -1,3 +1,4 @@
+//! The reader of assembly: a text becomes a program, or its first fault is told.
 ghost use Rattle.std.specs.Prelude.{◌≡◌, ◌<◌, ◌^◌, ◌⊎◌, List, [], length, IfOk, IfErr};
 ghost use Rattle.asm_text.specs.AssemblyText.{IsAssembly};
 ghost use Rattle.asm_text.specs.FirstFault.{BeginsWith, StandsFirst, FirstFault};

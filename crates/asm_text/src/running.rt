@@ -1,3 +1,4 @@
+//! What machines share as they run a program: what a step comes to, causes of faults, and input.
 ghost use Rattle.std.specs.Prelude.{◌≡◌};
 
 use lcc_base::Bytes;

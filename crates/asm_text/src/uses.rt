@@ -1,3 +1,4 @@
+//! The table of the names that an assembly uses, each with the line of its first use.
 ghost use Rattle.std.specs.Prelude.{◌≡◌, ◌<◌, [], length, IfOk, OnErr, Some, slice_get};
 ghost use Rattle.asm_text.specs.Made.{with_use};
 ghost use Rattle.asm_text.specs.Uses.{use_of, used_names};

@@ -1,3 +1,4 @@
+//! The shapes of expressions: how many parts they have, and in which order these are evaluated.
 ghost use Rattle.std.specs.Prelude.{◌≡◌};
 ghost use Rattle.c_acts.specs.Shapes.{shape_of};
 

@@ -1,3 +1,4 @@
+//! What an access to an object needs to know of its place: scalar type and bit-field.
 ghost use Rattle.std.specs.Prelude.{◌≡◌, ◌≤◌, ◌+◌, IfOk, IfErr};
 ghost use Rattle.c_acts.specs.Spots.{LiesInUnit, bits_of, kept_of};
 ghost use Rattle.c_meaning.specs.CoreTrees.{seen};

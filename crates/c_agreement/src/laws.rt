@@ -1,3 +1,4 @@
+//! Laws of the agreement of forests with C: calls that end do so once, and alike on both sides.
 ghost use Rattle.c_agreement.specs.Laws.{AgreeingIsTold, BehindIsShown, ComingIsAhead, ComingSuffices, EndsAreAlike, EndsOnce, ResultsStand, StaysStuck, TurnsSuffice};
 
 /// A call of forests that ends does so alike with any number of steps; one that is stuck stays so.

@@ -1,3 +1,4 @@
+//! The classes of C's tokens: names, keywords, constants, string literals and signs.
 /// The class of a token, with the value of a constant. Source: C89 3.1.
 #[derive(Clone, Copy, Debug, PartialEq, Eq)]
 pub enum Class {

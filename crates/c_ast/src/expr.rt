@@ -1,3 +1,4 @@
+//! The syntax trees of expressions, type names, specifiers and declarators.
 use crate::class::IntKind;
 use crate::operator::{
     AssignOperator, BinaryOperator, MemberOperator, PostfixOperator, PrefixOperator,

@@ -1,3 +1,4 @@
+//! Laws of the grammar: tokens denote at most one unit, whose marks run on them.
 ghost use Rattle.std.specs.Prelude.{◌≡◌, ◌≤◌, ◌↔◌, List};
 ghost use Rattle.c_ast.specs.Lexemes.{Placed};
 ghost use Rattle.c_ast.specs.InForce.{nothing_in_force};

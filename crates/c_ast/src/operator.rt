@@ -1,3 +1,4 @@
+//! The operators of C's expressions, by the number and the place of their operands.
 /// An operator with two operands that gives a value. Source: C89 3.3.5 to 3.3.14.
 #[derive(Clone, Copy, Debug, PartialEq, Eq)]
 pub enum BinaryOperator {

@@ -1,3 +1,4 @@
+//! Laws of the grammar's pieces: at most one tree of each production stands at a place.
 ghost use Rattle.std.specs.Prelude.{◌≡◌, ◌≤◌, ℕ, Bool, true, false};
 ghost use Rattle.c_ast.specs.ExprMarks.{expr, type_name, specifiers, declarator};
 ghost use Rattle.c_ast.specs.UnitMarks.{initialiser, declaration, declarations, statement, external};

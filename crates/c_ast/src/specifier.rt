@@ -1,3 +1,4 @@
+//! The keywords of declarations: storage classes, qualifiers, basic types, and struct or union.
 /// A storage class. Source: C89 3.5.1.
 #[derive(Clone, Copy, Debug, PartialEq, Eq)]
 pub enum Storage {

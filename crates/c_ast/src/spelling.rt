@@ -1,3 +1,4 @@
+//! The search for a spelling in a short list of choices.
 ghost use Rattle.std.specs.Prelude.{◌≡◌};
 ghost use Rattle.c_ast.specs.Spelling.{number_among};
 

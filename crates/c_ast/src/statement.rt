@@ -1,3 +1,4 @@
+//! The syntax trees of declarations, initialisers, statements and blocks.
 use crate::expr::{Declarator, Expr, Specifiers};
 use lcc_base::{Bytes, Items};
 

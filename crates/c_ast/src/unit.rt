@@ -1,3 +1,4 @@
+//! The syntax trees of translation units: external declarations and function definitions.
 use crate::expr::{Declarator, Specifiers};
 use crate::statement::{Block, Declaration};
 use lcc_base::Items;

@@ -1,3 +1,4 @@
+//! Worked examples of the grammar: typedef names, scopes, and which if an else belongs to.
 ghost use Rattle.std.specs.Prelude.{◌≡◌, true, false};
 ghost use Rattle.c_ast.specs.InForce.{nothing_in_force};
 ghost use Rattle.c_ast.specs.UnitMarks.{unit};

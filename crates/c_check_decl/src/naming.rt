@@ -1,3 +1,4 @@
+//! A name as a declaration introduces it: storage class, type and linkage.
 use crate::linkage::Linkage;
 use c_ast::Storage;
 use c_types::TypeId;

@@ -1,3 +1,4 @@
+//! The members of a structure or union while it is defined, with an index of their names.
 ghost use Rattle.std.specs.Prelude.{◌≡◌, ◌++◌, ◌∷◌, [], OnOk};
 ghost use Rattle.c_meaning.specs.TypeRows.{name_or_empty};
 ghost use Rattle.c_check_expr.specs.MemberNames.{has_member};

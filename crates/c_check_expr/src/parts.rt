@@ -1,3 +1,4 @@
+//! What specifiers and declarators come to once they are checked: types, parameters and steps.
 use c_ast::{BasicType, Qualifier, Storage};
 use c_meaning::CoreExpr;
 use c_symbols::Scope;

@@ -1,3 +1,4 @@
+//! Laws of whole units: what typing accepts keeps the promises of a checked unit.
 ghost use Rattle.c_core_fits.specs.Laws.{TypedUnitsAreUnits};
 
 use c_linked_names::symbols_fit;

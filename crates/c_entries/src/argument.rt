@@ -1,3 +1,4 @@
+//! The arguments of calls: their values, types and lines.
 ghost use Rattle.std.specs.Prelude.{◌≡◌, slice_get};
 
 use c_types::TypeId;

@@ -1,3 +1,4 @@
+//! The focus of C's evaluator: the expression, statement or result that it is at.
 use crate::how::How;
 use c_meaning::{CoreExpr, CoreStmt, FilledPlace};
 use objects::Value;

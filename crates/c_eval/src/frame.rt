@@ -1,3 +1,4 @@
+//! The frames of the evaluator's stack: what is left to do around what is under way.
 use c_meaning::{CoreExpr, CoreStmt, FilledPlace};
 use objects::Value;
 

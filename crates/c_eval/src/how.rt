@@ -1,3 +1,4 @@
+//! The ways in which a run of a C program ends.
 use lcc_base::Cause;
 
 /// How a run ends.

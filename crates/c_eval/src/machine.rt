@@ -1,3 +1,4 @@
+//! The state of the evaluator: its stack, its world and the turns that are left.
 use crate::stack::Stack;
 use c_worlds::World;
 use std::alloc::Global;

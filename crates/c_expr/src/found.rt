@@ -1,3 +1,4 @@
+//! The result of a reader of C's grammar: a tree and the tokens behind it.
 use c_lexer::Token;
 
 /// A tree that was read, its height, and the tokens behind it.

@@ -1,3 +1,4 @@
+//! The parser of C's expressions, type names, specifiers and declarators, with names in force.
 ghost use Rattle.std.specs.Prelude.{◌≡◌, ◌≤◌, ◌<◌, ◌+◌, ◌↔◌, IsTrue, None, Some, true, length, slice_get, IfOk, IfErr, OnOk, OnErr};
 ghost use Rattle.c_ast.specs.InForce.{nothing_in_force, is_typedef, put, opened, closed, reopened};
 ghost use Rattle.c_ast.specs.declared.class.Class.TheVariants.{Name};

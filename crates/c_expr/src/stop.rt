@@ -1,3 +1,4 @@
+//! The reasons for which a reader of C's grammar stops without a tree.
 ghost use Rattle.std.specs.Prelude.{◌≡◌};
 ghost use Rattle.c_expr.specs.declared.stop.Stop.TheVariants.{Memory as NoMemory};
 

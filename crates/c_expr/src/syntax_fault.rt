@@ -1,3 +1,4 @@
+//! The syntax faults of C sources: no parse, tokens that can't be cut, or lack of memory.
 use c_lexer::LexFault;
 use thiserror::Error;
 

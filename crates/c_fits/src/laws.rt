@@ -1,3 +1,4 @@
+//! Laws of typing: what it accepts fits its types, and what is known stays sound.
 ghost use Rattle.c_fits.specs.Laws.{DeclarationFits, DeclarationLeads, DeclaredFollows, FittingStays, InitialiserFits, NamedFollows, NothingIsSound, TypedFits, TypedFollows, TypedValueFits};
 
 /// Each expression of the grammar that typing accepts, where what is known is sound, has the operands and the type

@@ -1,3 +1,4 @@
+//! What an initialiser makes of an object: its completed type, and an expression for each place.
 use c_meaning::FilledPlace;
 use c_types::TypeId;
 use lcc_base::Items;

@@ -1,3 +1,4 @@
+//! The next place to be initialised, split off from what waits behind it.
 use crate::place::Place;
 use crate::waits::Waits;
 

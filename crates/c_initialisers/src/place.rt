@@ -1,3 +1,4 @@
+//! The places within an object that initialisers fill, bit-fields among them.
 use c_values::QualifiedType;
 
 /// A place in an object that is initialised. The offset, in bytes, is counted from the object's first

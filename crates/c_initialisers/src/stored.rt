@@ -1,3 +1,4 @@
+//! What the items of an initialiser list have stored so far, and what still waits.
 use crate::waits::Waits;
 use c_meaning::CoreExpr;
 use c_types::TypeId;

@@ -1,3 +1,4 @@
+//! What the parts of an aggregate still wait for while an initialiser list is read.
 use crate::place::Place;
 use c_types::TypeId;
 use c_values::QualifiedType;

@@ -1,3 +1,4 @@
+//! The kinds of bytes as the lexer tells them apart.
 ghost use Rattle.std.specs.Prelude.{◌≡◌};
 
 use lcc_text::{ByteClass, Class};

@@ -1,3 +1,4 @@
+//! Comments: where one ends, and how many line feeds it has.
 ghost use Rattle.std.specs.Prelude.{◌≡◌, ◌<◌, ◌≤◌, ◌+◌, length, IfSome};
 ghost use Rattle.c_lexer.specs.Comments.{closes, before_close, feeds};
 

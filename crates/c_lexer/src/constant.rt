@@ -1,3 +1,4 @@
+//! Numeric constants: the class of one, or the fault of one that is floating or malformed.
 ghost use Rattle.std.specs.Prelude.{◌≡◌, ◌||◌, ◌==◌};
 ghost use Rattle.std.specs.List.{list_any};
 ghost use Rattle.c_lexer.specs.Constants.{has_0x, is_floating, constant_of};

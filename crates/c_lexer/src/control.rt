@@ -1,3 +1,4 @@
+//! Control lines: the line number that `# n "f"` or `#line n "f"` says.
 ghost use Rattle.std.specs.Prelude.{◌≡◌, ◌≤◌, ◌==◌, IfSome};
 ghost use Rattle.std.specs.List.{list_any};
 ghost use Rattle.c_lexer.specs.declared.class.LexClass.TheVariants.{Space};

@@ -1,3 +1,4 @@
+//! What stands between tokens: blanks, comments and control lines are skipped.
 ghost use Rattle.std.specs.Prelude.{◌≡◌, ◌+◌, ◌<◌, ◌≤◌, ℕ, None, length, IfSome};
 ghost use Rattle.c_lexer.specs.Gaps.{behind_control, behind_comment, behind_blank, gap, IsPlace};
 ghost use Rattle.c_lexer.specs.Comments.{before_close};

@@ -1,3 +1,4 @@
+//! Integer constants: their base, digits and suffix, and the type and value that follow.
 ghost use Rattle.std.specs.Prelude.{◌≡◌, ◌≤◌, ◌∷◌, [], Some};
 ghost use Rattle.c_ast.specs.declared.class.Class.TheVariants.{Integer};
 ghost use Rattle.c_lexer.specs.Integers.{is_u, is_l, suffix_of, kinds, first_holding, integer_in, starts_x, integer_of};

@@ -1,3 +1,4 @@
+//! Laws of the lexer: a source is cut in one way, by longest match, and denotes at most one unit.
 ghost use Rattle.std.specs.Prelude.{◌≡◌, ◌≤◌, ◌++◌, List, ℕ, Bool, Option, Some, Ok, length};
 ghost use Rattle.c_lexer.specs.declared.lex_fault.LexFault.{LexFault as Fault};
 ghost use Rattle.c_lexer.specs.declared.place.Place.{Place as Places};

@@ -1,3 +1,4 @@
+//! The faults of the lexer: why a source can't be cut into tokens, and on which line.
 ghost use Rattle.std.specs.Prelude.{◌≡◌};
 
 use thiserror::Error;

@@ -1,3 +1,4 @@
+//! The lexer, which gives the tokens of a source one at a time.
 ghost use Rattle.std.specs.Prelude.{◌≡◌, ◌<◌, ◌≤◌, length, IfOk, IfErr, IfSome, IfNone};
 ghost use Rattle.c_lexer.specs.Tokens.{first_place, Cuts};
 

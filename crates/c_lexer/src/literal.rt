@@ -1,3 +1,4 @@
+//! The values of a string literal's characters, with escapes resolved.
 ghost use Rattle.std.specs.Prelude.{◌≡◌, ◌≤◌, length, IfOk};
 ghost use Rattle.c_lexer.specs.Texts.{text_of};
 

@@ -1,3 +1,4 @@
+//! Numbers of 32 bits, read from digits in a base up to 16.
 ghost use Rattle.std.specs.Prelude.{◌≡◌, ◌≤◌};
 ghost use Rattle.c_lexer.specs.Numbers.{digit_value, number_in};
 

@@ -1,3 +1,4 @@
+//! Where the lexer stands in a source: offset, line, and whether a control line may begin.
 /// A place of a source between two of its pieces.
 #[derive(Clone, Copy)]
 pub struct Place {

@@ -1,3 +1,4 @@
+//! Characters between quotes, with simple, octal and hexadecimal escapes.
 ghost use Rattle.std.specs.Prelude.{◌≡◌, ◌≤◌, ◌<◌, ◌+◌, ℕ, length, take, IfOk};
 ghost use Rattle.c_lexer.specs.declared.class.LexClass.TheVariants.{Octal as OctalClass, Hex as HexClass};
 ghost use Rattle.c_lexer.specs.Quoted.{simple_escape, numeric, hexadecimal, octal, escape, quoted, next_character};

@@ -1,3 +1,4 @@
+//! One token read at the front of the bytes: its class and its length.
 ghost use Rattle.std.specs.Prelude.{◌≡◌, ◌≤◌, ◌<◌, length, MatchOption, IfOk};
 ghost use Rattle.c_lexer.specs.declared.start.Start.TheVariants.{Word, Constant, Character, Text, Sign};
 ghost use Rattle.lcc_text.specs.declared.class.Class.TheVariants.{Name as NameBytes};

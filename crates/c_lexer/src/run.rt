@@ -1,3 +1,4 @@
+//! Runs: the bytes split behind the longest front of one kind.
 ghost use Rattle.std.specs.Prelude.{◌≡◌, ◌≤◌, ◌+◌, length};
 ghost use Rattle.lcc_text.specs.Classes.{AllIn, StartsIn};
 ghost use Rattle.c_lexer.specs.Runs.{run, behind};

@@ -1,3 +1,4 @@
+//! A scan of a whole source, which counts its tokens up to the first fault.
 ghost use Rattle.std.specs.Prelude.{◌≡◌, ◌≤◌, List, length};
 ghost use Rattle.c_lexer.specs.declared.token.Token.{Token as Tokens};
 ghost use Rattle.c_lexer.specs.Tokens.{first_place, AreTokens};

@@ -1,3 +1,4 @@
+//! Operators and punctuators, found by longest match.
 ghost use Rattle.std.specs.Prelude.{◌≡◌, ◌≤◌, length, take, IfSome};
 ghost use Rattle.c_lexer.specs.LongestSigns.{sign_of_length, longest_sign};
 

@@ -1,3 +1,4 @@
+//! The kind of a token, told by its first bytes.
 ghost use Rattle.std.specs.Prelude.{◌≡◌, ◌||◌, ◌==◌, if◌then◌else◌};
 ghost use Rattle.std.specs.Char.{is_ascii_digit};
 ghost use Rattle.c_lexer.specs.declared.start.Start.TheVariants.{Character, Text, Comment, Sign};

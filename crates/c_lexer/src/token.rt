@@ -1,3 +1,4 @@
+//! Tokens as the lexer gives them, and the bytes of the source that they stand for.
 ghost use Rattle.std.specs.Prelude.{◌≡◌, drop};
 ghost use Rattle.c_lexer.specs.SourceUnits.{bytes_of};
 

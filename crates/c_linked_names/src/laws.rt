@@ -1,3 +1,4 @@
+//! Laws of linked names: uses agree in type with definitions, and no two definitions share a name.
 ghost use Rattle.c_linked_names.specs.Laws.{UnitNamesDiffer, UnitSymbolsFit};
 
 use c_types::{compatible_types_are_mutual, composites_are_compatible};

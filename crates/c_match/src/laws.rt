@@ -1,3 +1,4 @@
+//! Laws of matching values: C's values and bytes stand in forests, and do so as memory grows.
 ghost use Rattle.c_match.specs.Laws.{BytesGrow, ValuesGrow, WordsAreRead, WordsHaveBytes};
 
 /// What stands for a value, or for bytes, does so still where further objects have ranges.

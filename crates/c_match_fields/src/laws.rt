@@ -1,3 +1,4 @@
+//! Laws of bit-fields: forests read and write them by shifts and masks of their units.
 ghost use Rattle.c_match_fields.specs.FieldReads.{FieldsAreRead};
 ghost use Rattle.c_match_fields.specs.Fields.{FieldsAreStored};
 

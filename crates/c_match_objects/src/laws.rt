@@ -1,3 +1,4 @@
+//! Laws of matching objects: accesses, stores, pointers and lifetimes of C go on in forests.
 ghost use Rattle.c_match_objects.specs.Accesses.{AccessesGo, CopiesGo, NumbersAreRead, NumbersAreStored, StoresGo, WordsAreRead, WordsAreStored};
 ghost use Rattle.c_match_objects.specs.Lifetimes.{FlagsStay, HeldBySameHomes, HomesBegin, LeavingGoesOn, ObjectsBegin, ObjectsEnd, PrivateIsApart, SlotsHold};
 ghost use Rattle.c_match_objects.specs.Pointers.{PointersAreCompared, PointersAreOrdered, PointersAreSubtracted, PointersAreTested, PointersMove, PointersMoveBack, PointersMoveOn};

@@ -1,3 +1,4 @@
+//! Laws of matching worlds: starts, stores, events and calls keep C and forests in step.
 ghost use Rattle.c_match_worlds.specs.Starts.{StartsMatch};
 ghost use Rattle.c_match_worlds.specs.Laws.{BeginningHides, CallsClose, CallsLeave, CallsMakeHomes, CallsOpen, CopiesArePassed, EventsKeep, HomesMayHold, InputKeeps, LocalsBegin, OthersBegin, OwnObjectsStand, PrivateStoresKeep, StoresKeep};
 

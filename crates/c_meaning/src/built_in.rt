@@ -1,3 +1,4 @@
+//! The library functions that a program may call without defining them.
 /// A function that is there without a definition in the unit.
 #[derive(Clone, Copy, Debug, PartialEq, Eq)]
 pub enum BuiltIn {

@@ -1,3 +1,4 @@
+//! Checked expressions: names resolved, conversions explicit, and each with its type.
 use crate::built_in::BuiltIn;
 use crate::literal_text::LiteralText;
 use c_symbols::SymbolId;

@@ -1,3 +1,4 @@
+//! Checked statements, with numbered labels and the cases of each `switch`.
 use crate::core_expr::CoreExpr;
 use crate::filled_place::FilledPlace;
 use lcc_base::Items;

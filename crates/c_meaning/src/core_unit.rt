@@ -1,3 +1,4 @@
+//! Checked translation units: functions, static objects, string literals and types.
 ghost use Rattle.std.specs.Prelude.{◌≡◌};
 ghost use Rattle.c_meaning.specs.Units.{CoreUnit, IsWhole};
 

@@ -1,3 +1,4 @@
+//! The single stores that an initialiser comes to.
 use crate::core_expr::CoreExpr;
 use c_types::MemberPlace;
 

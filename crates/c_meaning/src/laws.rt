@@ -1,3 +1,4 @@
+//! Laws of typing: it is decided and a function, and copied structures have locals of their own.
 ghost use Rattle.c_ast.specs.Trees.{DeclarationTree, DeclaratorTree, ExprTree, InitialiserTree, SpecifiersTree, TypeNameTree};
 ghost use Rattle.c_meaning.specs.State.{State};
 ghost use Rattle.c_meaning.specs.Typing.{typed, typed_name, typed_declared};

@@ -1,3 +1,4 @@
+//! The bytes of string literals, boxed to keep expressions small.
 ghost use Rattle.std.specs.Prelude.{◌≡◌, IfOk};
 
 use lcc_base::{Bytes, Memory};

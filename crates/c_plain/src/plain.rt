@@ -1,3 +1,4 @@
+//! Plain expressions: those in which no function is called.
 ghost use Rattle.std.specs.Prelude.{◌≡◌};
 ghost use Rattle.c_meaning.specs.CoreTrees.{cores_of};
 ghost use Rattle.c_plain.specs.Plain.{are_plain, is_plain};

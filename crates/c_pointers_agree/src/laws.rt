@@ -1,3 +1,4 @@
+//! Laws of pointers: operators move, compare and call them as C does.
 ghost use Rattle.c_pointers_agree.specs.FitLaws.{ArgumentsFit, DifferencesFit, ElementsFit, MembersFit, NamesFit, SlotsLie};
 ghost use Rattle.c_pointers_agree.specs.Laws.{ArgumentsStand, CalleesAgree, ComparisonsAgree, DifferencesAgree, EitherSideMoves, ElementsMove, FunctionsStand, LiveStays, MembersAgree, NamesMove, NamesStand, SlotsMove, SlotsStand, TestsAgree};
 ghost use Rattle.c_pointers_agree.specs.OwnObjects.{OwnObjectsLive, OwnTextsLive};

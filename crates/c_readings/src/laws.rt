@@ -1,3 +1,4 @@
+//! Laws of the grammar's readers: up to each height they give its pieces, and nothing else.
 ghost use Rattle.std.specs.Prelude.{◌≡◌, Bool, ℕ};
 ghost use Rattle.c_ast.specs.ExprMarks as marks;
 ghost use Rattle.c_readings.specs.Readers.{readers};

@@ -1,3 +1,4 @@
+//! Laws of scalars: operators compute, convert, test, read and write them as C does.
 ghost use Rattle.c_rows_agree.specs.FitLaws.{BinaryFit, ComparisonsFit, ConversionsFit, FieldReadsFit, FieldStoresFit, FieldValuesFit, NumbersFit, PointersFit, ReadsFit, StoresFit, SuffixesFit, TestsFit, UnaryFit};
 ghost use Rattle.c_rows_agree.specs.Laws.{BinaryAgree, ChangesAgree, ComparisonsAgree, ConversionsAgree, FieldStoresAgree, FieldValuesAgree, FieldsAreLoaded, NumbersAgree, PointersAgree, PointersAreRead, ScalarsAreRead, ScalarsAreStored, TestsAgree, UnaryAgree};
 ghost use Rattle.c_rows_agree.specs.Stays.{OperatorsStay, ReadsStay};

@@ -1,3 +1,4 @@
+//! Laws of C's runs: turns fall, traces grow, longer runs agree, and values stay sound.
 ghost use Rattle.c_runs.specs.Laws.{LoopIs, JumpIs, CallIs, EvalFalls, ExecFalls, EvalGrows, ExecGrows, RunsGoFurther, OutputsGrow, DepthsGrow, CallsStandAlone};
 ghost use Rattle.c_runs.specs.Soundness.{EvalStaysSound, ExecStaysSound, CopiesStaySound, RunStaysSound, UnitsAreTame, CoreStaysSound};
 ghost use Rattle.c_runs.specs.Locals.{BodiesStart, EntriesMakeLocals, EntriesStaySound, FittingIsPassed, CheckedCallsHaveLocals, BodiesKeepLocals, CallsPassCopies, LocalsAreKept, CopiesAreKept, LocalIsObject};

@@ -1,3 +1,4 @@
+//! The errors of declaring a name: a redeclaration in its scope, or refused memory.
 use crate::scopes::SymbolId;
 use thiserror::Error;
 

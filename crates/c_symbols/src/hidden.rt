@@ -1,3 +1,4 @@
+//! Meanings that an inner declaration hides, kept until its scope is left.
 use crate::scopes::SymbolId;
 
 /// What a name meant before a declaration, by the name's place among the meanings.

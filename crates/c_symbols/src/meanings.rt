@@ -1,3 +1,4 @@
+//! The present meaning of each name, found at the same cost at any depth of scopes.
 ghost use Rattle.std.specs.Prelude.{◌≡◌, ◌<◌, [], length, IfOk};
 ghost use Rattle.indexmap.specs.Layout.{set_value_at};
 ghost use Rattle.c_symbols.specs.Meanings.{meaning, IsAt, MeanTheSame};

@@ -1,3 +1,4 @@
+//! Open scopes, with the outer meanings that their names hide.
 use crate::hidden::Hidden;
 use crate::scope::Scope;
 use std::alloc::Global;

@@ -1,3 +1,4 @@
+//! The names that one scope declares, in order, each with its symbol.
 ghost use Rattle.std.specs.Prelude.{◌≡◌, ◌++◌, ◌∷◌, ◌<◌, [], None, Some, OnOk, OnErr, length, slice_get};
 ghost use Rattle.c_symbols.specs.Scoping.{symbol_named};
 

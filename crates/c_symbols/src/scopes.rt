@@ -1,3 +1,4 @@
+//! The symbol table: nested scopes, names with linkage, and all symbols declared.
 ghost use Rattle.std.specs.Prelude.{ℕ, ◌≡◌, ◌≢◌, ◌++◌, ◌∷◌, ◌<◌, [], None, Some, length, slice_get, slice_set, IfOk, IfErr, IfSome, OnOk, OnErr};
 ghost use Rattle.c_symbols.specs.declared.declare.Declare.TheVariants.{Memory as NoMemory, Redeclared};
 ghost use Rattle.c_symbols.specs.Scoping.{AreBelow, IsDeclared, found, symbol_named};

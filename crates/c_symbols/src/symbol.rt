@@ -1,3 +1,4 @@
+//! Symbols: what a declaration says of a name, and its storage class.
 use c_types::TypeId;
 
 /// How a name was declared (C89 3.5.1): the storage class that it has, or that it is an enumerator or a

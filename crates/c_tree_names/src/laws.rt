@@ -1,3 +1,4 @@
+//! Laws of denoted units: they are grammatical, and their names are well-formed.
 ghost use Rattle.c_tree_names.specs.Laws.{DenotedUnitsAreGrammatical};
 
 /// The unit that a source denotes is one of the grammar, and each name of a variable, an enumerator or a declarator in it

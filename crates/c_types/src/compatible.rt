@@ -1,3 +1,4 @@
+//! Compatibility of types in the table, and what a type is an array of, points to or returns.
 ghost use Rattle.std.specs.Prelude.{◌≡◌, ◌≢◌, ◌<◌, All, length, Some, None, false, true, slice_get, IfSome, IfNone};
 ghost use Rattle.c_types.specs.CType.{Array, Plain, Pointer, Function, kind_of, qualify, unqualified};
 ghost use Rattle.c_types.specs.Compatible.{all_compatible, all_kept, compatible, is_kept, kind_compatible, lengths_fit, parameters_compatible};

@@ -1,3 +1,4 @@
+//! Composite types, formed of two compatible ones.
 ghost use Rattle.std.specs.Prelude.{◌≡◌, ◌<◌, ◌≤◌, Bool, None, drop, length, false, true, IfOk, IfSome, IfNone};
 ghost use Rattle.c_types.specs.declared.type_form.TypeForm.TheVariants as form;
 ghost use Rattle.c_types.specs.CType.{Array as ArrayTree, Function, Plain, depth, kind_of, qualify, unqualified};

@@ -1,3 +1,4 @@
+//! Which types are const, as a whole or in some member or element.
 ghost use Rattle.std.specs.Prelude.{◌≡◌, ◌<◌, length, false};
 ghost use Rattle.c_types.specs.Constness.{const_known, has_const, is_const, some_const};
 ghost use Rattle.c_types.specs.Readings.{is_array};

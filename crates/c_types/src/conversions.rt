@@ -1,3 +1,4 @@
+//! The integral promotions and the usual arithmetic conversions.
 ghost use Rattle.std.specs.Prelude.{◌≡◌, ◌≤◌, ◌<◌, ℕ, List, length, false, true};
 ghost use Rattle.c_types.specs.CType.{CType as CTypeTree, qualify};
 ghost use Rattle.c_types.specs.Conversions.{common, is_integer, promoted, usual};

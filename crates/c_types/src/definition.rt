@@ -1,3 +1,4 @@
+//! Definitions of structures and unions: their members, and where these are laid.
 use crate::extent::Extent;
 use crate::type_form::{Member, MemberPlace};
 use indexmap::IndexMap;

@@ -1,3 +1,4 @@
+//! Size, alignment and nesting of types.
 ghost use Rattle.std.specs.Prelude.{◌≡◌, ◌≤◌, ◌<◌, Some};
 ghost use Rattle.c_types.specs.Layout.{scalar, no_object, array_extent};
 ghost use Rattle.c_types.specs.Bounds.{IsBounded};

@@ -1,3 +1,4 @@
+//! Keys by which the type table finds a form that it has already.
 ghost use Rattle.std.specs.Prelude.{◌≡◌, IfOk};
 ghost use Rattle.std.specs.Option.{option_map};
 ghost use Rattle.c_types.specs.Keeps.{IsKeyOf};

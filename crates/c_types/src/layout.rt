@@ -1,3 +1,4 @@
+//! The layout of structures and unions: offsets, bit-field units and padding.
 ghost use Rattle.std.specs.Prelude.{◌≡◌, ◌≢◌, ◌<◌, ◌≤◌, ◌+◌, ◌++◌, ℕ, List, [], max, None, Some, IfErr, IfOk, OnOk};
 ghost use Rattle.c_types.specs.declared.type_fault.TypeFault.TheVariants as fault;
 ghost use Rattle.c_types.specs.Bounds.{IsBounded};

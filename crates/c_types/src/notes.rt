@@ -1,3 +1,4 @@
+//! Notes of what was worked out of pairs of types: which are compatible, and their composites.
 ghost use Rattle.std.specs.Prelude.{◌≡◌, ◌⊎◌, [], All, Contains, IfSome, true};
 
 use crate::type_form::TypeId;

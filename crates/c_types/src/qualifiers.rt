@@ -1,3 +1,4 @@
+//! The type qualifiers const and volatile, as a set of flags.
 ghost use Rattle.std.specs.Prelude.{⊤, [], ◌∷◌, ◌≡◌, codes, bit_or};
 
 use bitflags::{Flag, Flags, bitflag_items};

@@ -1,3 +1,4 @@
+//! The layout of structures: where each member and bit-field goes, and the bytes that it takes.
 ghost use Rattle.std.specs.Prelude.{◌≡◌, ◌≤◌, ◌<◌, ◌+◌};
 ghost use Rattle.c_types.specs.Layout.{round_up, start, spot_at, bit_spot, room_after, bits_after, spot_in, next_room};
 ghost use Rattle.c_types.specs.Bounds.{IsBounded};

@@ -1,3 +1,4 @@
+//! The faults of forming a type and of completing a structure.
 use lcc_base::Memory;
 use std::alloc::{AllocError, AllocFailed};
 use thiserror::Error;

@@ -1,3 +1,4 @@
+//! The forms of C's types, with the enumerators and members that they are made of.
 use crate::qualifiers::Qualifiers;
 use lcc_base::{Bytes, Items};
 

@@ -1,3 +1,4 @@
+//! The table of types, which holds each type once and gives it a place.
 ghost use Rattle.std.specs.Prelude.{◌≡◌, ◌≢◌, ◌<◌, ◌≤◌, ◌*◌, ◌↔◌, ◌++◌, ◌∷◌, ℕ, Bool, [], Some, None, length, map, true, false, not, slice_get, IsTrue, IfOk, IfErr, IfSome, IfNone, OnOk, OnErr, option_map};
 ghost use Rattle.c_types.specs.declared.type_fault.TypeFault.TheVariants as fault;
 ghost use Rattle.c_types.specs.declared.type_form.TypeForm.TheVariants as form;

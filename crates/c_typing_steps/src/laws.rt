@@ -1,3 +1,4 @@
+//! Laws of typing steps: what typing a construct adds to what is known, and what names stand for.
 ghost use Rattle.c_typing_steps.specs.Laws.{DeclaratorsStep, ExpressionNamesStand, ExpressionsStep, InitialiserNamesStand, InitialisersStep, InsideSpecifiersStep, OwnSpecifiersStep, SpecifiersStep};
 
 /// Typing an expression, specifiers, a declarator or an initialiser changes what is known by calls of undeclared names,

@@ -1,3 +1,4 @@
+//! Laws of typed units: statements, bodies, functions and objects that typing accepts fit.
 ghost use Rattle.c_unit_fits.specs.Laws.{ExternalsFit, TypedBodyHasShape, TypedFunctionFits, TypedStatementFits, TypedStatementIsNumbered, TypedStatementLeads, UnitFits, UnitIsStatic};
 
 /// The expressions of a statement that typing accepts have the operands and types that their kinds promise, tests are

@@ -1,3 +1,4 @@
+//! Laws of typing units: a unit without a fault has exactly one core, and a function computes it.
 ghost use Rattle.c_ast.specs.Trees.{StatementTree, UnitTree};
 ghost use Rattle.c_meaning.specs.Laws.{IsDecided, IsTyping, fault_of};
 ghost use Rattle.c_meaning.specs.State.{State};

@@ -1,3 +1,4 @@
+//! The faults of checking: a broken constraint, a passed limit or a refused allocation.
 use lcc_base::{Memory, Which};
 use std::alloc::{AllocError, AllocFailed};
 use thiserror::Error;

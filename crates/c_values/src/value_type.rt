@@ -1,3 +1,4 @@
+//! The types of expressions' values, with the pointers that arrays and functions become.
 use c_types::{Qualifiers, TypeId};
 
 /// A type of the table with qualifiers beside its own.

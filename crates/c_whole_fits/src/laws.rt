@@ -1,3 +1,4 @@
+//! Laws of whole units: what fits while names are symbols fits when they are resolved.
 ghost use Rattle.c_whole_fits.specs.Laws.{PlacedFits, PlacedKeepsLabels, PlacedKeepsType, PlacedKeepsValue, PlacedPlacesFit, PlacedStmtFits, SymbolsAreMeant, WholeBodyFits, WholeFits, WholeKeepsLabels, WholeKeepsType, WholeKeepsValue, WholePlacesFit, WholeStmtFits};
 
 /// What a unit's symbols stand for is an object, a function, a built-in function or nothing; and where a name's type is

@@ -1,3 +1,4 @@
+//! The locals of the open calls, as a stack of pointers to their objects.
 ghost use Rattle.std.specs.Prelude.{◌≡◌, ◌≤◌, ◌++◌, ◌∷◌, [], length, drop, slice_get, Some, None, IfSome, IfNone, IfOk, OnOk, OnErr};
 ghost use Rattle.c_worlds.specs.OpenLocals.{OpenLocals, all_locals, locals_from};
 

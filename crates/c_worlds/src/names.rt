@@ -1,3 +1,4 @@
+//! The numbering of the built-in functions behind what the unit defines.
 /// How the built-in functions are numbered: behind the unit's functions, objects and texts come those of putchar,
 /// getchar and exit, in this order, whose names the unit doesn't define.
 #[derive(Clone, Copy, Debug)]

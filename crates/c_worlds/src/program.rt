@@ -1,3 +1,4 @@
+//! Programs as they run: a checked unit, its order of bytes and its built-in functions.
 ghost use Rattle.std.specs.Prelude.{◌≡◌};
 ghost use Rattle.c_meaning.specs.Units.{unit_seen};
 ghost use Rattle.c_runs.specs.Calls.{first_built_in as first_number};

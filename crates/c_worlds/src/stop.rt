@@ -1,3 +1,4 @@
+//! The causes that stop a run, with the lines at which they arise.
 ghost use Rattle.std.specs.Prelude.{◌≡◌};
 ghost use Rattle.c_worlds.specs.Stops.{stop_of, told};
 

@@ -1,3 +1,4 @@
+//! The state of a run: storage, locals, input and output.
 use crate::locals::Locals;
 use lcc_base::Bytes;
 use objects::Storage;

@@ -1,3 +1,4 @@
+//! The faults of case files, with the lines at which they stand.
 use std::alloc::{AllocError, AllocFailed};
 use thiserror::Error;
 

@@ -1,3 +1,4 @@
+//! Cases of the command line: words and an input, with the output, report and status expected.
 /// A case: words and an input, and what has to come of them. Behind the first command others may
 /// stand, each with the output of the one before as its input.
 #[derive(Drop)]

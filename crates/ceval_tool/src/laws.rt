@@ -1,3 +1,4 @@
+//! Laws of `ceval`: no input is both run and refused, and it has one run at most.
 ghost use Rattle.std.specs.Prelude.{◌≡◌, ℕ, List};
 ghost use Rattle.outcomes.specs.declared.outcome.End.{End};
 ghost use Rattle.outcomes.specs.declared.outcome.Refusal.{Refusal};

@@ -1,3 +1,4 @@
+//! The refusal of a source by `ceval`, from the faults of lexing, parsing and checking.
 ghost use Rattle.std.specs.Prelude.{◌≡◌};
 ghost use Rattle.ceval_tool.specs.SourceFaults.{lexer_name, of_check, of_syntax};
 ghost use Rattle.ceval_tool.specs.declared.source_fault.SourceFault.TheVariants as fault;

@@ -1,3 +1,4 @@
+//! The options of `ceval`: the order of bytes and the bound on turns.
 ghost use Rattle.std.specs.Prelude.{◌≤◌};
 
 use lcc_base::Order;

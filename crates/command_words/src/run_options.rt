@@ -1,3 +1,4 @@
+//! The options of `simrun`: the order of bytes, the bound on steps and the size of the stack.
 ghost use Rattle.std.specs.Prelude.{◌≤◌};
 
 use lcc_base::Order;

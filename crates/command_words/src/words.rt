@@ -1,3 +1,4 @@
+//! The commands and their options, as they are read from the words of a command line.
 ghost use Rattle.std.specs.Prelude.{◌≡◌, ◌↔◌, IfOk, IsTrue, map, string_bytes};
 ghost use Rattle.command_words.specs.declared.words.Command.{Command as Commands};
 ghost use Rattle.command_words.specs.Found.{IsFound};

@@ -1,3 +1,4 @@
+//! The acts of a block: nodes that are made and roots that act.
 ghost use Rattle.std.specs.Prelude.{◌≡◌};
 ghost use Rattle.dag_forest.specs.Choice.{root_kids};
 ghost use Rattle.dag_forest.specs.Schedules.{kids_of};

@@ -1,3 +1,4 @@
+//! Blocks of nodes and roots as directed acyclic graphs, in which equal nodes are shared.
 ghost use Rattle.std.specs.Prelude.{◌≡◌, ◌⊎◌, ◌++◌, ◌∷◌, [], ◌<◌, ◌≤◌, ◌+◌, ◌-◌, ◌^◌, length, slice_get, Some, None, IfOk, OnOk, OnErr, ℕ, true, false};
 ghost use Rattle.dag_forest.specs.Entries.{AreBelow, parts_of};
 ghost use Rattle.lcc_base.specs.declared.order.Order.{Order};

@@ -1,3 +1,4 @@
+//! The entries of a block, which are nodes and roots in the order of their addition.
 use crate::parts::Parts;
 
 /// What was added to a block.

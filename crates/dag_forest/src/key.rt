@@ -1,3 +1,4 @@
+//! The keys by which equal nodes of a block are found, and their hashes.
 ghost use Rattle.std.specs.Prelude.{◌≡◌};
 ghost use Rattle.dag_forest.specs.HashedKeys.{sym_place};
 ghost use Rattle.dag_forest.specs.Keys.{key_at};

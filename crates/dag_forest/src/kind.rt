@@ -1,3 +1,4 @@
+//! The kinds of values that temporaries keep.
 ghost use Rattle.std.specs.Prelude.{◌≡◌};
 ghost use Rattle.dag_forest.specs.Choice.{kind_of};
 

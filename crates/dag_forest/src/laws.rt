@@ -1,3 +1,4 @@
+//! Laws of splitting a block into trees: they do what the block does, with temporaries in slots.
 ghost use Rattle.std.specs.Prelude.{◌≡◌, List, Some, ℕ, ℤ, false};
 ghost use Rattle.objects.specs.declared.value.ObjectName.{ObjectName};
 ghost use Rattle.objects.specs.declared.value.Value.TheVariants.{Pointer};

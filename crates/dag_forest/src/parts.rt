@@ -1,3 +1,4 @@
+//! The parts of a node or root: operator, operands, symbol and constant.
 use crate::kids::Kids;
 use op_forest::{Operator, Sym};
 

@@ -1,3 +1,4 @@
+//! Laws of open blocks: how runs go on, which values hold, which nodes have rooms, and what fits.
 ghost use Rattle.dag_seam.specs.Fitting.{FrameFits, NodeFits, RootFits, SplitAppends, SplitIsFit};
 ghost use Rattle.dag_seam.specs.RoomLaws.{CallHasRoom, HandedHasNone, KeptIsMade, OnceHasNone, RoomHasCause, RoomHasKind, RoomsAreApart, RoomsAreBelow, RoomsAreFew};
 ghost use Rattle.dag_seam.specs.Laws.{BlockRuns, CallGoesOn, CallHolds, FormedGoesOn, KeptOpens, KeysAreCounted, MadeGoesOn, NewIsLast, NextIsUnmade, NodeGoesOn, NodeOpens, NoneOpen, RootActs, RootGoesOn, RootHolds, RunsAppend, RunsStop, RunsUsed, TurnsAppend, ValueHolds, WaitingAppend};

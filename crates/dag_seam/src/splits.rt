@@ -1,3 +1,4 @@
+//! Laws of split blocks: in a frame with the new slots the trees do what the block does.
 ghost use Rattle.dag_seam.specs.SplitLaws.{SplitMeans, TurnsMean};
 
 use dag_forest::trees_do_what_blocks_do;

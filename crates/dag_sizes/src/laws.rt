@@ -1,3 +1,4 @@
+//! Laws of the size of split blocks, and of the weight that bounds it.
 ghost use Rattle.dag_sizes.specs.Laws.{FewerWeighLess, SizeHasBound, SplitHasSize, SwapHasBound, UseHasBound};
 
 /// The nodes of a block's trees and its rooms together are so many; and they are no more than the block's weight, which counts

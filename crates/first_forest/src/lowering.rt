@@ -1,3 +1,4 @@
+//! The lowering of programs of the first form to units of one function.
 ghost use Rattle.std.specs.Prelude.{◌≡◌, ◌≤◌, ◌*◌, ℕ, List, ◌∷◌, [], length, sum_by, IfOk};
 ghost use Rattle.std.specs.List.{AllByRecursion};
 ghost use Rattle.first_form.specs.FirstProgram.{program_of};

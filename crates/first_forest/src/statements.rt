@@ -1,3 +1,4 @@
+//! The roots of a program's statements, which print values and return one.
 ghost use Rattle.std.specs.Prelude.{◌≡◌, ◌++◌, IfOk, OnOk};
 ghost use Rattle.first_form.specs.Expression.{expression_of};
 ghost use Rattle.first_form.specs.FirstProgram.{program_of};

@@ -1,3 +1,4 @@
+//! The trees of expressions of the first form, and of the address of `putchar`.
 ghost use Rattle.std.specs.Prelude.{◌≡◌, ◌∷◌, [], IfOk};
 ghost use Rattle.op_forest.specs.Nodes.{Leaf, One, Two};
 ghost use Rattle.first_form.specs.Expression.{expression_of};

@@ -1,3 +1,4 @@
+//! The kinds of bytes of the first form beside those of names.
 ghost use Rattle.std.specs.Prelude.{◌≡◌};
 
 use lcc_text::ByteClass;

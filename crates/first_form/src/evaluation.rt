@@ -1,3 +1,4 @@
+//! The evaluation of expressions of the first form, modulo 2^32.
 ghost use Rattle.std.specs.Prelude.{◌≡◌};
 ghost use Rattle.first_form.specs.Expression.{expression_of};
 ghost use Rattle.first_form.specs.Meaning.{value};

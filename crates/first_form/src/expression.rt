@@ -1,3 +1,4 @@
+//! The expressions of the first form, with their operators.
 /// An expression of the first form.
 #[derive(Debug, Drop)]
 pub enum Expression {

@@ -1,3 +1,4 @@
+//! The faults of reading a program of the first form.
 ghost use Rattle.std.specs.Prelude.{◌≡◌};
 
 use lcc_base::Memory;

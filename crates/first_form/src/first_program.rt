@@ -1,3 +1,4 @@
+//! Programs of the first form: the expressions that they print, and the one that they return.
 use crate::expression::Expression;
 use lcc_base::Items;
 

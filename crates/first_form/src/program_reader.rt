@@ -1,3 +1,4 @@
+//! The reader of programs of the first form.
 ghost use Rattle.std.specs.Prelude.{◌≡◌, ◌<◌, ℕ, List, length, map, codes, ◌∷◌, [], IfOk, IfErr};
 ghost use Rattle.first_form.specs.Tokens.{AreTokens};
 ghost use Rattle.first_form.specs.Expression.{MExpression, expression_of};

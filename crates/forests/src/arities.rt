@@ -1,3 +1,4 @@
+//! The check that the operators of a tree have as many operands as their rows.
 ghost use Rattle.std.specs.Prelude.{◌≡◌, ◌↔◌, IsTrue};
 ghost use Rattle.forests.specs.WellFormed.{HasArity, HasArities};
 

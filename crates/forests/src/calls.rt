@@ -1,3 +1,4 @@
+//! The calls in trees, and whether a call takes the arguments before a root.
 ghost use Rattle.std.specs.Prelude.{◌≡◌, ◌↔◌, IsTrue};
 ghost use Rattle.forests.specs.WellFormed.{HasCall, IsTakenFrom};
 

@@ -1,3 +1,4 @@
+//! The check that a forest is well formed, and the first fault where it isn't.
 ghost use Rattle.std.specs.Prelude.{◌≡◌, ◌↔◌, IsTrue, IfOk, IfErr, IfSome, IfNone, nat_eq};
 ghost use Rattle.indexmap.specs.IndexMap.{get};
 ghost use Rattle.forests.specs.FirstPlaces.{AreFirst};

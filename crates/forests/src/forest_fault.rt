@@ -1,3 +1,4 @@
+//! The faults of forests that aren't well formed.
 ghost use Rattle.std.specs.Prelude.{◌≡◌};
 
 use lcc_base::Memory;

@@ -1,3 +1,4 @@
+//! The check that each operator of a tree has the operands, symbol and constant that it needs.
 ghost use Rattle.std.specs.Prelude.{◌≡◌, ◌↔◌, IsTrue, IsSomeAnd};
 ghost use Rattle.op_forest.specs.Nodes.{head_of, kids_of};
 ghost use Rattle.op_forest.specs.Signature.{takes as suffixes};

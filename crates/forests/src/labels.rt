@@ -1,3 +1,4 @@
+//! The labels of a forest: where they stand, and whether jumps to them have a target.
 ghost use Rattle.std.specs.Prelude.{◌≡◌, ◌↔◌, IsTrue, IfOk, nat_eq};
 ghost use Rattle.indexmap.specs.IndexMap.{get};
 ghost use Rattle.op_forest.specs.Labels.{label_of as label_spec};

@@ -1,3 +1,4 @@
+//! The slots of a frame, in a table that tells whether an offset lies in one.
 ghost use Rattle.std.specs.Prelude.{◌≡◌, ◌↔◌, IsTrue, ℤ, ◌<ℤ◌, int_le, List, ◌∷◌, IfOk};
 ghost use Rattle.op_forest.specs.declared.frame.Slot.{Slot as Slots};
 ghost use Rattle.op_forest.specs.Frames.{end_of};

@@ -1,3 +1,4 @@
+//! Well-formed forests, as a type of their own.
 ghost use Rattle.std.specs.Prelude.{◌≡◌};
 ghost use Rattle.forests.specs.WellFormed.{IsWellFormed};
 

@@ -1,3 +1,4 @@
+//! Cases of the front end: a source, the question that is asked of it, and the answer expected.
 /// A case: a source of C, what is asked of it, and what has to be told.
 #[derive(Drop)]
 pub struct Case {

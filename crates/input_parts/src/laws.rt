@@ -1,3 +1,4 @@
+//! Laws of parted inputs: no input has two texts or two rests.
 ghost use Rattle.std.specs.Prelude.{◌≡◌, ℕ, List};
 ghost use Rattle.input_parts.specs.InputMark.{IsParted};
 

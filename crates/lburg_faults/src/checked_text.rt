@@ -1,3 +1,4 @@
+//! A description's lines once they are free of faults, before their names are resolved.
 use indexmap::IndexSet;
 use lburg_lines::RuleLine;
 

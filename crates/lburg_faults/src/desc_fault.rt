@@ -1,3 +1,4 @@
+//! The faults of a description's text, with their lines.
 ghost use Rattle.std.specs.Prelude.{◌≡◌};
 
 use lcc_base::Which;

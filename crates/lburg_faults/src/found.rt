@@ -1,3 +1,4 @@
+//! Faults placed at a token of their line, and which of two stands further left.
 ghost use Rattle.std.specs.Prelude.{◌≡◌, None, ℕ};
 ghost use Rattle.lburg_lines.specs.Sections.{TokenLine};
 ghost use Rattle.lburg_faults.specs.Lines.{IsRules};

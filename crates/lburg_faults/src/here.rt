@@ -1,3 +1,4 @@
+//! A line's setting when it is checked: its text, section and number.
 use lburg_lines::Section;
 
 /// A line of a text, with the whole text and its number.

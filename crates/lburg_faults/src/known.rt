@@ -1,3 +1,4 @@
+//! What the checking of a description carries from line to line.
 ghost use Rattle.std.specs.Prelude.{◌≡◌, List, ℕ, []};
 ghost use Rattle.lburg_faults.specs.Knowing.{Knows};
 

@@ -1,3 +1,4 @@
+//! The reading of a whole description: its text is checked, then its names are resolved.
 ghost use Rattle.std.specs.Prelude.{◌≡◌, ◌≤◌, ◌⊎◌, length, IfOk, IfErr};
 ghost use Rattle.lburg_faults.specs.declared.desc_fault.DescFault.{DescFault as DescFaults};
 ghost use Rattle.lburg_faults.specs.FirstFault.{FirstFault};

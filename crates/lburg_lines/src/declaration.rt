@@ -1,3 +1,4 @@
+//! The syntax of declarations: the start symbol, and terminals with their numbers.
 /// A line of declarations as it is written.
 #[derive(Debug, Drop)]
 pub enum Declaration<'a> {

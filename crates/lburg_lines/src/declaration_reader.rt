@@ -1,3 +1,4 @@
+//! The parser of a line of declarations, `%start` or `%term`.
 ghost use Rattle.std.specs.Prelude.{◌≡◌, ◌≢◌, ◌≤◌, ◌<◌, ◌∷◌, length, drop, map, codes, IfOk, IfErr};
 ghost use Rattle.lburg_lines.specs.declared.token.Sign.TheVariants.{Equals};
 ghost use Rattle.lburg_lines.specs.Tokens.{Word, Mark, Number, views};

@@ -1,3 +1,4 @@
+//! The lexer of a description's lines: each token is the longest that stands there.
 ghost use Rattle.std.specs.Prelude.{◌≡◌, ◌≢◌, ◌<◌, ◌≤◌, ◌∷◌, ◌++◌, List, ℕ, [], false, length, IsTrue, IfOk, IfSome, IfNone, OnOk};
 ghost use Rattle.lcc_text.specs.Classes.{in_class, StartsIn, StopsIn};
 ghost use Rattle.lcc_text.specs.declared.class.Class.TheVariants.{Letter, Digit, Blank};

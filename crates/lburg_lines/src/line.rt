@@ -1,3 +1,4 @@
+//! The syntax of a description's lines, by kind.
 use crate::declaration::Declaration;
 use crate::rule_line::RuleLine;
 

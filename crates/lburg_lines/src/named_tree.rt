@@ -1,3 +1,4 @@
+//! The syntax of trees and patterns, whose names aren't resolved yet.
 /// A tree or pattern as it is written: a name with no, one or two operands.
 #[derive(Debug, Drop)]
 pub enum NamedTree<'a> {

@@ -1,3 +1,4 @@
+//! Numbers with an optional minus sign, and their values in the range that is allowed.
 ghost use Rattle.std.specs.Prelude.{◌≡◌, IfSome, IfNone};
 ghost use Rattle.lburg_lines.specs.Numbers.{IsNumber, number_value, written};
 

@@ -1,3 +1,4 @@
+//! The class of bytes of which a quoted template consists.
 use lcc_text::ByteClass;
 
 /// What may stand between the quotes of a template: anything but a quote and a line feed.

@@ -1,3 +1,4 @@
+//! The errors of the parsers of tokens: where they are stuck, or that memory ran out.
 ghost use Rattle.std.specs.Prelude.{◌≡◌};
 ghost use Rattle.lburg_lines.specs.declared.read_error.ReadError.TheVariants.{Memory};
 

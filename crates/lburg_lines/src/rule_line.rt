@@ -1,3 +1,4 @@
+//! The syntax of rules and of their costs.
 use crate::named_tree::NamedTree;
 use crate::number::SignedNumber;
 

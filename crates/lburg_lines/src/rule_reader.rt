@@ -1,3 +1,4 @@
+//! The parser of a rule, with its pattern, template and cost.
 ghost use Rattle.std.specs.Prelude.{◌≡◌, IfOk, IfErr};
 ghost use Rattle.lburg_lines.specs.Tokens.{views};
 ghost use Rattle.lburg_lines.specs.Grammar.{IsCost, cost_of, cost_tokens, rule_of, rule_tokens};

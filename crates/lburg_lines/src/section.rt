@@ -1,3 +1,4 @@
+//! The sections of a description's text, and how a line leads from one to the next.
 ghost use Rattle.std.specs.Prelude.{◌≡◌};
 ghost use Rattle.lburg_lines.specs.Tokens.{views};
 ghost use Rattle.lburg_lines.specs.Sections.{first_border, section_behind};

@@ -1,3 +1,4 @@
+//! The tokens of a description's lines, with the signs and borders among them.
 /// A token of a line.
 #[derive(Clone, Copy, Debug)]
 pub enum Token<'a> {

@@ -1,3 +1,4 @@
+//! The parser of trees and patterns, and that no tokens begin with two trees.
 ghost use Rattle.std.specs.Prelude.{◌≡◌, ◌<◌, ◌∷◌, List, length, IfOk, IfErr};
 ghost use Rattle.lburg_lines.specs.declared.token.Sign.TheVariants.{Open};
 ghost use Rattle.lburg_lines.specs.Tokens.{Tok as Toks, Word, Mark, views};

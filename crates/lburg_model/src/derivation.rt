@@ -1,3 +1,4 @@
+//! Derivations of trees, and the numbers of their rules in preorder.
 ghost use Rattle.std.specs.Prelude.{◌≡◌, ◌++◌, IfOk, OnOk};
 ghost use Rattle.lburg_model.specs.Derivation.{numbers};
 ghost use Rattle.lburg_model.specs.DerivationOf.{derivation_of};

@@ -1,3 +1,4 @@
+//! Descriptions of tree grammars, with access to their parts.
 ghost use Rattle.std.specs.Prelude.{◌≡◌};
 ghost use Rattle.lburg_model.specs.Description.{MDescription, IsDescription};
 ghost use Rattle.lburg_model.specs.NamesOf.{operator_name, nonterminal_name};

@@ -1,3 +1,4 @@
+//! The patterns of rules, with operators and nonterminals as numbers.
 /// A tree of operators with nonterminals among its leaves. An operator is the place of its
 /// terminal in the declarations, from 1; a nonterminal is its place in the order of the first
 /// rules with it as left side, from 0.

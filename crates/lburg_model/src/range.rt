@@ -1,3 +1,4 @@
+//! Ranges of constants, to which a rule may be restricted.
 ghost use Rattle.std.specs.Prelude.{◌↔◌, IsTrue};
 ghost use Rattle.lburg_model.specs.Range.{Contains};
 

@@ -1,3 +1,4 @@
+//! Rules of a tree grammar, and to which constants they apply.
 ghost use Rattle.std.specs.Prelude.{◌↔◌, IsTrue};
 ghost use Rattle.lburg_model.specs.Range.{IsMet};
 

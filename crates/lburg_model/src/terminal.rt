@@ -1,3 +1,4 @@
+//! The terminals of a tree grammar: names, numbers and arities.
 use lcc_base::Bytes;
 
 /// A declared operator.

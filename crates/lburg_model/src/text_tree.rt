@@ -1,3 +1,4 @@
+//! The trees that are read from a text, as nodes in memory that hold their operands.
 ghost use Rattle.std.specs.Prelude.{◌≡◌, ◌≤◌, length};
 ghost use Rattle.lburg_model.specs.Shape.{tree_of};
 

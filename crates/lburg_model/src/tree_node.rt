@@ -1,3 +1,4 @@
+//! The interface by which trees of any representation are labelled and reduced.
 ghost use Rattle.std.specs.Prelude.{◌≡◌, ◌<◌, length, Some, slice_get};
 ghost use Rattle.lburg_model.specs.Tree.{MTree, op_of, value_of, kids_of};
 

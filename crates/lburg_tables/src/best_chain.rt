@@ -1,3 +1,4 @@
+//! The best chains of chain rules between nonterminals, as the tables keep them.
 /// A chain from one nonterminal to another that none is less than: chain rules without a range, one
 /// applied after another.
 #[derive(Clone, Copy, Debug, Drop)]

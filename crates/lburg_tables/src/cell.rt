@@ -1,3 +1,4 @@
+//! The cells of a labelling: the best derivation of each nonterminal at a node, and their order.
 ghost use Rattle.std.specs.Prelude.{◌≡◌, ◌↔◌, ◌<◌, ◌≤◌, ℕ, IsTrue, Some, length};
 ghost use Rattle.lburg_tables.specs.Row.{CellAt, Leq3, Beats, Offered};
 ghost use Rattle.lburg_tables.specs.RowOf.{seen, key_of, row_of};

@@ -1,3 +1,4 @@
+//! The closure of a node's cells under the chain rules, least cell first.
 ghost use Rattle.std.specs.Prelude.{◌≡◌, ℕ, ◌+◌, ◌-◌, ◌^◌, ◌<◌, ◌≤◌, length, Option, None, Some};
 ghost use Rattle.lburg_tables.specs.Root.{Chain};
 ghost use Rattle.lburg_tables.specs.Places.{with_root};

@@ -1,3 +1,4 @@
+//! The tables by which trees are labelled, and how they are built from a description.
 ghost use Rattle.std.specs.Prelude.{◌≡◌, ◌↔◌, ℕ, ◌+◌, ◌-◌, ◌^◌, ◌<◌, ◌≤◌, IfOk, IsTrue, length};
 ghost use Rattle.lburg_model.specs.Description.{MDescription, IsDescription};
 ghost use Rattle.lburg_tables.specs.IsTables.{IsTables};

@@ -1,3 +1,4 @@
+//! The command `lburg cover`: each tree of the tail is labelled, reduced and printed as a line.
 ghost use Rattle.std.specs.Prelude.{◌≡◌, ◌+◌, ◌<◌, ◌≤◌, ◌-◌, List, length, IfOk, OnOk, IsErrOf};
 ghost use Rattle.lburg_model.specs.Tree.{MTree, nodes};
 ghost use Rattle.lburg_model.specs.CoverText.{IsCoverText, no_cover_line};

@@ -1,3 +1,4 @@
+//! Laws of the commands: no input is both accepted and refused, or refused in two ways.
 ghost use Rattle.std.specs.Prelude.{◌≡◌, ℕ, List};
 ghost use Rattle.outcomes.specs.declared.outcome.Refusal.{Refusal};
 ghost use Rattle.outcomes.specs.Behaviour.{IsApart};

@@ -1,3 +1,4 @@
+//! The printer that gathers a command's output and remembers a refused allocation.
 ghost use Rattle.std.specs.Prelude.{◌≡◌, ◌++◌, [], false, codes, decimal};
 ghost use Rattle.lburg_tool.specs.Printing.{Adds};
 

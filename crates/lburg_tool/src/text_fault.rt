@@ -1,3 +1,4 @@
+//! What stops a command on its text, and the refusals that stand for the readers' faults.
 ghost use Rattle.std.specs.Prelude.{◌≡◌};
 ghost use Rattle.lburg_tool.specs.TextFaults.{of_description, of_trees};
 ghost use Rattle.lburg_tool.specs.declared.text_fault.TextFault.TheVariants as fault;

@@ -1,3 +1,4 @@
+//! A table of the terminals' names, with guesses that spare most look-ups.
 ghost use Rattle.std.specs.Prelude.{◌≡◌, ◌<◌, ◌≤◌, List, length, IfSome};
 ghost use Rattle.std.specs.Int.RustNames.{bit_and};
 ghost use Rattle.lburg_model.specs.declared.terminal.Terminal.{Terminal as Terminals};

@@ -1,3 +1,4 @@
+//! The faults that a single line of trees can have, before they are told with its number.
 ghost use Rattle.std.specs.Prelude.{◌≡◌};
 ghost use Rattle.lburg_trees.specs.FirstFault.{told};
 

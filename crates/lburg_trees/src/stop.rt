@@ -1,3 +1,4 @@
+//! What stops the reading of a line's tree: a fault at a token, or a refused allocation.
 ghost use Rattle.std.specs.Prelude.{◌≡◌, ℕ};
 ghost use Rattle.lburg_trees.specs.declared.row.Row.{Row as Rows};
 ghost use Rattle.lburg_trees.specs.FirstFault.{told};

@@ -1,3 +1,4 @@
+//! The faults of the trees behind a description, with their lines.
 ghost use Rattle.std.specs.Prelude.{◌≡◌};
 
 use lcc_base::Memory;

@@ -1,3 +1,4 @@
+//! The interface by which a reader hands over trees one by one, and lists that gather them.
 ghost use Rattle.std.specs.Prelude.{◌≡◌, ◌≤◌, ◌+◌, ◌++◌, ◌∷◌, [], ℕ, OnOk};
 ghost use Rattle.lburg_model.specs.Tree.{MTree, nodes};
 

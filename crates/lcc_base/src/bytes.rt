@@ -1,3 +1,4 @@
+//! Owned strings of bytes, whose growth reports a refused allocation.
 ghost use Rattle.std.specs.Prelude.{◌≡◌, ◌++◌, ◌∷◌, ◌↔◌, [], List, ℕ, length, IsTrue, IfOk, OnOk, OnErr};
 
 use crate::Memory;

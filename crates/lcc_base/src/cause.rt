@@ -1,3 +1,4 @@
+//! The causes of undefined behaviour in a C program's run, and their names.
 ghost use Rattle.std.specs.Prelude.{◌≡◌};
 
 /// Why a C program's run is undefined.

@@ -1,3 +1,4 @@
+//! Copying between slices of different lengths.
 ghost use Rattle.std.specs.Prelude.{◌≡◌, length, min, take};
 
 /// Copies as many bytes as there are and fit, and gives how many.

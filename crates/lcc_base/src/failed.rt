@@ -1,3 +1,4 @@
+//! The error of sources and sinks.
 use thiserror::Error;
 
 /// A read failed, or a write did. What the source had left, or the sink had taken, is as before.

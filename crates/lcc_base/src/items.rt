@@ -1,3 +1,4 @@
+//! Owned sequences of values, over the vectors of the standard library.
 ghost use Rattle.std.specs.Prelude.{◌≡◌, ◌<◌, ◌++◌, ◌∷◌, ◌↔◌, [], length, IsTrue, Some, IfOk, OnOk, OnErr, slice_get};
 
 use crate::Memory;

@@ -1,3 +1,4 @@
+//! The error of a refused allocation, which the errors of std's allocations become.
 use std::alloc::{AllocError, AllocFailed};
 use thiserror::Error;
 

@@ -1,3 +1,4 @@
+//! Big-endian and little-endian byte order, and how numbers are split and joined in either.
 ghost use Rattle.std.specs.Prelude.{◌≡◌, ◌<◌, ◌⊎◌, length, All};
 ghost use Rattle.lcc_base.specs.NumberIn.{number_in};
 

@@ -1,3 +1,4 @@
+//! The ways in which the reading of a whole input fails.
 ghost use Rattle.std.specs.Prelude.{◌≡◌};
 ghost use Rattle.lcc_base.specs.declared.read_end.ReadEnd.TheVariants.{Failed, Memory};
 

@@ -1,3 +1,4 @@
+//! The interface of what gives bytes: reads that may be short, and a count of faults.
 ghost use Rattle.std.specs.Prelude.{ℕ, ◌-◌, ◌^◌, ◌≤◌, List};
 ghost use Rattle.std.specs.declared.option.Option.{Option};
 ghost use Rattle.std.specs.Io.{ReadsAtMost};

@@ -1,3 +1,4 @@
+//! A counter of steps that exists for contracts alone and takes no room at run time.
 ghost use Rattle.std.specs.Prelude.{◌≡◌, ℕ, ◌+◌, ◌<◌};
 
 use std::marker::Model;

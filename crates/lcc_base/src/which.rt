@@ -1,3 +1,4 @@
+//! The limits of inputs and results, and their names in reports.
 ghost use Rattle.std.specs.Prelude.{◌≡◌};
 
 /// A limit of the program's inputs, by what it counts.

@@ -1,3 +1,4 @@
+//! Reading a source to its end, and writing all of a slice to a sink.
 ghost use Rattle.std.specs.Prelude.{◌≡◌, ◌≤◌, length, IfOk, OnOk, OnErr, IsErrOf};
 ghost use Rattle.std.specs.Io.KnownBytes.{Consumes, IsAtEnd, Appends};
 ghost use Rattle.lcc_base.specs.Faults.{Rose, HasCause};

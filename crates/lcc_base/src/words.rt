@@ -1,3 +1,4 @@
+//! Arithmetic of signed 32-bit words: wrapping, and C's quotient and remainder.
 ghost use Rattle.std.specs.Prelude.{◌≡◌, ◌^◌, ◌⊎◌, ◌↔◌, pos, negsuc, IsNone, IfSome};
 ghost use Rattle.std.specs.Int.{w32, int_wrap, int_rem_euclid};
 ghost use Rattle.std.specs.Int.RustNames.{int_div, int_rem};

@@ -1,3 +1,4 @@
+//! Classes of bytes, and those from which the tokens of a description are made.
 ghost use Rattle.std.specs.Prelude.{◌≡◌, ℕ, Bool};
 
 /// A kind of byte.

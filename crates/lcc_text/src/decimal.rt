@@ -1,3 +1,4 @@
+//! The values of decimal numerals, up to a limit.
 ghost use Rattle.std.specs.Prelude.{◌≡◌, ◌<◌, ◌≤◌, IfSome, IfNone};
 ghost use Rattle.lcc_text.specs.Decimal.{value_of};
 

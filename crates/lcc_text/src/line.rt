@@ -1,3 +1,4 @@
+//! Cutting a text into its lines.
 ghost use Rattle.std.specs.Prelude.{◌≡◌, ◌≢◌, ◌<◌, ◌≤◌, ◌∷◌, ℕ, [], length, slice_index, IfSome, IfNone};
 ghost use Rattle.lcc_text.specs.Lines.{lines_of};
 

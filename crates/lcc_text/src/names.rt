@@ -1,3 +1,4 @@
+//! Numbering names by the order of their first use.
 ghost use Rattle.std.specs.Prelude.{◌≡◌, IfOk, slice_get, Some};
 ghost use Rattle.lcc_text.specs.Names.{bytes_of, with_name, place_of};
 

@@ -1,3 +1,4 @@
+//! Runs of bytes of one class at the front of a text.
 ghost use Rattle.std.specs.Prelude.{◌≡◌, ◌≤◌, length, take, drop, false, IsTrue};
 ghost use Rattle.lcc_text.specs.Classes.{AllIn, StartsIn, StopsIn};
 

@@ -1,3 +1,4 @@
+//! The entry to the commands: from the words of a call to its output, report and exit status.
 ghost use Rattle.std.specs.Prelude.{◌≡◌, ◌<◌, ◌≤◌, ◌⊎◌, ℕ, List, Some, true, map, string_bytes, length};
 ghost use Rattle.std.specs.Io.KnownBytes.{Keeps};
 ghost use Rattle.lcc_base.specs.Faults.{Rose};

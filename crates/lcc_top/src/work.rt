@@ -1,3 +1,4 @@
+//! Running a command: its input is read within the limit, and its work is done on it.
 ghost use Rattle.std.specs.Prelude.{◌≤◌, length, map, string_bytes};
 ghost use Rattle.command_words.specs.Commands.{reads};
 ghost use Rattle.outcomes.specs.Call.{Call, IsCausedBy};

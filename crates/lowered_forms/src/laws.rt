@@ -1,3 +1,4 @@
+//! Laws of lowering: it only adds to blocks, and an expression's value is found in its block.
 ghost use Rattle.lowered_forms.specs.Blocks.{AnswersAreAsked, LoneRootsAreThere, RootsAreThere, TemplatesAreThere};
 ghost use Rattle.lowered_forms.specs.Handed.{ExpressionsAreNodes};
 ghost use Rattle.lowered_forms.specs.Later.{FrontsGoBack, LoweringAdds, StraightGoesOn, TestingAdds};

@@ -1,3 +1,4 @@
+//! The buffer in which a run's printed bytes are gathered for its output.
 ghost use Rattle.std.specs.Prelude.{◌≡◌, ◌++◌, ◌∷◌, List, ℕ, [], OnOk, OnErr};
 ghost use Rattle.std.specs.Io.KnownBytes.{Appends};
 ghost use Rattle.lcc_base.specs.Faults.{HasCause};

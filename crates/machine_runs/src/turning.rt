@@ -1,3 +1,4 @@
+//! The interface of machines that are run step by step, and the outcomes of a step.
 ghost use Rattle.std.specs.Prelude.{◌≡◌, ℕ, List};
 ghost use Rattle.asm_text.specs.Runs.{MStep};
 ghost use Rattle.machine_runs.specs.Turns.{IsTurned};

@@ -1,3 +1,4 @@
+//! The execution of decoded instructions by the processor.
 ghost use Rattle.std.specs.Prelude.{◌≡◌, ◌<◌, ◌+◌, if◌then◌else◌};
 ghost use Rattle.asm_text.specs.Addresses.{data_start};
 ghost use Rattle.mips_machine.specs.Did.{Did};

@@ -1,3 +1,4 @@
+//! What the built-in functions do to registers and input.
 ghost use Rattle.std.specs.Prelude.{◌≡◌, ◌+◌, ◌∷◌, [], drop, MatchOption};
 ghost use Rattle.mips_machine.specs.StepTable.{returned, lost, without};
 

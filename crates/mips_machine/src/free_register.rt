@@ -1,3 +1,4 @@
+//! Registers that an instruction may write without a check: all but `$0` and `$29`.
 ghost use Rattle.std.specs.Prelude.{◌≡◌, ◌≢◌, ◌<◌, IfSome};
 
 use asm_text::Register;

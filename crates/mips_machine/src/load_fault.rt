@@ -1,3 +1,4 @@
+//! The ways in which the loading of a program fails.
 ghost use Rattle.std.specs.Prelude.{◌≡◌};
 ghost use Rattle.mips_machine.specs.declared.load_fault.LoadFault.TheVariants as fault;
 

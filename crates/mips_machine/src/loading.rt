@@ -1,3 +1,4 @@
+//! Loading: a program is linked and decoded, and its machine stands at `main`.
 ghost use Rattle.std.specs.Prelude.{◌≡◌, ℕ, ◌≤◌, IfOk, IfErr, IsErrOf};
 ghost use Rattle.asm_text.specs.IsProgram.{IsProgram};
 ghost use Rattle.asm_text.specs.Linked.{linked_code, linked_data, HasMain};

@@ -1,3 +1,4 @@
+//! The MIPS machine: decoded code, byte order and processor, run one step at a time.
 ghost use Rattle.std.specs.Prelude.{◌≡◌, ◌≢◌, ℕ, ◌%◌, ◌<◌, ◌≤◌, List, [], ◌∷◌, Some, None, Option, drop, length, map, IfSome, slice_get};
 ghost use Rattle.std.specs.Option.{option_copied, option_map};
 ghost use Rattle.asm_lines.specs.declared.instruction.Instruction.{Instruction};

@@ -1,3 +1,4 @@
+//! Loads and stores of bytes, halfwords and words in the machine's memory.
 ghost use Rattle.std.specs.Prelude.{◌≡◌, ◌⊎◌, ℕ, ◌+◌, ◌-◌, ◌<◌, ◌≤◌, [], ◌∷◌, true, false, length, IfOk, IfErr, OnOk, OnErr, MatchOption};
 ghost use Rattle.asm_text.specs.Addresses.{data_start, floor_of};
 ghost use Rattle.asm_text.specs.Linked.{half_bytes, word_bytes};

@@ -1,3 +1,4 @@
+//! The processor's state: registers, static data, stack and program counter.
 ghost use Rattle.std.specs.Prelude.{◌≡◌, ◌+◌, ◌-◌, ◌%◌, ◌<◌, ◌≤◌, length, slice_set};
 ghost use Rattle.asm_text.specs.Addresses.{data_start, floor_of};
 ghost use Rattle.mips_machine.specs.Did.{Did};

@@ -1,3 +1,4 @@
+//! The outcomes of a step that leaves its printing to the caller.
 use asm_text::Step;
 
 /// What a step does whose printing is left to the caller.

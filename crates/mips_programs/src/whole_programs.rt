@@ -1,3 +1,4 @@
+//! Laws of whole programs: the generated MIPS code runs as the forests from which it came.
 ghost use Rattle.mips_programs.specs.WholePrograms.{ProgramsAgree};
 
 /// Each generated unit does on the machine what its forests do, in both directions: its function

@@ -1,3 +1,4 @@
+//! The semantic actions of the MIPS rules: which code each one emits and what it hands up.
 use crate::arithmetic::Arithmetic;
 
 /// What a rule adds to the code and hands up.

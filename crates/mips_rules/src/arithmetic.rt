@@ -1,3 +1,4 @@
+//! The arithmetic operations of MIPS instructions that the rules select.
 /// What a word is made of two by, modulo 2^32.
 #[derive(Clone, Copy, Debug, PartialEq, Eq)]
 pub enum Arithmetic {

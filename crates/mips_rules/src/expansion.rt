@@ -1,3 +1,4 @@
+//! The expansion of rules into MIPS instructions, as their actions say.
 ghost use Rattle.std.specs.Prelude.{◌≡◌, ◌<◌, ◌≤◌, ◌||◌, true, ℕ, List, length, map, Some, slice_get, option_to_list};
 ghost use Rattle.lburg_model.specs.Pattern.{MPattern};
 ghost use Rattle.op_forest.specs.Nodes.{Node, head_of};

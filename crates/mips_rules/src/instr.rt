@@ -1,3 +1,4 @@
+//! The MIPS instructions of generated code, with those that load and store spill slots.
 use crate::arithmetic::Arithmetic;
 use vcode::Reg;
 

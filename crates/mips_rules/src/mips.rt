@@ -1,3 +1,4 @@
+//! MIPS as a target of register allocation: operands, clobbers at calls, spills and copies.
 ghost use Rattle.std.specs.Prelude.{◌≡◌, [], ◌∷◌, slice_get};
 ghost use Rattle.vcode.specs.Machines.{reads_one, writes_one};
 ghost use Rattle.mips_rules.specs.Instructions.{operands, source_operands, rename, with_source};

@@ -1,3 +1,4 @@
+//! The shipped MIPS description, built from its tables of terminals, nonterminals and rules.
 ghost use Rattle.std.specs.Prelude.{◌≡◌, ℕ, List, Option, map, IfOk};
 ghost use Rattle.lburg_model.specs.Pattern.{pattern_of};
 ghost use Rattle.vcode.specs.RuleSets.{row_of};

@@ -1,3 +1,4 @@
+//! The MIPS rule set for instruction selection: the description together with its expansion.
 ghost use Rattle.std.specs.Prelude.{◌≡◌, map, IfOk};
 ghost use Rattle.vcode.specs.RuleSets.{row_of};
 ghost use Rattle.mips_rules.specs.MipsRows.{nonterminals, stmt, rows, costs, ranges};

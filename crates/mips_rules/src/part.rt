@@ -1,3 +1,4 @@
+//! The values that nonterminals of the MIPS rules hand up to the rules above them.
 use vcode::Reg;
 
 /// What a nonterminal of MIPS's rules hands up.

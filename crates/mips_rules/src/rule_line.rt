@@ -1,3 +1,4 @@
+//! The table of the MIPS rules: patterns, templates, costs and actions.
 use crate::action::Action;
 use crate::arithmetic::Arithmetic;
 

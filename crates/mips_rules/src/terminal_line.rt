@@ -1,3 +1,4 @@
+//! The table of the terminals: lcc's operators with their numbers and arities.
 /// The terminals of the shipped description, in order: the name, the number, and how many operands
 /// there are where a rule uses it.
 /// Source: Fraser and Hanson, A Retargetable C Compiler, chapter 5.

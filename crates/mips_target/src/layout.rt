@@ -1,3 +1,4 @@
+//! The layout of a MIPS stack frame: outgoing arguments, spill slots and the return address.
 ghost use Rattle.std.specs.Prelude.{◌≡◌, ◌+◌, ◌≤◌, ◌<◌, ◌^◌};
 ghost use Rattle.std.specs.Int.RustNames.{unsigned_abs};
 ghost use Rattle.mips_target.specs.Frame.{slot_place, return_place, frame_size};

@@ -1,3 +1,4 @@
+//! Whether the MIPS rules cover a forest, so that code can be generated for it.
 ghost use Rattle.std.specs.Prelude.{◌≡◌, ◌↔◌, IsTrue};
 ghost use Rattle.op_forest.specs.EachNode.{AtEachNode};
 ghost use Rattle.forests.specs.HasRules.{HasRule, IsRuled, HasRules};

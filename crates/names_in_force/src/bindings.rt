@@ -1,3 +1,4 @@
+//! The stack of bindings, with names numbered and typedef names looked up at once.
 ghost use Rattle.std.specs.Prelude.{◌≡◌, ◌<◌, ◌≤◌, ◌-◌, ◌++◌, ◌∷◌, [], false, length, take, drop, get_or, reverse, Some, slice_get, IfOk, OnOk, OnErr};
 ghost use Rattle.c_ast.specs.InForce.{look_in};
 

@@ -1,3 +1,4 @@
+//! One entry in the stack of bindings.
 /// A binding of a name, by the name's number.
 #[derive(Clone, Copy, Debug)]
 pub(crate) struct Bound {

@@ -1,3 +1,4 @@
+//! The names in force by scope, from which a parser tells typedef names from other identifiers.
 ghost use Rattle.std.specs.Prelude.{◌≡◌, IfOk, OnOk, OnErr};
 ghost use Rattle.c_ast.specs.InForce.{nothing_in_force, is_typedef, put, opened, closed, closed_kept, reopened, forgotten};
 

@@ -1,3 +1,4 @@
+//! Bytes of an object's representation: bits known in part, or pieces of a pointer.
 ghost use Rattle.std.specs.Prelude.{◌≡◌};
 ghost use Rattle.objects.specs.Bytes.{known_of, value_of, part_bits_of, settled_of, has_unknown_bits, has_parts};
 

@@ -1,3 +1,4 @@
+//! Bit-fields: where one stands in its unit of storage, its width and its sign.
 /// A bit-field's place in its unit of four bytes.
 /// Source: C89, 3.5.2.1; big-endian machines fill a unit from its most significant bit, little-endian
 /// ones from the least.

@@ -1,3 +1,4 @@
+//! The operators of integer arithmetic: unary ones, binary ones and comparisons.
 /// An operation on one integer.
 #[derive(Clone, Copy, Debug, PartialEq, Eq)]
 pub enum Unary {

@@ -1,3 +1,4 @@
+//! The address of a byte: an object that lives and an offset into it.
 /// A byte of an object that lives.
 #[derive(Clone, Copy)]
 pub struct Place {

@@ -1,3 +1,4 @@
+//! The purposes of a store, which decide whether a const object takes it.
 /// What bytes of an object are written for.
 /// Source: C89, 3.5.3 and 3.5.7.
 #[derive(Clone, Copy, Debug, PartialEq, Eq)]

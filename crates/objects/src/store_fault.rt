@@ -1,3 +1,4 @@
+//! The faults of a store: undefined behaviour, or an allocation that was refused.
 use lcc_base::{Cause, Memory};
 use thiserror::Error;
 

@@ -1,3 +1,4 @@
+//! The values of scalars: numbers, pointers into named objects, and functions.
 /// The name of an object: where it stands among those that live, the how-manieth made it is, and how
 /// many bytes it has. A place is used again when its object's lifetime is over; a number isn't.
 #[derive(Clone, Copy, Debug, PartialEq, Eq)]

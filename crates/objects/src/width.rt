@@ -1,3 +1,4 @@
+//! The scalar types as storage sees them: a width in bytes, and whether there is a sign.
 ghost use Rattle.std.specs.Prelude.{◌≡◌, ◌≤◌};
 ghost use Rattle.objects.specs.Values.{bytes_in};
 

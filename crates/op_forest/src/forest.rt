@@ -1,3 +1,4 @@
+//! Forests: the trees of a function's body in order, over its frame.
 ghost use Rattle.std.specs.Prelude.{◌≡◌, IfOk};
 
 use crate::frame::Frame;

@@ -1,3 +1,4 @@
+//! Stack frames: slots that don't overlap, below the frame's top.
 ghost use Rattle.std.specs.Prelude.{◌≡◌, ◌++◌, [], IfOk, OnOk, OnErr};
 ghost use Rattle.op_forest.specs.Frames.{IsFrame, lowest, lowest_from};
 

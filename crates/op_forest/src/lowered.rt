@@ -1,3 +1,4 @@
+//! Lowered units, the input of code selection: functions as forests, objects as data, and names.
 ghost use Rattle.std.specs.Prelude.{◌≡◌};
 ghost use Rattle.op_forest.specs.Lowered.{LoweredUnit, IsLowered};
 

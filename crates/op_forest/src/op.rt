@@ -1,3 +1,4 @@
+//! The generic operators of the intermediate code, without their types.
 ghost use Rattle.std.specs.Prelude.{◌≡◌};
 
 /// What an operator does, whatever the type of its value.

@@ -1,3 +1,4 @@
+//! Typed operators: their numbers, the types of their operands, and whether they give a value.
 ghost use Rattle.std.specs.Prelude.{◌≡◌};
 ghost use Rattle.op_forest.specs.Operators.{number};
 ghost use Rattle.op_forest.specs.Signature.{takes, gives_value, moves};

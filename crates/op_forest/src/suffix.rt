@@ -1,3 +1,4 @@
+//! The type suffixes of the operators, from char to void.
 /// The type of an operator's value.
 /// Source: Fraser and Hanson, A Retargetable C Compiler, chapter 5.
 #[derive(Clone, Copy, Debug, PartialEq, Eq)]

@@ -1,3 +1,4 @@
+//! The symbols of nodes: globals with an offset, labels, and the layouts of blocks.
 /// The symbol of a node.
 /// Source: Fraser and Hanson, A Retargetable C Compiler, chapter 5.
 #[derive(Clone, Copy, Debug, PartialEq, Eq)]

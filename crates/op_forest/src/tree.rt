@@ -1,3 +1,4 @@
+//! Trees of operators, the intermediate code on which code selection works.
 ghost use Rattle.std.specs.Prelude.{◌≡◌, ◌≤◌, ◌∷◌, length, [], IfOk};
 ghost use Rattle.lburg_model.specs.Tree.{kids_of as tree_kids};
 ghost use Rattle.op_forest.specs.Nodes.{Node, head_of, tree_of};

@@ -1,3 +1,4 @@
+//! The faults that a report names, of descriptions, tails, assembly and C sources.
 ghost use Rattle.std.specs.Prelude.{◌≡◌};
 
 /// A fault of a description, of its tail, of assembly or of a C source, by the name that the report tells.

@@ -1,3 +1,4 @@
+//! The outcomes of a command, done or refused or failed, and the exit status of each.
 ghost use Rattle.std.specs.Prelude.{◌≡◌};
 ghost use Rattle.outcomes.specs.Outcome.{end_status, refusal_status};
 

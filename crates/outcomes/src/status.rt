@@ -1,3 +1,4 @@
+//! The statuses with which a call ends, and their numbers as exit statuses.
 ghost use Rattle.std.specs.Prelude.{◌≡◌};
 
 /// How a call of `top` ended.

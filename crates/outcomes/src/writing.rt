@@ -1,3 +1,4 @@
+//! The writing of a command's text to its output, and the outcome of that.
 ghost use Rattle.std.specs.Prelude.{◌≤◌};
 ghost use Rattle.outcomes.specs.Work.{HasWritten};
 

@@ -1,3 +1,4 @@
+//! Laws of the runs of split bodies: how a run enters, follows and leaves each block.
 ghost use Rattle.piece_runs.specs.Laws.{EntriesAreReached, FormedIsSplit, JumpIsReached, LabelIsReached, NextIsReached, NodeIsReached, OverIsReached, StartIsReached, TailsAreSame};
 
 use dag_forest::blocks_are_split;

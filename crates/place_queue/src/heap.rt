@@ -1,3 +1,4 @@
+//! A binary heap of places by their keys, with an index from each place to its entry.
 ghost use Rattle.std.specs.Prelude.{◌≡◌, ◌+◌, ◌-◌, ◌*◌, ◌^◌, ◌<◌, ◌↔◌, IsTrue, length, slice_set, slice_index_or};
 ghost use Rattle.place_queue.specs.declared.key.Key.{Key};
 ghost use Rattle.place_queue.specs.Leq.{Leq};

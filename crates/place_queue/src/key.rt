@@ -1,3 +1,4 @@
+//! The keys of the queue, ordered by cost, then by count.
 ghost use Rattle.std.specs.Prelude.{◌↔◌, IsTrue};
 ghost use Rattle.place_queue.specs.Leq.{Leq};
 

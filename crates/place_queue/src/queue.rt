@@ -1,3 +1,4 @@
+//! A priority queue of places, in which the key of a place that waits may be lowered.
 ghost use Rattle.std.specs.Prelude.{◌≡◌, ◌-◌, ◌^◌, ◌<◌, length, replicate, slice_set, slice_index_or, IfOk};
 ghost use Rattle.place_queue.specs.declared.key.Key.{Key};
 ghost use Rattle.place_queue.specs.Leq.{Leq};

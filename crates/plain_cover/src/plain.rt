@@ -1,3 +1,4 @@
+//! An exhaustive search for a tree's best derivation, without tables or labels.
 ghost use Rattle.std.specs.Prelude.{◌≡◌, ℕ, ◌+◌, ◌*◌, ◌^◌, ◌<◌, ◌≤◌, ◌↔◌, IsTrue, length, IfOk, IfSome, IfNone, slice_get};
 ghost use Rattle.lburg_model.specs.Tree.{MTree, nodes, op_of, kids_of, value_of};
 ghost use Rattle.lburg_model.specs.Range.{IsMet};

@@ -1,3 +1,4 @@
+//! The faults of an input that a command can't make anything of.
 ghost use Rattle.std.specs.Prelude.{◌≡◌};
 ghost use Rattle.rcc_tool.specs.InputFaults.{of_program};
 ghost use Rattle.rcc_tool.specs.declared.input_fault.InputFault.TheVariants as fault;

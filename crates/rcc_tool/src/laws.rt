@@ -1,3 +1,4 @@
+//! Laws of `rcc`: an input is compiled or refused, not both, and for one reason at most.
 ghost use Rattle.std.specs.Prelude.{◌≡◌, ℕ, List};
 ghost use Rattle.outcomes.specs.declared.outcome.Refusal.{Refusal};
 ghost use Rattle.outcomes.specs.Behaviour.{IsApart};

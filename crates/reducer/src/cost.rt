@@ -1,3 +1,4 @@
+//! The cost of a labelled tree's best derivation, and the number of its rules.
 ghost use Rattle.std.specs.Prelude.{◌≡◌, ◌+◌, IfSome, IfNone};
 ghost use Rattle.lburg_model.specs.Tree.{MTree};
 ghost use Rattle.lburg_model.specs.Derivation.{MDerivation, cost, count};

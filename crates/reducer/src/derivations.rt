@@ -1,3 +1,4 @@
+//! The best derivations of labelled trees, built as trees of rules.
 ghost use Rattle.std.specs.Prelude.{◌≡◌, ◌≢◌, ℕ, ◌^◌, ◌<◌, ◌≤◌, None, All, map, length, IfOk, OnOk};
 ghost use Rattle.lburg_model.specs.Tree.{MTree, nodes};
 ghost use Rattle.lburg_model.specs.Pattern.{pattern_of};

@@ -1,3 +1,4 @@
+//! The reducer: a visitor is shown the rules of a labelled tree's best derivation, one at a time.
 ghost use Rattle.std.specs.Prelude.{◌≡◌, ◌≢◌, ℕ, ◌-◌, ◌^◌, ◌<◌, ◌≤◌, None, Some, length, slice_get};
 ghost use Rattle.lburg_model.specs.Tree.{MTree};
 ghost use Rattle.lburg_model.specs.Pattern.{pattern_of};

@@ -1,3 +1,4 @@
+//! Laws of `simrun`: an input is run or refused, not both, and a runnable one isn't refused.
 ghost use Rattle.std.specs.Prelude.{◌≡◌, ℕ, List};
 ghost use Rattle.outcomes.specs.declared.outcome.Refusal.{Refusal};
 ghost use Rattle.outcomes.specs.Behaviour.{IsApart};

@@ -1,3 +1,4 @@
+//! Register allocation by spilling: each virtual register has a stack slot of its own.
 ghost use Rattle.std.specs.Prelude.{◌≡◌, ℕ, ◌+◌, ◌-◌, ◌<◌, ◌≤◌, ◌^◌, ◌++◌, ◌∷◌, [], length, IfOk, OnOk};
 ghost use Rattle.vcode.specs.VirtualCode.{AreBelow};
 ghost use Rattle.slot_allocator.specs.Slots.{slot_of, is_loaded, is_stored, loads, stores, renamed, spilled, allotted, AreTemporaries, NamesKept};

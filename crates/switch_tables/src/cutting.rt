@@ -1,3 +1,4 @@
+//! A switch's cases are sorted and cut into jump tables of which at least half is filled.
 ghost use Rattle.std.specs.Prelude.{◌≡◌, ◌≢◌, ◌<◌, ◌≤◌, ◌*◌, ◌^◌, ◌∷◌, [], ℕ, Bool, true, length, take, drop, map, nat_le, IfOk, OnOk, ◌+◌};
 ghost use Rattle.c_meaning.specs.Units.{are_apart, numbers};
 ghost use Rattle.switch_tables.specs.Cases.{AreWords, label_of};

@@ -1,3 +1,4 @@
+//! Laws of jump tables: how cases are sorted and cut, where numbers lead, how deep searches go.
 ghost use Rattle.switch_tables.specs.Laws.{AreCut, AreFew, AreGreedy, AreHalfFull, AreKnown, AreRanked, AreSame, AreSearched, AreShallow, AreTables, IsOnlyCut, Lead};
 
 /// Cases in rising order are the cases: each number has the label that it had, and is below those behind it.

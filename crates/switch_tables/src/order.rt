@@ -1,3 +1,4 @@
+//! The order of a switch's cases by their numbers, signed or unsigned.
 ghost use Rattle.std.specs.Prelude.{◌≡◌, ◌<◌, ◌^◌, true, IfOk, OnOk};
 ghost use Rattle.c_meaning.specs.Units.{are_apart, numbers};
 ghost use Rattle.switch_tables.specs.Cases.{AreWords};

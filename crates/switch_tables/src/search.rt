@@ -1,3 +1,4 @@
+//! Binary search over jump tables for the label to which a number leads.
 ghost use Rattle.std.specs.Prelude.{◌≡◌, ◌+◌, ◌-◌, ◌%◌, ◌<◌, ◌^◌, ◌++◌, ◌∷◌, [], length, slice_index_or, MatchOption};
 ghost use Rattle.objects.specs.Arithmetic.{is_less};
 ghost use Rattle.switch_tables.specs.Cuts.{offset};

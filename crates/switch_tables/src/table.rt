@@ -1,3 +1,4 @@
+//! Jump tables: labels for numbers in a row.
 use lcc_base::Items;
 
 /// The labels to which numbers that follow each other modulo 2^32 lead, from `low` on.

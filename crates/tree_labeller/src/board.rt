@@ -1,3 +1,4 @@
+//! The board of a tree's labels: a row of cells for each node, in preorder.
 ghost use Rattle.std.specs.Prelude.{◌≡◌, ◌≢◌, ℕ, None, Some, ◌+◌, ◌*◌, ◌-◌, ◌^◌, ◌<◌, ◌≤◌, IfOk, length, slice_get};
 ghost use Rattle.tree_labeller.specs.Labelled.{cell, end_of};
 ghost use Rattle.tree_labeller.specs.MCells.{MCells, HasRoom, room};

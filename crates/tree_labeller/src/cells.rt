@@ -1,3 +1,4 @@
+//! The memory of the labeller, reserved once and used again for each tree.
 ghost use Rattle.std.specs.Prelude.{◌≡◌, ◌*◌, ◌-◌, ◌^◌, ◌<◌, IfOk};
 ghost use Rattle.tree_labeller.specs.MCells.{MCells, HasRoom, room};
 

@@ -1,3 +1,4 @@
+//! The labeller: it fills the rows of a tree from the leaves up.
 ghost use Rattle.std.specs.Prelude.{◌≡◌, ℕ, ◌+◌, ◌*◌, ◌-◌, ◌^◌, ◌<◌, ◌≤◌, ◌⊎◌, length, slice_get};
 ghost use Rattle.lburg_model.specs.Tree.{nodes, op_of, kids_of, value_of};
 ghost use Rattle.tree_labeller.specs.Labelled.{Started, KidsLabelled, area, Labelled};

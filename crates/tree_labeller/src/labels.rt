@@ -1,3 +1,4 @@
+//! The labels of a tree as they are read: cells, subtrees' ends, and the rules chosen.
 ghost use Rattle.std.specs.Prelude.{◌≡◌, ◌≢◌, ◌+◌, ◌-◌, ◌≤◌, None, Some, length, slice_get};
 ghost use Rattle.lburg_model.specs.Tree.{nodes};
 ghost use Rattle.tree_labeller.specs.MCells.{MCells};

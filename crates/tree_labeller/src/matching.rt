@@ -1,3 +1,4 @@
+//! Matching of patterns on labelled subtrees, with the least cost at which a rule fits.
 ghost use Rattle.std.specs.Prelude.{◌≡◌, ◌+◌, ◌*◌, ◌-◌, ◌^◌, ◌<◌, ◌≤◌, length, IfSome};
 ghost use Rattle.lburg_model.specs.Tree.{nodes};
 ghost use Rattle.lburg_model.specs.Pattern.{pattern_of, POne, PTwo};

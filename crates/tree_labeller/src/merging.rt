@@ -1,3 +1,4 @@
+//! The closure of a row under the chain rules, with ranges or without.
 ghost use Rattle.std.specs.Prelude.{◌≡◌, ℕ, ◌+◌, ◌^◌, ◌<◌, ◌≤◌, ◌-◌, ℤ, Option, length};
 ghost use Rattle.lburg_tables.specs.Leads.{HasRanged};
 ghost use Rattle.lburg_tables.specs.Row.{CellAt, Offered, Closed, IsCheap};

@@ -1,3 +1,4 @@
+//! The sizes of trees in nodes, by which room for their labels is reserved.
 ghost use Rattle.std.specs.Prelude.{◌≡◌, ◌^◌, ◌≤◌, All};
 ghost use Rattle.lburg_model.specs.Tree.{nodes};
 

@@ -1,3 +1,4 @@
+//! The start of a node's row: the rules with its operator at their root, before any chain rule.
 ghost use Rattle.std.specs.Prelude.{◌≡◌, ◌+◌, ◌-◌, ◌^◌, ◌<◌, ◌≤◌, length};
 ghost use Rattle.lburg_model.specs.Tree.{nodes, op_of};
 ghost use Rattle.lburg_tables.specs.Root.{Operator};

@@ -1,3 +1,4 @@
+//! Allocated code: instructions over a machine's registers, and how many spill slots they use.
 ghost use Rattle.std.specs.Prelude.{◌≡◌};
 ghost use Rattle.vcode.specs.VirtualCode.{MAllocated, NamesBelow};
 

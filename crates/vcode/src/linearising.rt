@@ -1,3 +1,4 @@
+//! Forests become virtual code: the rules of each tree's derivation emit its instructions in order.
 ghost use Rattle.std.specs.Prelude.{◌≡◌, false, ℕ, ◌+◌, ◌-◌, ◌^◌, ◌<◌, ◌≤◌, ◌++◌, map, sum_by, All, length, IfOk, OnOk, IsSome, if◌then◌else◌};
 ghost use Rattle.lburg_model.specs.Derivation.{Derives};
 ghost use Rattle.lburg_model.specs.DerivationOf.{derivation_of};

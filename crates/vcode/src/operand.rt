@@ -1,3 +1,4 @@
+//! Registers, a machine's or virtual, and the operands by which instructions name them.
 /// A register: below 64 it is a machine's, from 64 on virtual.
 pub type Reg = u32;
 

@@ -1,3 +1,4 @@
+//! Register sets, with which a target tells the registers that an instruction loses.
 ghost use Rattle.std.specs.Prelude.{◌≡◌, ◌<◌, All, length};
 ghost use Rattle.vcode.specs.RegisterSets.{has, with_all, none};
 

@@ -1,3 +1,4 @@
+//! Rule sets: what a target's rules emit and hand up when derivations are turned into code.
 ghost use Rattle.std.specs.Prelude.{◌≡◌, ◌++◌, map, IfOk, OnOk};
 ghost use Rattle.lburg_model.specs.Description.{MDescription};
 ghost use Rattle.vcode.specs.RuleSets.{Row, row_of, Rules, Applies, Obeys};

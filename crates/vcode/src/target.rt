@@ -1,3 +1,4 @@
+//! Targets: what a machine's instructions read, write and lose, and how registers are spilled.
 ghost use Rattle.std.specs.Prelude.{◌≡◌, ℕ, ◌<◌, ◌≤◌, length, slice_get};
 ghost use Rattle.vcode.specs.Machines.{Machine};
 ghost use Rattle.vcode.specs.RegisterSets.{has};

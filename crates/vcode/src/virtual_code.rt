@@ -1,3 +1,4 @@
+//! Virtual code: instructions over registers without number, cut into stretches.
 ghost use Rattle.std.specs.Prelude.{◌≡◌};
 ghost use Rattle.vcode.specs.VirtualCode.{MCode, IsVirtualCode};
 
