@@ -1,3 +1,4 @@
+pub mod lemmas
 pub mod Entries
 pub mod NameTables
 pub mod LinkedNames

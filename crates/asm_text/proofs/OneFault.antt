@@ -21,7 +21,7 @@ use Rattle.asm_text.specs.Lines.{MLine, AreLabels, NoLabel, AreTokens}
 use Rattle.asm_text.specs.Made.{Made, Use, made_of, nothing, with_line, with_statement, data_of, code_of}
 use Rattle.asm_text.specs.Makes.{AreNew, IsAllowed, IsWithinLimits, label_names, program_of}
 use Rattle.asm_text.specs.Program.{MInstruction, MDatum, MLabel, MProgram, data_size}
-use Rattle.asm_text.specs.ReadPrograms.{grows_behind}
+use Rattle.asm_text.proofs.lemmas.ReadPrograms.{grows_behind}
 use Rattle.asm_text.proofs.LineLaws.{LineLaws, no_label, labels_front, labels_once}
 use Rattle.asm_text.proofs.Begins.{begins_from, GoesOn, compared}
 

@@ -15,7 +15,7 @@ use Rattle.asm_text.specs.Lines.{MLine, AreLines}
 use Rattle.asm_text.specs.Made.{Made, made_of}
 use Rattle.asm_text.specs.Makes.{IsWithinLimits, program_of}
 use Rattle.asm_text.specs.Program.{MProgram}
-use Rattle.asm_text.specs.ReadPrograms.{is_program}
+use Rattle.asm_text.proofs.lemmas.ReadPrograms.{is_program}
 
 -- all lines of the text make this
 abbrev pub AllRead : List ℕ → Made → Type 0

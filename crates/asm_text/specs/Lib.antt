@@ -8,7 +8,6 @@ pub mod Made
 pub mod Makes
 pub mod Uses
 pub mod Entries
-pub mod CodeLines
 pub mod AssemblyText
 pub mod FirstFault
 pub mod Added
@@ -27,6 +26,4 @@ pub mod Runs
 pub mod IsPrefix
 pub mod Agrees
 pub mod RunsAs
-pub mod RunLaws
 pub mod StuckCause
-pub mod ReadPrograms

@@ -16,7 +16,7 @@ use Rattle.lburg_tables.specs.BestChains.{AreBest}
 use Rattle.lburg_tables.specs.Listed.{IsOrigin, Listed, chain_at, chain_with}
 use Rattle.lburg_tables.specs.Row.{CellAt, Leq, Leq3, IsChain, Same, FromChain, Closed}
 use Rattle.lburg_tables.specs.RowOf.{row_of}
-use Rattle.lburg_tables.specs.RowLaws.{same_or_not, within, seen_set, row_within, stored, cell_after}
+use Rattle.lburg_tables.proofs.lemmas.RowLaws.{same_or_not, within, seen_set, row_within, stored, cell_after}
 
 -- ---- the list of a row's chains
 

@@ -14,9 +14,9 @@ use Rattle.lburg_tables.specs.RowOf.{key_of, waiting_of}
 use Rattle.lburg_tables.specs.Waits.{Matches}
 use Rattle.lburg_tables.specs.ChainTries.{cell_weight, chain_tries_of, chain_tries}
 use Rattle.lburg_tables.specs.Row.{CellAt, Leq, IsChain, made_from, Spread, Same, FromChain, Closed, AreCheap, IsCheap, Everywhere}
-use Rattle.lburg_tables.specs.RowLaws.{same_or_not, within, Leq_cells, leq_trans, leq_refl}
+use Rattle.lburg_tables.proofs.lemmas.RowLaws.{same_or_not, within, Leq_cells, leq_trans, leq_refl}
 use Rattle.lburg_tables.proofs.Waiting.{key_at, key_is, cell_with}
-use Rattle.lburg_tables.specs.Weights.{root_weight, with_more}
+use Rattle.lburg_tables.proofs.lemmas.Weights.{root_weight, with_more}
 
 -- the sum of the first n
 abbrev pub total : (ℕ → ℕ) → ℕ → ℕ

@@ -1,3 +1,4 @@
+pub mod lemmas
 pub mod Lines
 pub mod Lists
 pub mod Waiting

@@ -10,7 +10,8 @@ use Rattle.lburg_model.specs.declared.rule.Rule.{Rule}
 use Rattle.lburg_model.specs.Pattern.{MPattern, PHole, PLeaf, POne, PTwo, pattern_of}
 use Rattle.lburg_model.specs.Description.{MDescription, IsDescription, HasArity, FitsIn}
 use Rattle.lburg_tables.specs.Root.{Root, Chain, Operator, root_of, same_root, places_with}
-use Rattle.lburg_tables.specs.Places.{place_of, pushed}
+use Rattle.lburg_tables.specs.Places.{place_of}
+use Rattle.lburg_tables.proofs.lemmas.Places.{pushed}
 use Rattle.lburg_tables.specs.IsIndex.{places_in}
 use Rattle.lburg_tables.specs.Added.{HasList, added, operators_with, chains_with}
 

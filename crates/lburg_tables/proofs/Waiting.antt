@@ -12,7 +12,7 @@ use Rattle.lburg_tables.specs.RowOf.{seen, row_of, key_of, waiting_of}
 use Rattle.lburg_tables.specs.Waits.{Matches}
 use Rattle.lburg_tables.specs.Waits.{IsIdle}
 use Rattle.lburg_tables.specs.Row.{CellAt, Relaxed, Taken, Left, Offered, Placed, Declined, IsChain, made_from, Beats, Spread, Among, Everywhere}
-use Rattle.lburg_tables.specs.RowLaws.{within, Leq_cells, leq_trans, leq_refl, leq_flip, same_or_not, stored, cell_after, write_lowers, among_more, among_all, seen_at, seen_is}
+use Rattle.lburg_tables.proofs.lemmas.RowLaws.{within, Leq_cells, leq_trans, leq_refl, leq_flip, same_or_not, stored, cell_after, write_lowers, among_more, among_all, seen_at, seen_is}
 
 pub key_at : (row : List (Option Cell)) (n : ℕ) → get_or (waiting_of row) n None ≡ key_of (get_or row n None)
 key_at row n = get_or-map key_of row n None

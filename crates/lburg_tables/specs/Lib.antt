@@ -7,9 +7,7 @@ pub mod TablesText
 pub mod RowOf
 pub mod Offers
 pub mod Row
-pub mod RowLaws
 pub mod Waits
-pub mod Weights
 pub mod AreRules
 pub mod ChainTries
 pub mod Counted

@@ -6,7 +6,7 @@ use Rattle.std.specs.Int.Bits.{and_zero_r}
 use Rattle.lcc_base.specs.declared.order.Order.{Order}
 use Rattle.asm_text.specs.Program.{MProgram}
 use Rattle.asm_text.specs.Runs.{Run}
-use Rattle.asm_text.specs.RunLaws.{prefix_of}
+use Rattle.asm_text.proofs.lemmas.RunLaws.{prefix_of}
 use Rattle.forests.specs.Words.{Word, Plain, Label, Partly, unknown}
 use Rattle.objects.specs.declared.value.Value.TheVariants.{Number, Pointer, Function}
 use Rattle.lcc_base.specs.Traces.{output_of}

@@ -5,7 +5,7 @@ use Rattle.std.proofs.lemmas.Bool.{cases_lt}
 use Rattle.std.proofs.lemmas.List.Elements.{All-nil, All-drop}
 use Rattle.asm_text.specs.Runs.{MStep, Goes, Ends, IsStuck, IsOut, Run, Place, Going, Ended, Stuck, StackOut, after, onward, run_from}
 use Rattle.asm_text.specs.IsPrefix.{IsPrefix}
-use Rattle.asm_text.specs.RunLaws.{prefix_of}
+use Rattle.asm_text.proofs.lemmas.RunLaws.{prefix_of}
 use Rattle.mips_programs.proofs.Prefixes.{prefix_same}
 
 -- one step adds to what is printed

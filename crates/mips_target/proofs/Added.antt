@@ -16,7 +16,8 @@ use Rattle.forests.specs.Words.{number_of as word_number}
 use Rattle.vcode.specs.Patterns.{Meeting, leaves_at, is_chain}
 use Rattle.vcode.specs.RuleSets.{Row, Applies}
 use Rattle.vcode.specs.Emission.{Emitted, EmittedAll, with_chain, with_rule, and_one, Emits, EmitsAll, ByChain, ByRule, Nothing, OneMore}
-use Rattle.vcode.specs.Leaves.{met_by, met, met_by_append, met_append, IsSum, fewer_met_by, fewer_met}
+use Rattle.vcode.specs.Leaves.{met_by, met, IsSum}
+use Rattle.vcode.proofs.lemmas.Leaves.{met_by_append, met_append, fewer_met_by, fewer_met}
 use Rattle.mips_rules.specs.declared.arithmetic.Arithmetic.{Arithmetic}
 use Rattle.mips_rules.specs.declared.action.Action.{Action}
 use Rattle.mips_rules.specs.declared.instr.Instr.{Instr}

@@ -1,7 +1,7 @@
 -- Generated lines are lines of code alone.
 use Rattle.std.proofs.Common.{ℕ, ◌+◌, List, [], ◌∷◌, ◌++◌}
 use Rattle.asm_lines.specs.Statements.{Text}
-use Rattle.asm_text.specs.CodeLines.{IsCode, AreCode}
+use Rattle.asm_text.proofs.lemmas.CodeLines.{IsCode, AreCode}
 use Rattle.asm_text.specs.Program.{MInstruction}
 use Rattle.mips_target.specs.Items.{CodeItem, Line, Mark}
 use Rattle.mips_target.specs.UnitLines.{Item, Coded, plain, numbered, code_lines, items_of, unit_lines}

@@ -12,7 +12,7 @@ use Rattle.op_forest.specs.Nodes.{Node, tree_of}
 use Rattle.vcode.specs.Patterns.{Meeting, leaves_at}
 use Rattle.vcode.specs.RuleSets.{Row, row_of, Applies}
 use Rattle.vcode.specs.Leaves.{turned}
-use Rattle.vcode.specs.Deriving.{Parted, parted, applied_at}
+use Rattle.vcode.proofs.lemmas.Deriving.{Parted, parted, applied_at}
 use Rattle.mips_rules.specs.declared.part.Part.{Part}
 use Rattle.mips_rules.specs.MipsRows.{rows}
 use Rattle.mips_rules.specs.MipsRules.{mips_rules}

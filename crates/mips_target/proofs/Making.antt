@@ -12,7 +12,7 @@ use Rattle.asm_lines.specs.Statements.{Text}
 use Rattle.asm_text.specs.declared.place.Place.{Place}
 use Rattle.asm_text.specs.declared.place.Place.TheVariants.{Code}
 use Rattle.asm_text.specs.Addresses.{putchar_at, getchar_at, exit_at, built_in_at, address_at, address_by, IsKnown}
-use Rattle.asm_text.specs.CodeLines.{MakesCode, code_in, numbers_in, labels_from, names_in, code_made}
+use Rattle.asm_text.proofs.lemmas.CodeLines.{MakesCode, code_in, numbers_in, labels_from, names_in, code_made}
 use Rattle.asm_text.specs.Lines.{MLine}
 use Rattle.asm_text.specs.Made.{code_of, label_at}
 use Rattle.asm_text.specs.Makes.{Makes}

@@ -8,7 +8,7 @@ use Rattle.std.proofs.lemmas.Option.{none-some, same_Some}
 use Rattle.asm_lines.specs.Statements.{MStatement, Text, Does}
 use Rattle.asm_text.specs.declared.place.Place.{Place}
 use Rattle.asm_text.specs.declared.place.Place.TheVariants.{Code}
-use Rattle.asm_text.specs.CodeLines.{MakesCode, code_in, labels_from, names_in, made_code}
+use Rattle.asm_text.proofs.lemmas.CodeLines.{MakesCode, code_in, labels_from, names_in, made_code}
 use Rattle.asm_text.specs.Lines.{MLine}
 use Rattle.asm_text.specs.Linked.{code_place}
 use Rattle.asm_text.specs.Made.{code_of, label_at}

@@ -8,7 +8,7 @@ use Rattle.asm_lines.specs.declared.instruction.Target.TheVariants as target
 use Rattle.asm_lines.specs.Printable.{IsNamed as IsNameIn, IsTargetNamed, AreInstructionNames, IsPrintable}
 use Rattle.asm_lines.specs.Statements.{MStatement, Nothing, Text, Data, Global, Align, Words, Halves, Bytes, Space, Does}
 use Rattle.asm_lines.specs.Tokens.{IsName}
-use Rattle.asm_text.specs.CodeLines.{IsCode}
+use Rattle.asm_text.proofs.lemmas.CodeLines.{IsCode}
 use Rattle.asm_text.specs.Lines.{MLine}
 use Rattle.asm_text.specs.Names.{name_in, target_names, names_of_instruction, names_of}
 use Rattle.asm_text.specs.Printable.{PrintableFrom, ArePrintable}

@@ -9,7 +9,7 @@ use Rattle.asm_text.specs.Linked.{code_place, HasMain}
 use Rattle.asm_text.specs.Makes.{Makes}
 use Rattle.asm_text.specs.Program.{MProgram as MAssembly, place_of}
 use Rattle.asm_text.specs.RunsAs.{RunsAs}
-use Rattle.asm_text.specs.RunLaws.{runs_as}
+use Rattle.asm_text.proofs.lemmas.RunLaws.{runs_as}
 use Rattle.asm_text.specs.Addresses.{code_start, data_start}
 use Rattle.mips_machine.specs.Run.{mrun}
 use Rattle.mips_programs.specs.Reached.{seen}
@@ -23,11 +23,11 @@ use Rattle.first_form.specs.FirstForm.{IsFirst}
 use Rattle.first_form.specs.Meaning.{output, status}
 use Rattle.first_forest.specs.FirstForest.{expression_node, roots_of, main_of, unit_names, unit_of}
 use Rattle.first_forest.specs.Meaning.{main_run}
-use Rattle.first_forest.specs.Running.{meant}
-use Rattle.first_forest.specs.WellFormedRoots.{well_formed}
-use Rattle.first_forest.specs.RuledRoots.{ruled}
-use Rattle.first_forest.specs.Small.{small, few}
-use Rattle.first_forest.specs.Known.{each_root, lowered}
+use Rattle.first_forest.proofs.lemmas.Running.{meant}
+use Rattle.first_forest.proofs.lemmas.WellFormedRoots.{well_formed}
+use Rattle.first_forest.proofs.lemmas.RuledRoots.{ruled}
+use Rattle.first_forest.proofs.lemmas.Small.{small, few}
+use Rattle.first_forest.proofs.lemmas.Known.{each_root, lowered}
 use Rattle.op_forest.specs.Nodes.{Node, nodes, head_of}
 use Rattle.op_forest.specs.EachNode.{AtEachNode}
 use Rattle.forests.specs.WellFormed.{IsWellFormed}

@@ -7,7 +7,7 @@ use Rattle.first_form.specs.FirstProgram.{MProgram}
 use Rattle.first_form.specs.Meaning.{value, output, status}
 use Rattle.first_forest.specs.FirstForest.{main_of, roots_of, unit_of}
 use Rattle.first_forest.specs.Meaning.{IsPrefix, main_run, trace_of, IsRun, IsOver, IsMeant}
-use Rattle.first_forest.specs.Small.{few}
+use Rattle.first_forest.proofs.lemmas.Small.{few}
 use Rattle.op_forest.specs.Nodes.{nodes}
 use Rattle.forests.specs.Words.{Word, Plain}
 use Rattle.objects.specs.declared.value.Value.TheVariants.{Number}

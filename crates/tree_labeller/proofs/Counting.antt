@@ -17,7 +17,7 @@ use Rattle.lburg_tables.specs.ChainTries.{cell_weight, chain_tries_of, chain_tri
 use Rattle.lburg_tables.specs.Root.{Root, Operator, root_of, same_root}
 use Rattle.lburg_tables.specs.Places.{with_root, HasRoot}
 use Rattle.lburg_tables.specs.Row.{CellAt, Everywhere}
-use Rattle.lburg_tables.specs.Weights.{root_weight, with_more}
+use Rattle.lburg_tables.proofs.lemmas.Weights.{root_weight, with_more}
 use Rattle.tree_labeller.specs.ChainRules.{chain_weight, chain_rules}
 use Rattle.tree_labeller.specs.Rows.{Row}
 use Rattle.tree_labeller.specs.Labelled.{cell, total, base_total, Labelled, Started}

@@ -17,7 +17,7 @@ use Rattle.lburg_model.specs.Pattern.{MPattern, PHole, PLeaf, POne, PTwo, patter
 use Rattle.tree_labeller.specs.Labelled.{add, nothing_used, cells_of, end_of, cell, total, area, Sound, Labelled, KidsLabelled, base_total, IsRuleTotal, made_by, Started, Filled}
 use Rattle.lburg_tables.specs.RowOf.{key_of}
 use Rattle.tree_labeller.specs.Totals.{cell_of, fitted, added, nodes_pos, sound_of}
-use Rattle.lburg_tables.specs.RowLaws.{Leq_cells, leq_trans, leq_refl, stored, write_lowers, cell_after, among_more, among_none, among_all}
+use Rattle.lburg_tables.proofs.lemmas.RowLaws.{Leq_cells, leq_trans, leq_refl, stored, write_lowers, cell_after, among_more, among_none, among_all}
 
 abbrev pub Agree : List Row → List Row → ℕ → ℕ → Type 0
 Agree rows rows' lo hi = (i : ℕ) → lo ≤ i → i < hi → slice_get rows' i ≡ slice_get rows i

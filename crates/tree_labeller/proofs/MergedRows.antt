@@ -13,7 +13,7 @@ use Rattle.lburg_tables.specs.BestChains.{AreBest}
 use Rattle.lburg_tables.specs.Leads.{IsFree, Leads, Empty, Then, HasRanged}
 use Rattle.lburg_tables.specs.Row.{CellAt, Leq, Leq3, Offered, Placed, Declined, IsChain, made_from, FromChain, AreCheap, Closed}
 use Rattle.lburg_tables.specs.RowOf.{seen, row_of}
-use Rattle.lburg_tables.specs.RowLaws.{within, Leq_cells, leq_trans, leq_refl, same_or_not, stored, cell_after, write_lowers}
+use Rattle.lburg_tables.proofs.lemmas.RowLaws.{within, Leq_cells, leq_trans, leq_refl, same_or_not, stored, cell_after, write_lowers}
 use Rattle.tree_labeller.specs.Merged.{after_chain, AllFit, Extended, Merged}
 
 -- ---- the chains from one nonterminal

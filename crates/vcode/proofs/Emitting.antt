@@ -17,9 +17,10 @@ use Rattle.vcode.specs.RuleSets.{row_of, Rules, Applies, Obeys, all_registers}
 use Rattle.vcode.specs.VirtualCode.{among}
 use Rattle.vcode.specs.Emission.{Emitted, EmittedAll, Emits, EmitsAll, ByChain, ByRule, Nothing, OneMore}
 use Rattle.vcode.specs.Adding.{Added, meetings_in, meetings_at}
-use Rattle.vcode.specs.Leaves.{turned, met_by, meetings_of, few_values, fewer_values, chain_meets}
+use Rattle.vcode.specs.Leaves.{turned, met_by}
+use Rattle.vcode.proofs.lemmas.Leaves.{meetings_of, few_values, fewer_values, chain_meets}
 use Rattle.vcode.proofs.Registers.{in_range, registers_one, takes, take_all as take_each}
-use Rattle.vcode.specs.Deriving.{row_is}
+use Rattle.vcode.proofs.lemmas.Deriving.{row_is}
 use Rattle.vcode.proofs.Parts.{hands, hand_all}
 
 -- the second list is the first with the code of the derivations, which hand up these parts

@@ -1,3 +1,4 @@
+pub mod lemmas
 pub mod Members
 pub mod Registers
 pub mod Steady

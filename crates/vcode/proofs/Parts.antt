@@ -10,7 +10,7 @@ use Rattle.vcode.specs.Patterns.{Meeting}
 use Rattle.vcode.specs.RuleSets.{Row, row_of, Rules, Applies, Obeys, AllHand}
 use Rattle.vcode.specs.Emission.{Emitted, EmittedAll, Emits, EmitsAll, ByChain, ByRule, Nothing, OneMore}
 use Rattle.vcode.specs.Leaves.{turned}
-use Rattle.vcode.specs.Deriving.{parted, applied_at}
+use Rattle.vcode.proofs.lemmas.Deriving.{parted, applied_at}
 
 module _ {I P : Type 0} (rules : Rules I P) (rows : List Rule) (are : map row_of rows ≡ rules.rows) where
   pub hand_more : (ms : List Meeting) (m : Meeting) (ps : List P) (p : P) → AllHand rules ms ps → rules.hands m.0 m.1 p ≡ true → AllHand rules (ms ++ m ∷ []) (ps ++ p ∷ [])

@@ -10,7 +10,8 @@ use Rattle.vcode.specs.Patterns.{Meeting}
 use Rattle.forests.specs.Words.{Word}
 use Rattle.vcode.specs.RuleSets.{Row, Rules, SameAt, Applies, Obeys, InRange, one_register, all_registers}
 use Rattle.vcode.specs.Emission.{Emitted, EmittedAll, with_chain, with_rule, and_one, Emits, EmitsAll, ByChain, ByRule, Nothing, OneMore}
-use Rattle.vcode.specs.Leaves.{met_by, met_by_append, fewer_values}
+use Rattle.vcode.specs.Leaves.{met_by}
+use Rattle.vcode.proofs.lemmas.Leaves.{met_by_append, fewer_values}
 
 pub among_append : (r : ℕ) (xs ys : List ℕ) → among r (xs ++ ys) ≡ true → (among r xs ≡ true) ⊎ (among r ys ≡ true)
 among_append r [] ys h = inr h

@@ -16,7 +16,7 @@ use Rattle.vcode.specs.Patterns.{Meeting, leaves_at, both, is_chain}
 use Rattle.vcode.specs.RuleSets.{Row, Rules, Applies, Obeys, is_label, is_move, op_at}
 use Rattle.vcode.specs.Emission.{Emitted, EmittedAll, Emits, EmitsAll, ByChain, ByRule, Nothing, OneMore}
 use Rattle.vcode.specs.Roots.{AllStill, IsQuiet}
-use Rattle.vcode.specs.Leaves.{some_if, some_both}
+use Rattle.vcode.proofs.lemmas.Leaves.{some_if, some_both}
 use Rattle.vcode.proofs.Joining.{unmarked_joined, unmoved_joined, marked_first, moves_joined, moves_last}
 
 abbrev pub MetStill : List Meeting → Type 0

@@ -13,9 +13,10 @@ use Rattle.vcode.specs.Patterns.{Meeting, leaves_at}
 use Rattle.vcode.specs.RuleSets.{Row, row_of, Rules, Applies, Obeys, one_register, own_register, code_results, all_registers, SomeBusy}
 use Rattle.vcode.specs.Emission.{Emitted, EmittedAll, Emits, EmitsAll, ByChain, ByRule, Nothing, OneMore}
 use Rattle.vcode.specs.Roots.{IsQuiet}
-use Rattle.vcode.specs.Leaves.{turned, chain_meets}
+use Rattle.vcode.specs.Leaves.{turned}
+use Rattle.vcode.proofs.lemmas.Leaves.{chain_meets}
 use Rattle.vcode.proofs.Registers.{among_append, among_left, among_right, own_is, Between, registers_one, registers_more, takes, take_all}
-use Rattle.vcode.specs.Deriving.{parted, applied_at}
+use Rattle.vcode.proofs.lemmas.Deriving.{parted, applied_at}
 use Rattle.vcode.proofs.Joining.{Within, flows_joined, results_joined, names_below, names_joined, slots_joined}
 use Rattle.vcode.proofs.Still.{rooted}
 

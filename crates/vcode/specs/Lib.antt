@@ -5,7 +5,6 @@ pub mod VirtualCode
 pub mod Patterns
 pub mod RuleSets
 pub mod Leaves
-pub mod Deriving
 pub mod Emission
 pub mod Templates
 pub mod Adding

@@ -1,8 +1,8 @@
 use Rattle.first_form.specs.FirstProgram.{program_of}
-use Rattle.first_forest.specs.WellFormedRoots.{well_formed}
-use Rattle.first_forest.specs.RuledRoots.{ruled}
-use Rattle.first_forest.specs.Small.{small, few}
-use Rattle.first_forest.specs.Running.{meant}
+use Rattle.first_forest.proofs.lemmas.WellFormedRoots.{well_formed}
+use Rattle.first_forest.proofs.lemmas.RuledRoots.{ruled}
+use Rattle.first_forest.proofs.lemmas.Small.{small, few}
+use Rattle.first_forest.proofs.lemmas.Running.{meant}
 use Rattle.first_forest.proofs.lowering.lower.Goals as goal
 
 pub returns-clause-well_formed : goal.returns-clause-well_formed

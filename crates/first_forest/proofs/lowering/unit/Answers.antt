@@ -1,5 +1,5 @@
 use Rattle.first_form.specs.FirstProgram.{program_of}
-use Rattle.first_forest.specs.Known.{lowered}
+use Rattle.first_forest.proofs.lemmas.Known.{lowered}
 use Rattle.first_forest.proofs.lowering.unit.Goals as goal
 
 pub new-requires : goal.new-requires

@@ -1,5 +1,5 @@
 use Rattle.std.proofs.Common.{◌<◌, length, refl, arith}
-use Rattle.lburg_tables.specs.RowLaws.{cleared_more}
+use Rattle.lburg_tables.proofs.lemmas.RowLaws.{cleared_more}
 use Rattle.lburg_tables.proofs.cell.clear_row.Goals as goal
 
 pub loop-n-preserved : goal.loop-n-preserved

@@ -2,7 +2,7 @@ use Rattle.std.proofs.Common.{List, Option, IsTrue, false, refl, sym, subst, ari
 use Rattle.lburg_tables.specs.Row.{Beats, Offered, Placed}
 use Rattle.lburg_tables.specs.declared.cell.Cell.{Cell}
 use Rattle.lburg_tables.specs.RowOf.{row_of}
-use Rattle.lburg_tables.specs.RowLaws.{seen_set, declined_at, beats_not, beats_none, beats_greater}
+use Rattle.lburg_tables.proofs.lemmas.RowLaws.{seen_set, declined_at, beats_not, beats_none, beats_greater}
 use Rattle.lburg_tables.proofs.cell.offer.Goals.{else-old-new-via-then-old-new+then-is_at_most+else-old-ne0, else-old-new-via-then-old-new+else-is_at_most, else-old-new-via-else-old-new}
 use Rattle.lburg_tables.proofs.cell.offer.Goals as goal
 

@@ -4,7 +4,8 @@ use Rattle.std.proofs.lemmas.List.{length-map, with_items_is}
 use Rattle.lburg_model.specs.declared.rule.Rule.{Rule}
 use Rattle.lburg_tables.specs.declared.best_chain.BestChain.{BestChain}
 use Rattle.lburg_tables.specs.declared.cell.Cell.{Cell}
-use Rattle.lburg_tables.specs.AreRules.{AreRules, are_rules}
+use Rattle.lburg_tables.specs.AreRules.{AreRules}
+use Rattle.lburg_tables.proofs.lemmas.AreRules.{are_rules}
 use Rattle.lburg_tables.specs.BestChains.{AreBest}
 use Rattle.lburg_tables.specs.Listed.{Listed}
 use Rattle.lburg_tables.specs.Row.{Closed}

@@ -4,7 +4,7 @@ use Rattle.place_queue.specs.declared.key.Key.{Key}
 use Rattle.lburg_tables.specs.Row.{Relaxed}
 use Rattle.lburg_tables.specs.RowOf.{row_of, key_of}
 use Rattle.lburg_tables.specs.Waits.{Matches}
-use Rattle.lburg_tables.specs.RowLaws.{row_within}
+use Rattle.lburg_tables.proofs.lemmas.RowLaws.{row_within}
 use Rattle.lburg_tables.proofs.Waiting.{relaxed_taken, relaxed_left, match_offered}
 use Rattle.lburg_tables.proofs.closing.relax.Goals as goal
 

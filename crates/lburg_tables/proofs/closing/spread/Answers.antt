@@ -6,15 +6,15 @@ use Rattle.lburg_model.specs.declared.pattern.Pattern.{Nonterminal}
 use Rattle.lburg_model.specs.Pattern.{pattern_of}
 use Rattle.lburg_tables.specs.Root.{Chain, root_of}
 use Rattle.lburg_tables.specs.IsIndex.{places_in}
-use Rattle.lburg_tables.specs.Places.{all, many}
+use Rattle.lburg_tables.proofs.lemmas.Places.{all, many}
 use Rattle.place_queue.specs.declared.key.Key.{Key}
 use Rattle.lburg_tables.specs.declared.cell.Cell.{Cell}
 use Rattle.lburg_tables.specs.RowOf.{row_of}
 use Rattle.lburg_tables.specs.Waits.{Matches}
 use Rattle.lburg_tables.specs.Row.{Spread, Among, Relaxed, IsMade}
 use Rattle.lburg_tables.proofs.Waiting.{spread_all, spread_chain, spread_skip}
-use Rattle.lburg_tables.specs.RowLaws.{row_within}
-use Rattle.lburg_tables.specs.Places.{chain_of, place_within, rule_there}
+use Rattle.lburg_tables.proofs.lemmas.RowLaws.{row_within}
+use Rattle.lburg_tables.proofs.lemmas.Places.{chain_of, place_within, rule_there}
 use Rattle.lburg_tables.proofs.closing.spread.Goals.{in-Some, in_default}
 use Rattle.lburg_tables.proofs.closing.spread.Goals as goal
 

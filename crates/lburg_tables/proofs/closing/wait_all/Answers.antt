@@ -3,7 +3,7 @@ use Rattle.std.specs.Prelude.{slice_set}
 use Rattle.std.proofs.lemmas.List.{length-map}
 use Rattle.place_queue.specs.declared.key.Key.{Key}
 use Rattle.lburg_tables.specs.RowOf.{seen, row_of}
-use Rattle.lburg_tables.specs.RowLaws.{seen_at}
+use Rattle.lburg_tables.proofs.lemmas.RowLaws.{seen_at}
 use Rattle.lburg_tables.proofs.Waiting.{WaitsTo, waits_none, waits_more, waits_less, waits_over}
 use Rattle.lburg_tables.proofs.closing.wait_all.Goals.{in-Some, in_default}
 use Rattle.lburg_tables.proofs.closing.wait_all.Goals as goal

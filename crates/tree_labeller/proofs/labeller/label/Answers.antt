@@ -3,7 +3,7 @@ use Rattle.lburg_model.specs.declared.rule.Rule.{Rule}
 use Rattle.lburg_model.specs.Description.{MDescription}
 use Rattle.tree_labeller.specs.MCells.{MCells}
 use Rattle.lburg_tables.specs.AreRules.{AreRules}
-use Rattle.lburg_tables.specs.AreRules.{are_rules}
+use Rattle.lburg_tables.proofs.lemmas.AreRules.{are_rules}
 use Rattle.tree_labeller.proofs.Room.{small_area, narrow_rows}
 use Rattle.tree_labeller.proofs.Counting.{most_trials}
 use Rattle.tree_labeller.proofs.labeller.label.Goals as goal

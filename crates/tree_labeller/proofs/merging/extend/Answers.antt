@@ -2,7 +2,7 @@ use Rattle.std.proofs.Common.{◌≡◌, ◌<◌, Some, length, get_or, arith}
 use Rattle.std.specs.Prelude.{slice_get}
 use Rattle.std.proofs.lemmas.Option.{slice_get-get_or}
 use Rattle.lburg_tables.specs.RowOf.{row_of}
-use Rattle.lburg_tables.specs.RowLaws.{row_within}
+use Rattle.lburg_tables.proofs.lemmas.RowLaws.{row_within}
 use Rattle.tree_labeller.proofs.MergedRows.{extended_more}
 use Rattle.tree_labeller.proofs.merging.extend.Goals as goal
 

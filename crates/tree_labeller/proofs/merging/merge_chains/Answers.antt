@@ -3,7 +3,7 @@ use Rattle.lburg_model.specs.Description.{MDescription}
 use Rattle.lburg_tables.specs.declared.cell.Cell.{Cell}
 use Rattle.lburg_tables.specs.Row.{CellAt}
 use Rattle.lburg_tables.specs.RowOf.{row_of}
-use Rattle.lburg_tables.specs.RowLaws.{seen_at}
+use Rattle.lburg_tables.proofs.lemmas.RowLaws.{seen_at}
 use Rattle.tree_labeller.specs.Merged.{Merged}
 use Rattle.tree_labeller.specs.Trials.{NoStart, Start, Pass}
 use Rattle.tree_labeller.proofs.MergedRows.{merged_none, merged_skip, merged_more, merged_closed, fits_after, row_long}

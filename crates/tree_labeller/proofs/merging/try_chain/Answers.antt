@@ -1,5 +1,5 @@
 use Rattle.std.proofs.Common.{refl}
-use Rattle.lburg_tables.specs.RowLaws.{cheaper_declined}
+use Rattle.lburg_tables.proofs.lemmas.RowLaws.{cheaper_declined}
 use Rattle.tree_labeller.specs.Merged.{after_chain}
 use Rattle.tree_labeller.proofs.merging.try_chain.Goals as goal
 

@@ -4,16 +4,16 @@ use Rattle.std.proofs.lemmas.Option.{slice_get-get_or}
 use Rattle.lburg_model.specs.Pattern.{pattern_of}
 use Rattle.lburg_model.specs.Tree.{op_of}
 use Rattle.lburg_tables.specs.Root.{Operator, places_with}
-use Rattle.lburg_tables.specs.Places.{all, many}
+use Rattle.lburg_tables.proofs.lemmas.Places.{all, many}
 use Rattle.place_queue.specs.declared.key.Key.{Key}
 use Rattle.lburg_tables.specs.declared.cell.Cell.{Cell}
 use Rattle.lburg_tables.specs.Row.{Among}
 use Rattle.lburg_tables.specs.RowOf.{row_of}
 use Rattle.tree_labeller.specs.Labelled.{IsRuleTotal, Started}
 use Rattle.tree_labeller.proofs.Finish.{started_none, started_skip, started_take, started_all}
-use Rattle.lburg_tables.specs.Places.{place_within, rule_there}
+use Rattle.lburg_tables.proofs.lemmas.Places.{place_within, rule_there}
 use Rattle.tree_labeller.proofs.Roots.{operator_of}
-use Rattle.lburg_tables.specs.RowLaws.{row_within}
+use Rattle.lburg_tables.proofs.lemmas.RowLaws.{row_within}
 use Rattle.tree_labeller.proofs.starting.start_row.Goals.{in-Some, in_default}
 use Rattle.tree_labeller.proofs.starting.start_row.Goals as goal
 

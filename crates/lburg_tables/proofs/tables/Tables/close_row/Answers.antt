@@ -1,7 +1,8 @@
 use Rattle.std.proofs.Common.{List, length, sym, ap, subst, arith}
 use Rattle.lburg_model.specs.Description.{MDescription}
 use Rattle.lburg_model.specs.declared.rule.Rule.{Rule}
-use Rattle.lburg_tables.specs.AreRules.{AreRules, are_rules}
+use Rattle.lburg_tables.specs.AreRules.{AreRules}
+use Rattle.lburg_tables.proofs.lemmas.AreRules.{are_rules}
 use Rattle.lburg_tables.proofs.tables.Tables.close_row.Goals as goal
 
 pub close_row-requires-clause-are : goal.close_row-requires-clause-are

@@ -1,7 +1,7 @@
 use Rattle.std.proofs.Common.{length, sym, ap, ◌∙◌, arith}
 use Rattle.lburg_tables.specs.declared.cell.Cell.{Cell}
 use Rattle.lburg_tables.specs.RowOf.{seen}
-use Rattle.lburg_tables.specs.RowLaws.{seen_is}
+use Rattle.lburg_tables.proofs.lemmas.RowLaws.{seen_is}
 use Rattle.tree_labeller.specs.MCells.{MCells}
 use Rattle.tree_labeller.specs.Labelled.{cell}
 use Rattle.tree_labeller.proofs.FlatRows.{row_within, cell_there, cell_inside}

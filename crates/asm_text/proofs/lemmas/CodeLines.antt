@@ -1,6 +1,5 @@
 -- Lines of code alone, which write no data: the program that they make, list by list.
 use Rattle.std.specs.Prelude.{◌≡◌, ◌≢◌, ℕ, zero, suc, ◌+◌, ◌||◌, Bool, true, false, if◌then◌else◌, Option, Some, List, [], ◌∷◌, ◌++◌, length, map, All, slice_get, option_map, refl}
-use Rattle.std.specs.List.{list_any}
 use Rattle.std.specs.Str.{bytes_eq}
 use Rattle.std.proofs.Common.{sym, ap, ◌∙◌, subst, append_assoc, append-nil, length-append, arith}
 use Rattle.std.proofs.lemmas.List.{map-append}
@@ -15,8 +14,8 @@ use Rattle.asm_text.specs.declared.place.Place.{Place}
 use Rattle.asm_text.specs.declared.place.Place.TheVariants.{Code}
 use Rattle.asm_text.specs.Addresses.{IsKnown}
 use Rattle.asm_text.specs.Lines.{MLine}
-use Rattle.asm_text.specs.Made.{Use, Made, made_of, made_behind, nothing, next_place, label_at, is_used, with_use, with_uses, data_of, code_of, numbers_of, section_behind, with_labels, with_statement, with_line}
-use Rattle.asm_text.specs.Makes.{IsNew, AreNew, IsAllowed, AreAllowed, label_names, program_of, Makes}
+use Rattle.asm_text.specs.Made.{Use, Made, made_of, made_behind, nothing, next_place, label_at, is_used, with_use, with_uses, data_of, code_of, numbers_of, section_behind, with_line}
+use Rattle.asm_text.specs.Makes.{IsNew, AreNew, AreAllowed, label_names, Makes}
 use Rattle.asm_text.specs.Names.{names_of}
 use Rattle.asm_text.specs.Program.{MInstruction, MDatum, MLabel, MProgram, AreDistinct, data_size}
 

@@ -1,4 +1,5 @@
 -- The roots of a program have no more nodes than its text has bytes, and at most three for each node of the program.
+-- ---- as many tokens as nodes
 use Rattle.std.specs.Prelude.{◌≡◌, ℕ, ◌+◌, ◌*◌, ◌≤◌, List, [], ◌∷◌, ◌++◌, length, sum_by, flat_map, codes}
 use Rattle.std.proofs.Common.{ap, ◌∙◌, arith, inl, inr, length-append}
 use Rattle.std.proofs.lemmas.List.Sums.{sum_by-cons}
@@ -11,8 +12,6 @@ use Rattle.op_forest.specs.declared.op.Op.TheVariants as op
 use Rattle.op_forest.specs.Nodes.{Node, One, nodes}
 use Rattle.first_forest.specs.FirstForest.{int_head, putchar_node, expression_node, print_roots, return_root, roots_of}
 use Rattle.first_forest.specs.Size.{expression_nodes, statement_nodes, program_nodes}
-
--- ---- as many tokens as nodes
 
 expression_tokens : (e : MExpression) (rest : List Token) → nodes (expression_node e) + length rest ≤ length (tokens_then e rest)
 expression_tokens (Constant n) rest = omega arith

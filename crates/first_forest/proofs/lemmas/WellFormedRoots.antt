@@ -1,4 +1,5 @@
 -- The forest of a program is well formed: each argument is taken by the call behind it.
+-- ---- expressions
 use Rattle.std.specs.Prelude.{◌≡◌, ℕ, zero, suc, ◌≤◌, ◌<◌, ◌^◌, pos, FitsSigned, Some, None, List, [], ◌∷◌, ◌++◌, drop, flat_map, slice_get, refl}
 use Rattle.std.specs.Int.{w32}
 use Rattle.std.specs.List.{AllByRecursion}
@@ -17,8 +18,6 @@ use Rattle.op_forest.specs.Labels.{label_of}
 use Rattle.op_forest.specs.Nodes.{Node, One}
 use Rattle.forests.specs.WellFormed.{HasArities, HasKinds, HasSlots, IsOperand, IsTaken, IsFit, IsGood, IsWellFormed, target_of}
 use Rattle.first_forest.specs.FirstForest.{int_head, expression_node, putchar_node, print_roots, return_root, main_of}
-
--- ---- expressions
 
 expression_arities : (e : MExpression) → HasArities (expression_node e)
 expression_arities (Constant n) = λ h. refl

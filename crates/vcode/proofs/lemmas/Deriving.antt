@@ -10,7 +10,8 @@ use Rattle.lburg_model.specs.DerivationOf.{parts_of}
 use Rattle.op_forest.specs.Nodes.{Node, tree_of}
 use Rattle.vcode.specs.Patterns.{Meeting, leaves_at}
 use Rattle.vcode.specs.RuleSets.{Row, row_of, Rules, Applies}
-use Rattle.vcode.specs.Leaves.{turned, meetings_of}
+use Rattle.vcode.specs.Leaves.{turned}
+use Rattle.vcode.proofs.lemmas.Leaves.{meetings_of}
 
 -- the last of derivations, and those before it
 pub record Parted (rows : List Rule) (gs : List Goal) (g : Goal) (xs : List MDerivation) (x : MDerivation) : Type 0 where

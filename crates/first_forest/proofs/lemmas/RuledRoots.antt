@@ -8,7 +8,7 @@ use Rattle.op_forest.specs.EachNode.{AtEachNode}
 use Rattle.op_forest.specs.Nodes.{One}
 use Rattle.forests.specs.HasRules.{HasRule, IsRuled, HasRules}
 use Rattle.first_forest.specs.FirstForest.{int_head, expression_node, putchar_node, return_root, roots_of}
-use Rattle.first_forest.specs.Known.{each_root}
+use Rattle.first_forest.proofs.lemmas.Known.{each_root}
 
 expression_rules : (e : MExpression) → AtEachNode HasRule (expression_node e)
 expression_rules (Constant n) = (refl, λ x. absurd cc)

@@ -1,4 +1,5 @@
 -- The unit of a program means what the program does: each statement that prints is two root steps, and the return is one.
+-- ---- expressions
 use Rattle.std.specs.Prelude.{◌≡◌, ℕ, zero, suc, ◌%◌, ◌^◌, ◌<◌, ◌≤◌, pos, true, Some, None, List, [], ◌∷◌, ◌++◌, map, length, flat_map, refl}
 use Rattle.std.specs.List.{AllByRecursion}
 use Rattle.std.proofs.Common.{sym, ap, ◌∙◌, subst, append_assoc, append-nil, arith}
@@ -28,8 +29,6 @@ use Rattle.forests.specs.Units.{program_of, start_world}
 use Rattle.op_forest.specs.Units.{body_of}
 use Rattle.first_forest.specs.FirstForest.{expression_node, int_head, putchar_node, print_roots, return_root, roots_of, main_of, unit_of}
 use Rattle.first_forest.specs.Meaning.{main_run, IsRun, IsOver, trace_of, IsMeant}
-
--- ---- expressions
 
 low_bits : (n : ℕ) → n ≤ 2147483647 → n % 2 ^ 32 ≡ n
 low_bits n h = let l : n < 2 ^ 32 = omega arith in mod-eq_of_lt l

@@ -1,4 +1,5 @@
 -- The program that lines make is fit for a machine, if it is within the limits.
+-- ---- lines only add
 use Rattle.std.specs.Prelude.{◌≡◌, ◌≢◌, ◌≤◌, ◌⊎◌, ℕ, zero, suc, ◌^◌, ◌||◌, Bool, true, false, Option, Some, None, List, [], ◌∷◌, ◌++◌, length, map, All, slice_get, if◌then◌else◌}
 use Rattle.std.specs.Str.{bytes_eq}
 use Rattle.std.proofs.Common.{refl, sym, ap, ◌∙◌, subst, inl, inr, arith, append_assoc, length-append}
@@ -20,8 +21,6 @@ use Rattle.asm_text.specs.Made.{Made, Use, made_of, made_behind, nothing, with_l
 use Rattle.asm_text.specs.Makes.{Makes, AreNew, AreAllowed, IsNew, IsWithinLimits, label_names, program_of}
 use Rattle.asm_text.specs.Names.{name_in, names_of, names_of_items, names_of_instruction, names_of_datum}
 use Rattle.asm_text.specs.Program.{MInstruction, MDatum, MLabel, MProgram, AreDistinct, size_of, data_size}
-
--- ---- lines only add
 
 pub record Grows (m n : Made) : Type 0 where
   pub code : length m.code ≤ length n.code

@@ -1,0 +1,5 @@
+pub mod Known
+pub mod RuledRoots
+pub mod Running
+pub mod Small
+pub mod WellFormedRoots

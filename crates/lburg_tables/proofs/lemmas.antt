@@ -1,0 +1,4 @@
+pub mod AreRules
+pub mod Places
+pub mod RowLaws
+pub mod Weights
