@@ -68,6 +68,11 @@ stored_as w a b = stored_by w (as_p a) b
 abbrev pub unit_at : Typed → Template
 unit_at a = over op.Indir I (as_p a)
 
+-- Where it is stored again it is read as a pointer, which has the same word: two nodes that are used once, where one that is used for
+-- the field's value too would need a temporary.
+abbrev pub unit_stored : Typed → Template
+unit_stored a = over op.Cvp U (over op.Indir P (as_p a))
+
 -- the field's bits raised to the top of the unit's word, and lowered with their sign or without
 abbrev pub raised : Order → Field → Template → Template
 raised order f unit = over_two op.Lsh I unit (constant_i (above_of order f))
@@ -101,7 +106,7 @@ field_bits false order f b = over_two op.Lsh U (masked f b) (constant_i (shift_o
 
 -- the unit without the field's bits, and with new ones
 abbrev pub unit_with : Order → Field → Typed → Template → Template
-unit_with order f a bits = over_two op.Bor U (over_two op.Band U (over op.Cvi U (unit_at a)) (constant_u (other_bits order f))) bits
+unit_with order f a bits = over_two op.Bor U (over_two op.Band U (unit_stored a) (constant_u (other_bits order f))) bits
 
 abbrev pub field_stored : Bool → Order → Field → Typed → Typed → Root
 field_stored top order f a b = record { head = head op.Asgn I; left = as_p a; right = over op.Cvu I (unit_with order f a (field_bits top order f b)) }

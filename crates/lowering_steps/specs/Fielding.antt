@@ -8,14 +8,14 @@ use Rattle.op_forest.specs.declared.suffix.Suffix.TheVariants.{U}
 use Rattle.dag_forest.specs.declared.entry.Entry.{Entry}
 use Rattle.c_match_fields.specs.Fields.{other_bits}
 use Rattle.c_rows_agree.specs.Templates.{Template}
-use Rattle.c_rows_agree.specs.Typed.{Typed, over, over_two, constant_u}
-use Rattle.c_rows_agree.specs.Places.{unit_at, lowered_by}
+use Rattle.c_rows_agree.specs.Typed.{Typed, over_two, constant_u}
+use Rattle.c_rows_agree.specs.Places.{unit_stored, lowered_by}
 use Rattle.lowering_steps.specs.declared.operand.Operand.{Operand}
 use Rattle.lowering_steps.specs.Asking.{Asks, Places}
 
 -- the unit at a place without the field's bits
 abbrev pub unit_without : Order → Field → Typed → Template
-unit_without order f a = over_two op.Band U (over op.Cvi U (unit_at a)) (constant_u (other_bits order f))
+unit_without order f a = over_two op.Band U (unit_stored a) (constant_u (other_bits order f))
 
 -- Where the node is what a template comes to, the operand is what the field's bits come to that stand at the top of it.
 abbrev pub LowersTop : Field → List Entry → ℕ → Operand → List Entry → Type 0

@@ -111,13 +111,21 @@ impl OpenBlock {
         self.both(Op::Band, Suffix::U, number, mask)
     }
 
+    // The unit where it is stored again.
+    fn unit_stored(&mut self, place: Operand) -> Result<u32, Memory>
+        ensures { IfOk result (λ n. Asks self.old (places.unit_stored (typed_of place)) n self.new) }
+    {
+        let place = self.as_p(place)?;
+        let word = self.over(Op::Indir, Suffix::P, place)?;
+        self.over(Op::Cvp, Suffix::U, word)
+    }
+
     // The unit without the field's bits.
     fn cleared(&mut self, order: Order, field: Field, place: Operand) -> Result<u32, Memory>
         requires { field.first + field.width ≤ 32 }
         ensures { IfOk result (λ n. Asks self.old (unit_without order field (typed_of place)) n self.new) }
     {
-        let unit = self.unit(place)?;
-        let unit = self.over(Op::Cvi, Suffix::U, unit)?;
+        let unit = self.unit_stored(place)?;
         let others = self.constant_u(others(order, field))?;
         self.both(Op::Band, Suffix::U, unit, others)
     }

@@ -30,12 +30,12 @@ use Rattle.c_match.specs.Held.{IsOpenTo}
 use Rattle.c_match_objects.proofs.lemmas.Reads.{if_none_none, if_none_same}
 use Rattle.c_match_fields.specs.FieldReads.{right_bits, above_of}
 use Rattle.c_match_fields.specs.Fields.{other_bits, placed}
-use Rattle.c_match_fields.proofs.lemmas.FieldStores.{field_stored as unit_stored}
+use Rattle.c_match_fields.proofs.lemmas.FieldStores.{field_stored as unit_is_stored}
 use Rattle.c_match_fields.proofs.lemmas.KnownFields.{field_reads}
 use Rattle.c_match_fields.proofs.lemmas.RaisedBits.{lowered_number}
 use Rattle.c_rows_agree.specs.Templates.{Template, Scene, Gives}
 use Rattle.c_rows_agree.specs.Typed.{Typed, Holds}
-use Rattle.c_rows_agree.specs.Places.{HoldsObjects, IsStored, raised, lowered_by, unit_at, field_loaded, at_top, masked, field_value_by, field_value, field_bits, field_stored}
+use Rattle.c_rows_agree.specs.Places.{HoldsObjects, IsStored, raised, lowered_by, unit_at, unit_stored, field_loaded, at_top, masked, field_value_by, field_value, field_bits, field_stored}
 use Rattle.c_rows_agree.proofs.lemmas.Conversions.{number_of_value, word_of_number, low_extended}
 use Rattle.c_rows_agree.proofs.lemmas.Suffixes.{i_gives, u_gives, p_gives, i_constant, u_constant}
 
@@ -209,9 +209,9 @@ field_stored_holds k old new purpose f top a b p v os open_to some within h g e 
     let n = number_of_value v a_number in
     let m = number_or_zero v in
     let is_m : v ≡ Number m = n.1 ∙ ap (λ (z : Value). Number (number_or_zero z)) (sym n.1) in
-    let r = unit_stored k.map old new k.objects order purpose f p v h.word os.held os.sound h.is open_to within e in
+    let r = unit_is_stored k.map old new k.objects order purpose f p v h.word os.held os.sound h.is open_to within e in
     let place = p_gives k a.suffix a.tree h.word h.gives in
-    let unit : Gives k (unit_at a) r.unit = (h.word, place, ap gave r.reads) in
+    let unit : Gives k (unit_stored a) r.unit = (r.unit, (h.word, place, ap gave r.reads), refl) in
     let bits = bits_give k top order f b m g.word some (in_unit order f within) g.gives (word_of_number k.map v m g.word is_m g.is) in
     record {
       after = r.after;
@@ -224,7 +224,7 @@ field_stored_holds k old new purpose f top a b p v os open_to some within h g e 
           (
             r.cleared,
             Plain (Number (placed order f m)),
-            (r.unit, Plain (Number (other_bits order f)), (r.unit, unit, refl), u_constant k (other_bits order f) (omega arith), ap gave r.clears),
+            (r.unit, Plain (Number (other_bits order f)), unit, u_constant k (other_bits order f) (omega arith), ap gave r.clears),
             bits,
             ap gave r.sets,
           ),

@@ -29,7 +29,7 @@ use Rattle.c_match_fields.specs.Fields.{other_bits}
 use Rattle.c_rows_agree.specs.Templates.{Template}
 use Rattle.c_rows_agree.specs.Typed.{Typed, head, head_with, constant_i, constant_u, as_i_from, as_u_from, as_p_from, as_i, as_u, as_p, suffix_by, as_by}
 use Rattle.c_rows_agree.specs.Integers.{number, integer_from, narrow_from, converted_by, converted_to, as_pointer, unary_of, operator_of, has_sign, right_sign, binary_of, jump_of, comparison_where, compares_signed, compared_by, compared, jump_by_zero, tested}
-use Rattle.c_rows_agree.specs.Places.{loaded_by, loaded, loaded_pointer, word_stored, stored_by, stored_as, unit_at, raised, lowered_by, field_loaded, at_top, masked, field_value_by, field_value, field_bits, field_stored}
+use Rattle.c_rows_agree.specs.Places.{loaded_by, loaded, loaded_pointer, word_stored, stored_by, stored_as, unit_at, unit_stored, raised, lowered_by, field_loaded, at_top, masked, field_value_by, field_value, field_bits, field_stored}
 use Rattle.c_rows_agree.specs.Fitting.{IsOrdinary, FitsHead, FitsNode, Fits, FitsRoot, IsInteger, IsScalar, FitsTyped, FitsInteger}
 use Rattle.c_rows_agree.proofs.lemmas.Fields.{ones_small, in_unit}
 
@@ -282,6 +282,9 @@ store_fits given w a b h g = stored_fits given w (as_p a) b (p_fits given a.suff
 unit_fits : (given : ℕ → Option Suffix) (a : Typed) → FitsTyped given a → Fits given (unit_at a) I
 unit_fits given a h = (P, node op.Indir I (P ∷ []) (omega arith) tt refl tt refl, p_fits given a.suffix a.tree h.scalar h.fits)
 
+unit_stored_fits : (given : ℕ → Option Suffix) (a : Typed) → FitsTyped given a → Fits given (unit_stored a) U
+unit_stored_fits given a h = (P, cvp_u, (P, node op.Indir P (P ∷ []) (omega arith) tt refl tt refl, p_fits given a.suffix a.tree h.scalar h.fits))
+
 lowered_fits : (given : ℕ → Option Suffix) (signed : Bool) (f : Field) (t : Template) → Fits given t I → FitsInteger given (lowered_by signed f t)
 lowered_fits given true f t h = record { fits = (I, I, node op.Rsh I (I ∷ I ∷ []) (omega arith) tt refl tt refl, h, i_constant_fits given (32 - f.width) (omega arith)); integer = tt }
 lowered_fits given false f t h = record { fits = (U, I, node op.Rsh U (U ∷ I ∷ []) (omega arith) tt refl tt refl, (I, cvi_u, h), i_constant_fits given (32 - f.width) (omega arith)); integer = tt }
@@ -319,7 +322,7 @@ field_store_fits given top order f a b within h g = record {
       U,
       U,
       node op.Bor U (U ∷ U ∷ []) (omega arith) tt refl tt refl,
-      (U, U, node op.Band U (U ∷ U ∷ []) (omega arith) tt refl tt refl, (I, cvi_u, unit_fits given a h), u_constant_fits given (other_bits order f) (omega arith)),
+      (U, U, node op.Band U (U ∷ U ∷ []) (omega arith) tt refl tt refl, unit_stored_fits given a h, u_constant_fits given (other_bits order f) (omega arith)),
       bits_fit given top order f b (in_unit order f within) g,
     ),
   );

@@ -66,8 +66,8 @@ field_changed_entries : (low_e context field_changed begun).low.entries
     ≡ address 0 ∷ over op.Indir P (One 0) ∷ constant (pos 4) ∷ over op.Add P (Two 1 2)
     ∷ over op.Indir I (One 3) ∷ constant (pos 24) ∷ over op.Lsh I (Two 4 5) ∷ constant (pos 27) ∷ over op.Rsh I (Two 6 7)
     ∷ constant (pos 2) ∷ over op.Add I (Two 8 9) ∷ over op.Lsh I (Two 10 7) ∷ over op.Rsh I (Two 11 7)
-    ∷ over op.Cvi U (One 4) ∷ node op.Cnst U Zero sym.Nothing (Some (pos 4294967047)) ∷ over op.Band U (Two 13 14)
-    ∷ over op.Cvi U (One 11) ∷ over op.Rsh U (Two 16 5) ∷ over op.Bor U (Two 15 17) ∷ over op.Cvu I (One 18) ∷ root op.Asgn I (Two 3 19) ∷ []
+    ∷ over op.Indir P (One 3) ∷ over op.Cvp U (One 13) ∷ node op.Cnst U Zero sym.Nothing (Some (pos 4294967047)) ∷ over op.Band U (Two 14 15)
+    ∷ over op.Cvi U (One 11) ∷ over op.Rsh U (Two 17 5) ∷ over op.Bor U (Two 16 18) ∷ over op.Cvu I (One 19) ∷ root op.Asgn I (Two 3 20) ∷ []
 field_changed_entries = refl
 
 field_changed_value : (low_e context field_changed begun).value ≡ given 12 I
