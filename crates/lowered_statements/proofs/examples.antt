@@ -3,3 +3,4 @@ mod LoopExamples
 mod SwitchExamples
 mod FunctionExamples
 mod RelationExamples
+mod InitialiserExamples

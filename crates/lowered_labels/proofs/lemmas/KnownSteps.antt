@@ -1,5 +1,5 @@
 -- Steps of bodies that keep blocks and labels known: roots, labels, zeros, initialisers and returns.
-use Rattle.std.specs.Prelude.{◌<◌, ℕ, zero, suc, ◌+◌, ◌-◌, ◌*◌, ◌/◌, min, nat_le, ℤ, pos, Bool, true, false, Option, Some, None, List, [], ◌∷◌, length, get_or, slice_get}
+use Rattle.std.specs.Prelude.{◌<◌, ℕ, zero, suc, ◌+◌, ◌-◌, ◌*◌, ◌/◌, ◌%◌, min, nat_le, nat_lt, ℤ, pos, Bool, true, false, Option, Some, None, List, [], ◌∷◌, length, get_or, slice_get}
 use Rattle.std.proofs.Common.{arith}
 use Rattle.objects.specs.declared.operators.Binary.TheVariants as binary
 use Rattle.objects.specs.declared.operators.Comparison.TheVariants as comparison
@@ -37,7 +37,7 @@ use Rattle.lowered_blocks.proofs.lemmas.PlainRoots.{IsPlainRoot, stored_plain, w
 use Rattle.lowered_blocks.proofs.lemmas.PlainTemplates as plain
 use Rattle.lowered_blocks.proofs.lemmas.Steps.{names_of, known_by, acted_names, acted_one_names, ended_names, marked_names, jumped_names, label_names}
 use Rattle.lowered_statements.specs.Functions.{Function}
-use Rattle.lowered_statements.specs.Initialisers.{are_zero_from, padded, text_filled, filled_by, filled, all_filled, zero_behind, zero_at_first, zeroed_whole, initialised_as}
+use Rattle.lowered_statements.specs.Initialisers.{part_at, text_filled, filled_by, filled, all_filled, zeroed_whole, initialised_as}
 use Rattle.lowered_statements.specs.Zeroing.{zeroed_at, zeroed_each, zeroed_in_turn, zeroed_by, zeroed}
 
 -- ---- single steps
@@ -76,8 +76,8 @@ pub record IsFree (a : Typed) : Type 0 where
   pub named : plain.IsPlainValue a
   pub found : (n : ℕ) → within.HasIn n a
 
-free_further : (by : ℕ) (base : Typed) → IsFree base → IsFree (further true by base)
-free_further by base h = record { named = plain.further_in true by base h.named; found = λ n. within.further_in n true by base (h.found n) }
+free_further : (b : Bool) (by : ℕ) (base : Typed) → IsFree base → IsFree (further b by base)
+free_further b by base h = record { named = plain.further_in b by base h.named; found = λ n. within.further_in n b by base (h.found n) }
 
 zero_left : (n : ℕ) (w : Width) (a : Template) → IsWithin n a → IsWithin n (stored_by w a (number true 0)).left
 zero_left n One a h = h
@@ -98,7 +98,7 @@ zero_known w a l p f h =
 each_known : (base : Typed) → IsFree base → (w : Width) (from n : ℕ) (l : Low) → IsKnown l → IsKnown (zeroed_each base w from n l)
 each_known base k w from zero l h = h
 each_known base k w from (suc n) l h =
-    let to = free_further from base k in
+    let to = free_further true from base k in
     each_known base k w (from + bytes_in w) n (zeroed_at base w from l) (zero_known w (further true from base) l to.named (to.found (nodes l)) h)
 
 turn_known : (base : Typed) → IsFree base → (w : Width) (from to : ℕ) (l : Low) → IsKnown l → IsKnown (zeroed_in_turn base w from to l)
@@ -128,45 +128,42 @@ zeroed_known base k w from n l h = zeroed_by_known (nat_le n 4) base k w from n 
 
 -- ---- initialisers
 
-padded_known : (are_zero : Bool) (base : Typed) → IsFree base → (from n : ℕ) (l : Low) → IsKnown l → IsKnown (padded are_zero base from n l)
-padded_known true base k from n l h = h
-padded_known false base k from n l h = zeroed_known base k One from n l h
-
-text_known : (f : Function) (base : Typed) → IsFree base → (clear : Option ℕ) (offset : ℕ) (of : CType) (what : CoreKind) (l : Low) → IsKnown l → IsKnown (text_filled f base clear offset of what l)
-text_known f base k clear offset (Array of (Some room)) (kind.Text n) l h =
+text_known : (f : Function) (base : Typed) → IsFree base → (offset : ℕ) (of : CType) (what : CoreKind) (l : Low) → IsKnown l → IsKnown (text_filled f base offset of what l)
+text_known f base k offset (Array of (Some room)) (kind.Text n) l h =
     let bytes = min room (length (get_or f.context.unit.texts n []) + 1) in
     let text = name (text_name f.context.unit n) (pos 0) in
-    let to = free_further offset base k in
-    padded_known (are_zero_from offset clear) base k (offset + bytes) (room - bytes) (acted (copy_root bytes 1 (further true offset base) text) l)
-    (copied_known bytes 1 (further true offset base) text l to.named tt (to.found (nodes l)) tt h)
-text_known f base k clear offset of what l h = h
+    let to = free_further (nat_lt 0 room) offset base k in
+    zeroed_known base k One (offset + bytes) (room - bytes) (acted (copy_root bytes 1 (part_at room offset base) text) l)
+    (copied_known bytes 1 (part_at room offset base) text l to.named tt (to.found (nodes l)) tt h)
+text_known f base k offset of what l h = h
 
-filled_by_known : (array whole : Bool) (f : Function) (base : Typed) → IsFree base → (clear : Option ℕ) (p : FilledOf CType) (v : Typed) (l : Low) → plain.IsPlainValue v → within.HasIn (nodes l) v → IsKnown l
-    → IsKnown (filled_by array whole f base clear p v l)
-filled_by_known true whole f base k clear p v l q i h = text_known f base k clear p.offset p.of (what_of p.value) l h
-filled_by_known false true f base k clear p v l q i h =
-    let to = free_further p.offset base k in
-    copied_known (size_of f.context.unit.tags p.of) (align_of f.context.unit.tags p.of) (further true p.offset base) v l to.named q (to.found (nodes l)) i h
-filled_by_known false false f base k clear p v l q i h =
+filled_by_known : (array whole : Bool) (f : Function) (base : Typed) → IsFree base → (p : FilledOf CType) (v : Typed) (l : Low) → plain.IsPlainValue v → within.HasIn (nodes l) v → IsKnown l
+    → IsKnown (filled_by array whole f base p v l)
+filled_by_known true whole f base k p v l q i h = text_known f base k p.offset p.of (what_of p.value) l h
+filled_by_known false true f base k p v l q i h =
+    let size = size_of f.context.unit.tags p.of in
+    let to = free_further (nat_lt 0 size) p.offset base k in
+    copied_known size (align_of f.context.unit.tags p.of) (part_at size p.offset base) v l to.named q (to.found (nodes l)) i h
+filled_by_known false false f base k p v l q i h =
     let x = spot_filled p in
     let place = further true p.offset base in
-    let to = free_further p.offset base k in
+    let to = free_further true p.offset base k in
     acted_known (written_by (is_field x) false f.context.order x place v) l (written_plain (is_field x) false f.context.order x place v to.named q)
     (within.written_left (nodes l) (is_field x) false f.context.order x place v (to.found (nodes l)))
     (within.written_right (nodes l) (is_field x) false f.context.order x place v (to.found (nodes l)) i) h
 
-filled_known : (f : Function) (base : Typed) → IsFree base → (clear : Option ℕ) (p : FilledOf CType) (l : Low) → IsKnown l → IsKnown (filled f base clear p l)
-filled_known f base k clear p l h =
+filled_known : (f : Function) (base : Typed) → IsFree base → (p : FilledOf CType) (l : Low) → IsKnown l → IsKnown (filled f base p l)
+filled_known f base k p l h =
     let r = low_e f.context p.value l in
     let n = values_have_nodes f.context p.value l h.block in
-    filled_by_known (is_array p.of) (is_record p.of) f base k clear p r.value r.low (value_knows f.context p.value l h).plain n.value (expressions_keep_known f.context p.value l h)
+    filled_by_known (is_array p.of) (is_record p.of) f base k p r.value r.low (value_knows f.context p.value l h).plain n.value (expressions_keep_known f.context p.value l h)
 
-all_filled_known : (f : Function) (base : Typed) → IsFree base → (clear : Option ℕ) (ps : List (FilledOf CType)) (l : Low) → IsKnown l → IsKnown (all_filled f base clear ps l)
-all_filled_known f base k clear [] l h = h
-all_filled_known f base k clear (p ∷ ps) l h = all_filled_known f base k (zero_behind f.context.unit.tags p clear) ps (filled f base clear p l) (filled_known f base k clear p l h)
+all_filled_known : (f : Function) (base : Typed) → IsFree base → (ps : List (FilledOf CType)) (l : Low) → IsKnown l → IsKnown (all_filled f base ps l)
+all_filled_known f base k [] l h = h
+all_filled_known f base k (p ∷ ps) l h = all_filled_known f base k ps (filled f base p l) (filled_known f base k p l h)
 
 whole_known : (clears : Bool) (base : Typed) → IsFree base → (size : ℕ) (l : Low) → IsKnown l → IsKnown (zeroed_whole clears base size l)
-whole_known true base k size l h = zeroed_known base k Four 0 ((size + 3) / 4) l h
+whole_known true base k size l h = each_known base k One (4 * (size / 4)) (size % 4) (zeroed base Four 0 (size / 4) l) (zeroed_known base k Four 0 (size / 4) l h)
 whole_known false base k size l h = h
 
 pub initialised_known : (f : Function) (n : ℕ) (of : Option CType) (clears : Bool) (ps : List (FilledOf CType)) (l : Low) → IsKnown l → IsKnown (initialised_as f n of clears ps l)
@@ -178,4 +175,4 @@ initialised_known f n (Some of) clears ps l h =
       found = λ m. within.local_in m (is_passed_whole f.context n of) (slice_get f.context.places n);
     } in
     let size = size_of f.context.unit.tags of in
-    all_filled_known f base k (zero_at_first clears) ps (zeroed_whole clears base size l) (whole_known clears base k size l h)
+    all_filled_known f base k ps (zeroed_whole clears base size l) (whole_known clears base k size l h)

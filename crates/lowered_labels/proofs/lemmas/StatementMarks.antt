@@ -1,5 +1,5 @@
 -- The lowering of a statement marks the labels of the program that stand in it, and each new label once.
-use Rattle.std.specs.Prelude.{◌≡◌, ℕ, zero, suc, ◌+◌, ◌-◌, ◌*◌, ◌/◌, min, nat_le, Bool, true, false, Option, Some, None, List, [], ◌∷◌, ◌++◌, length, map, get_or, slice_get}
+use Rattle.std.specs.Prelude.{◌≡◌, ℕ, zero, suc, ◌+◌, ◌-◌, ◌*◌, ◌/◌, ◌%◌, min, nat_le, Bool, true, false, Option, Some, None, List, [], ◌∷◌, ◌++◌, length, map, get_or, slice_get}
 use Rattle.std.proofs.Common.{refl, ap, sym, subst, arith}
 use Rattle.objects.specs.declared.operators.Comparison.{Comparison}
 use Rattle.objects.specs.declared.operators.Comparison.TheVariants as comparison
@@ -32,7 +32,7 @@ use Rattle.lowered_forms.specs.Places.{local_place}
 use Rattle.lowered_forms.specs.Values.{slot_read, stored_in}
 use Rattle.lowered_statements.specs.Bodies.{Body, with_low}
 use Rattle.lowered_statements.specs.Functions.{Function, Exits, label_at, placed_cases, label_or}
-use Rattle.lowered_statements.specs.Initialisers.{padded, text_filled, filled_by, filled, all_filled, zero_behind, zero_at_first, zeroed_whole, initialised_as, are_zero_from}
+use Rattle.lowered_statements.specs.Initialisers.{text_filled, filled_by, filled, all_filled, zeroed_whole, initialised_as}
 use Rattle.lowered_statements.specs.Returns.{given_by, nothing_given, return_row}
 use Rattle.lowered_statements.specs.Rows.{maybe_dropped, maybe_tested, choice_by, repeated, while_row, do_row, last_and_test, for_row, for_labelled, switch_row}
 use Rattle.lowered_statements.specs.Searches.{Choice, compared_with, place_in_table, through, Side, way, with_way, side_by, side_at, is_alone, below_tested, one_number, one_table, at_table, searched}
@@ -66,31 +66,29 @@ zeroed_marks base w from n l = zeroed_by_marks (nat_le n 4) base w from n l
 
 -- ---- initialisers
 
-padded_marks : (are_zero : Bool) (base : Typed) (from n : ℕ) (l : Low) → Marks [] l (padded are_zero base from n l)
-padded_marks true base from n l = marks_same l
-padded_marks false base from n l = zeroed_marks base One from n l
-
-text_marks : (f : Function) (base : Typed) (clear : Option ℕ) (offset : ℕ) (of : CType) (what : CoreKind) (l : Low) → Marks [] l (text_filled f base clear offset of what l)
-text_marks f base clear offset (Array of (Some room)) (kind.Text n) l =
+text_marks : (f : Function) (base : Typed) (offset : ℕ) (of : CType) (what : CoreKind) (l : Low) → Marks [] l (text_filled f base offset of what l)
+text_marks f base offset (Array of (Some room)) (kind.Text n) l =
     let bytes = min room (length (get_or f.context.unit.texts n []) + 1) in
-    record { counts = (padded_marks (are_zero_from offset clear) base (offset + bytes) (room - bytes) _).counts }
-text_marks f base clear offset of what l = marks_same l
+    record { counts = (zeroed_marks base One (offset + bytes) (room - bytes) _).counts }
+text_marks f base offset of what l = marks_same l
 
-filled_by_marks : (array whole : Bool) (f : Function) (base : Typed) (clear : Option ℕ) (p : FilledOf CType) (v : Typed) (l : Low) → Marks [] l (filled_by array whole f base clear p v l)
-filled_by_marks true whole f base clear p v l = text_marks f base clear p.offset p.of (what_of p.value) l
-filled_by_marks false true f base clear p v l = record { counts = λ n. omega arith }
-filled_by_marks false false f base clear p v l = record { counts = λ n. omega arith }
+filled_by_marks : (array whole : Bool) (f : Function) (base : Typed) (p : FilledOf CType) (v : Typed) (l : Low) → Marks [] l (filled_by array whole f base p v l)
+filled_by_marks true whole f base p v l = text_marks f base p.offset p.of (what_of p.value) l
+filled_by_marks false true f base p v l = record { counts = λ n. omega arith }
+filled_by_marks false false f base p v l = record { counts = λ n. omega arith }
 
-all_filled_marks : (f : Function) (base : Typed) (clear : Option ℕ) (ps : List (FilledOf CType)) (l : Low) → Marks [] l (all_filled f base clear ps l)
-all_filled_marks f base clear [] l = marks_same l
-all_filled_marks f base clear (p ∷ ps) l =
+all_filled_marks : (f : Function) (base : Typed) (ps : List (FilledOf CType)) (l : Low) → Marks [] l (all_filled f base ps l)
+all_filled_marks f base [] l = marks_same l
+all_filled_marks f base (p ∷ ps) l =
     let r = low_e f.context p.value l in
-    let l1 = filled f base clear p l in
+    let l1 = filled f base p l in
     marks_on l r.low _ (value_marks f.context p.value l)
-    (marks_on r.low l1 _ (filled_by_marks (is_array p.of) (is_record p.of) f base clear p r.value r.low) (all_filled_marks f base (zero_behind f.context.unit.tags p clear) ps l1))
+    (marks_on r.low l1 _ (filled_by_marks (is_array p.of) (is_record p.of) f base p r.value r.low) (all_filled_marks f base ps l1))
 
 whole_marks : (clears : Bool) (base : Typed) (size : ℕ) (l : Low) → Marks [] l (zeroed_whole clears base size l)
-whole_marks true base size l = zeroed_marks base Four 0 ((size + 3) / 4) l
+whole_marks true base size l =
+    let l1 = zeroed base Four 0 (size / 4) l in
+    marks_on l l1 _ (zeroed_marks base Four 0 (size / 4) l) (each_marks base One (4 * (size / 4)) (size % 4) l1)
 whole_marks false base size l = marks_same l
 
 initialised_marks : (f : Function) (n : ℕ) (of : Option CType) (clears : Bool) (ps : List (FilledOf CType)) (l : Low) → Marks [] l (initialised_as f n of clears ps l)
@@ -98,7 +96,7 @@ initialised_marks f n None clears ps l = marks_same l
 initialised_marks f n (Some of) clears ps l =
     let base = local_place f.context n of in
     let l1 = zeroed_whole clears base (size_of f.context.unit.tags of) l in
-    marks_on l l1 _ (whole_marks clears base (size_of f.context.unit.tags of) l) (all_filled_marks f base (zero_at_first clears) ps l1)
+    marks_on l l1 _ (whole_marks clears base (size_of f.context.unit.tags of) l) (all_filled_marks f base ps l1)
 
 -- ---- returns
 

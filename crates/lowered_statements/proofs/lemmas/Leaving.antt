@@ -1,5 +1,5 @@
 -- Blocks stay blocks behind statements: operands are nodes of the open block, and no two nodes are equal.
-use Rattle.std.specs.Prelude.{ℕ, zero, suc, ◌+◌, ◌-◌, ◌/◌, min, length, get_or, pos, nat_le, Bool, true, false, Option, Some, None, List, [], ◌∷◌, slice_get}
+use Rattle.std.specs.Prelude.{ℕ, zero, suc, ◌+◌, ◌-◌, ◌*◌, ◌/◌, ◌%◌, min, length, get_or, pos, nat_le, nat_lt, Bool, true, false, Option, Some, None, List, [], ◌∷◌, slice_get}
 use Rattle.std.proofs.Common.{sym, subst}
 use Rattle.objects.specs.declared.width.Width.{Width}
 use Rattle.objects.specs.declared.width.Width.TheVariants.{One, Two, Four}
@@ -37,7 +37,7 @@ use Rattle.lowered_forms.proofs.lemmas.Pending.{empty_block}
 use Rattle.lowered_forms.proofs.lemmas.WithinTemplates.{HasIn, as_i_in, as_p_in, further_in, local_in, written_left, written_right}
 use Rattle.lowered_statements.specs.Bodies.{Body, with_low, returned}
 use Rattle.lowered_statements.specs.Functions.{Function, Exits, label_at}
-use Rattle.lowered_statements.specs.Initialisers.{are_zero_from, padded, text_copied, text_filled, filled_by, filled, all_filled, zero_behind, zero_at_first, zeroed_whole, initialised_as}
+use Rattle.lowered_statements.specs.Initialisers.{part_at, text_copied, text_filled, filled_by, filled, all_filled, zeroed_whole, initialised_as}
 use Rattle.lowered_statements.specs.Returns.{hidden, given_by, nothing_given, return_row}
 use Rattle.lowered_statements.specs.Rows.{choice_by}
 use Rattle.lowered_statements.specs.Statements.{StmtTree, StmtTrees, is_nothing, low_s, low_all}
@@ -68,8 +68,8 @@ copied_block size align to from l b f g = acted_block (copy_root size align to f
 
 -- ---- zeros
 
-free_further : (by : ℕ) (base : Typed) → IsFree base → IsFree (further true by base)
-free_further by base h n = further_in n true by base (h n)
+free_further : (b : Bool) (by : ℕ) (base : Typed) → IsFree base → IsFree (further b by base)
+free_further b by base h n = further_in n b by base (h n)
 
 zero_left : (n : ℕ) (w : Width) (a : Template) → IsWithin n a → IsWithin n (stored_by w a (number true 0)).left
 zero_left n One a h = h
@@ -85,7 +85,7 @@ zero_block : (base : Typed) → IsFree base → (w : Width) (from : ℕ) (l : Lo
 zero_block base h w from l b =
     let p = further true from base in
     acted_block (stored_as w p (number true 0)) l b
-    (zero_left (nodes l) w (as_p p) (as_p_in (nodes l) p.suffix p.tree (free_further from base h (nodes l))))
+    (zero_left (nodes l) w (as_p p) (as_p_in (nodes l) p.suffix p.tree (free_further true from base h (nodes l))))
     (zero_right (nodes l) w (as_p p))
 
 each_block : (base : Typed) → IsFree base → (w : Width) (from n : ℕ) (l : Low) → IsBlock l.entries → IsBlock (zeroed_each base w from n l).entries
@@ -101,42 +101,39 @@ zeroed_block base h w from n l b = zeroed_by_block (nat_le n 4) base h w from n 
 
 -- ---- initialisers
 
-padded_block : (are_zero : Bool) (base : Typed) → IsFree base → (from n : ℕ) (l : Low) → IsBlock l.entries → IsBlock (padded are_zero base from n l).entries
-padded_block true base h from n l b = b
-padded_block false base h from n l b = zeroed_block base h One from n l b
+text_copied_block : (base text : Typed) → IsFree base → IsFree text → (offset bytes room : ℕ) (l : Low) → IsBlock l.entries → IsBlock (text_copied base text offset bytes room l).entries
+text_copied_block base text h g offset bytes room l b =
+    zeroed_block base h One (offset + bytes) (room - bytes) (acted (copy_root bytes 1 (part_at room offset base) text) l) (copied_block bytes 1 (part_at room offset base) text l b (free_further (nat_lt 0 room) offset base h (nodes l)) (g (nodes l)))
 
-text_copied_block : (base text : Typed) → IsFree base → IsFree text → (are_zero : Bool) (offset bytes room : ℕ) (l : Low) → IsBlock l.entries → IsBlock (text_copied base text are_zero offset bytes room l).entries
-text_copied_block base text h g are_zero offset bytes room l b =
-    padded_block are_zero base h (offset + bytes) (room - bytes) (acted (copy_root bytes 1 (further true offset base) text) l) (copied_block bytes 1 (further true offset base) text l b (free_further offset base h (nodes l)) (g (nodes l)))
+text_block : (f : Function) (base : Typed) → IsFree base → (offset : ℕ) (of : CType) (what : CoreKind) (l : Low) → IsBlock l.entries → IsBlock (text_filled f base offset of what l).entries
+text_block f base h offset (Array of (Some room)) (kind.Text n) l b = text_copied_block base (name (text_name f.context.unit n) (pos 0)) h (λ m. tt) offset (min room (length (get_or f.context.unit.texts n []) + 1)) room l b
+text_block f base h offset of what l b = b
 
-text_block : (f : Function) (base : Typed) → IsFree base → (clear : Option ℕ) (offset : ℕ) (of : CType) (what : CoreKind) (l : Low) → IsBlock l.entries → IsBlock (text_filled f base clear offset of what l).entries
-text_block f base h clear offset (Array of (Some room)) (kind.Text n) l b = text_copied_block base (name (text_name f.context.unit n) (pos 0)) h (λ m. tt) (are_zero_from offset clear) offset (min room (length (get_or f.context.unit.texts n []) + 1)) room l b
-text_block f base h clear offset of what l b = b
-
-filled_by_block : (array whole : Bool) (f : Function) (base : Typed) → IsFree base → (clear : Option ℕ) (p : FilledOf CType) (v : Typed) (l : Low) → IsBlock l.entries → HasIn (nodes l) v
-    → IsBlock (filled_by array whole f base clear p v l).entries
-filled_by_block true whole f base h clear p v l b g = text_block f base h clear p.offset p.of (what_of p.value) l b
-filled_by_block false true f base h clear p v l b g =
-    copied_block (size_of f.context.unit.tags p.of) (align_of f.context.unit.tags p.of) (further true p.offset base) v l b (free_further p.offset base h (nodes l)) g
-filled_by_block false false f base h clear p v l b g =
+filled_by_block : (array whole : Bool) (f : Function) (base : Typed) → IsFree base → (p : FilledOf CType) (v : Typed) (l : Low) → IsBlock l.entries → HasIn (nodes l) v
+    → IsBlock (filled_by array whole f base p v l).entries
+filled_by_block true whole f base h p v l b g = text_block f base h p.offset p.of (what_of p.value) l b
+filled_by_block false true f base h p v l b g =
+    let size = size_of f.context.unit.tags p.of in
+    copied_block size (align_of f.context.unit.tags p.of) (part_at size p.offset base) v l b (free_further (nat_lt 0 size) p.offset base h (nodes l)) g
+filled_by_block false false f base h p v l b g =
     let x = spot_filled p in
     let to = further true p.offset base in
     acted_block (written_by (is_field x) false f.context.order x to v) l b
-    (written_left (nodes l) (is_field x) false f.context.order x to v (free_further p.offset base h (nodes l)))
-    (written_right (nodes l) (is_field x) false f.context.order x to v (free_further p.offset base h (nodes l)) g)
+    (written_left (nodes l) (is_field x) false f.context.order x to v (free_further true p.offset base h (nodes l)))
+    (written_right (nodes l) (is_field x) false f.context.order x to v (free_further true p.offset base h (nodes l)) g)
 
-filled_block : (f : Function) (base : Typed) → IsFree base → (clear : Option ℕ) (p : FilledOf CType) (l : Low) → IsBlock l.entries → IsBlock (filled f base clear p l).entries
-filled_block f base h clear p l b =
+filled_block : (f : Function) (base : Typed) → IsFree base → (p : FilledOf CType) (l : Low) → IsBlock l.entries → IsBlock (filled f base p l).entries
+filled_block f base h p l b =
     let r = low_e f.context p.value l in
     let v = values_have_nodes f.context p.value l b in
-    filled_by_block (is_array p.of) (is_record p.of) f base h clear p r.value r.low v.block v.value
+    filled_by_block (is_array p.of) (is_record p.of) f base h p r.value r.low v.block v.value
 
-all_filled_block : (f : Function) (base : Typed) → IsFree base → (clear : Option ℕ) (ps : List (FilledOf CType)) (l : Low) → IsBlock l.entries → IsBlock (all_filled f base clear ps l).entries
-all_filled_block f base h clear [] l b = b
-all_filled_block f base h clear (p ∷ ps) l b = all_filled_block f base h (zero_behind f.context.unit.tags p clear) ps (filled f base clear p l) (filled_block f base h clear p l b)
+all_filled_block : (f : Function) (base : Typed) → IsFree base → (ps : List (FilledOf CType)) (l : Low) → IsBlock l.entries → IsBlock (all_filled f base ps l).entries
+all_filled_block f base h [] l b = b
+all_filled_block f base h (p ∷ ps) l b = all_filled_block f base h ps (filled f base p l) (filled_block f base h p l b)
 
 whole_block : (clears : Bool) (base : Typed) → IsFree base → (size : ℕ) (l : Low) → IsBlock l.entries → IsBlock (zeroed_whole clears base size l).entries
-whole_block true base h size l b = zeroed_block base h Four 0 ((size + 3) / 4) l b
+whole_block true base h size l b = each_block base h One (4 * (size / 4)) (size % 4) (zeroed base Four 0 (size / 4) l) (zeroed_block base h Four 0 (size / 4) l b)
 whole_block false base h size l b = b
 
 initialised_as_block : (f : Function) (n : ℕ) (of : Option CType) (clears : Bool) (ps : List (FilledOf CType)) (l : Low) → IsBlock l.entries → IsBlock (initialised_as f n of clears ps l).entries
@@ -145,7 +142,7 @@ initialised_as_block f n (Some of) clears ps l b =
     let base = local_place f.context n of in
     let h : IsFree base = λ m. local_in m (is_passed_whole f.context n of) (slice_get f.context.places n) in
     let size = size_of f.context.unit.tags of in
-    all_filled_block f base h (zero_at_first clears) ps (zeroed_whole clears base size l) (whole_block clears base h size l b)
+    all_filled_block f base h ps (zeroed_whole clears base size l) (whole_block clears base h size l b)
 
 -- ---- returns
 

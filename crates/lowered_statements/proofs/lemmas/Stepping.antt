@@ -1,5 +1,5 @@
 -- What each step keeps, the parts of statements keep that stand in no search: zeros, initialisers, returns and jumps.
-use Rattle.std.specs.Prelude.{ℕ, zero, suc, ◌+◌, ◌-◌, ◌*◌, ◌/◌, min, ℤ, pos, nat_le, Bool, true, false, Option, Some, None, List, [], ◌∷◌, length, get_or, slice_get}
+use Rattle.std.specs.Prelude.{ℕ, zero, suc, ◌+◌, ◌-◌, ◌*◌, ◌/◌, ◌%◌, min, ℤ, pos, nat_le, Bool, true, false, Option, Some, None, List, [], ◌∷◌, length, get_or, slice_get}
 use Rattle.objects.specs.declared.operators.Binary.TheVariants as binary
 use Rattle.objects.specs.declared.operators.Comparison.TheVariants as comparison
 use Rattle.objects.specs.declared.width.Width.{Width}
@@ -32,7 +32,7 @@ use Rattle.lowered_forms.proofs.lemmas.Induction.{value_steps, test_steps}
 use Rattle.lowered_forms.proofs.lemmas.Stepping.{then_steps, branched_steps, stores_uncounted}
 use Rattle.lowered_statements.specs.Bodies.{Body, with_low}
 use Rattle.lowered_statements.specs.Functions.{Function}
-use Rattle.lowered_statements.specs.Initialisers.{are_zero_from, padded, text_copied, text_filled, filled_by, filled, all_filled, zero_behind, zero_at_first, zeroed_whole, initialised_as, initialised}
+use Rattle.lowered_statements.specs.Initialisers.{part_at, text_copied, text_filled, filled_by, filled, all_filled, zeroed_whole, initialised_as, initialised}
 use Rattle.lowered_statements.specs.Steps.{BodyRelation, BodySteps}
 use Rattle.lowered_statements.specs.Zeroing.{zeroed_at, zeroed_each, zeroed_next, zeroed_up_to, zeroed_in_turn, zeroed_by, zeroed}
 
@@ -82,7 +82,7 @@ module _ (R : Relation) (k : Steps R) (j : Jumps R) where
 
   -- ---- zeros
 
-  each_step : (base : Typed) (w : Width) (from n : ℕ) (l : Low) → R 0 l (zeroed_each base w from n l)
+  pub each_step : (base : Typed) (w : Width) (from n : ℕ) (l : Low) → R 0 l (zeroed_each base w from n l)
   each_step base w from zero l = k.same l
   each_step base w from (suc n) l =
       then_steps R k l (zeroed_at base w from l) _ (root_step (stored_as w (further true from base) (number true 0)) l) (each_step base w (from + bytes_in w) n (zeroed_at base w from l))
@@ -115,36 +115,34 @@ module _ (R : Relation) (k : Steps R) (j : Jumps R) where
 
   -- ---- initialisers
 
-  padded_step : (are_zero : Bool) (base : Typed) (from n : ℕ) (l : Low) → R 0 l (padded are_zero base from n l)
-  padded_step true base from n l = k.same l
-  padded_step false base from n l = zeroed_step base One from n l
+  text_copied_step : (base text : Typed) (offset bytes room : ℕ) (l : Low) → R 0 l (text_copied base text offset bytes room l)
+  text_copied_step base text offset bytes room l =
+      then_steps R k l (acted (copy_root bytes 1 (part_at room offset base) text) l) _ (root_step (copy_root bytes 1 (part_at room offset base) text) l) (zeroed_step base One (offset + bytes) (room - bytes) (acted (copy_root bytes 1 (part_at room offset base) text) l))
 
-  text_copied_step : (base text : Typed) (are_zero : Bool) (offset bytes room : ℕ) (l : Low) → R 0 l (text_copied base text are_zero offset bytes room l)
-  text_copied_step base text are_zero offset bytes room l =
-      then_steps R k l (acted (copy_root bytes 1 (further true offset base) text) l) _ (root_step (copy_root bytes 1 (further true offset base) text) l) (padded_step are_zero base (offset + bytes) (room - bytes) (acted (copy_root bytes 1 (further true offset base) text) l))
+  text_step : (f : Function) (base : Typed) (offset : ℕ) (of : CType) (what : CoreKind) (l : Low) → R 0 l (text_filled f base offset of what l)
+  text_step f base offset (Array of (Some room)) (kind.Text n) l = text_copied_step base (name (text_name f.context.unit n) (pos 0)) offset (min room (length (get_or f.context.unit.texts n []) + 1)) room l
+  text_step f base offset of what l = k.same l
 
-  text_step : (f : Function) (base : Typed) (clear : Option ℕ) (offset : ℕ) (of : CType) (what : CoreKind) (l : Low) → R 0 l (text_filled f base clear offset of what l)
-  text_step f base clear offset (Array of (Some room)) (kind.Text n) l = text_copied_step base (name (text_name f.context.unit n) (pos 0)) (are_zero_from offset clear) offset (min room (length (get_or f.context.unit.texts n []) + 1)) room l
-  text_step f base clear offset of what l = k.same l
-
-  filled_by_step : (array whole : Bool) (f : Function) (base : Typed) (clear : Option ℕ) (p : FilledOf CType) (v : Typed) (l : Low) → R 0 l (filled_by array whole f base clear p v l)
-  filled_by_step true whole f base clear p v l = text_step f base clear p.offset p.of (what_of p.value) l
-  filled_by_step false true f base clear p v l = root_step (copy_root (size_of f.context.unit.tags p.of) (align_of f.context.unit.tags p.of) (further true p.offset base) v) l
-  filled_by_step false false f base clear p v l =
+  pub filled_by_step : (array whole : Bool) (f : Function) (base : Typed) (p : FilledOf CType) (v : Typed) (l : Low) → R 0 l (filled_by array whole f base p v l)
+  filled_by_step true whole f base p v l = text_step f base p.offset p.of (what_of p.value) l
+  filled_by_step false true f base p v l = root_step (copy_root (size_of f.context.unit.tags p.of) (align_of f.context.unit.tags p.of) (part_at (size_of f.context.unit.tags p.of) p.offset base) v) l
+  filled_by_step false false f base p v l =
       root_step (written_by (is_field (spot_filled p)) false f.context.order (spot_filled p) (further true p.offset base) v) l
 
-  filled_step : (f : Function) (base : Typed) (clear : Option ℕ) (p : FilledOf CType) (l : Low) → R 0 l (filled f base clear p l)
-  filled_step f base clear p l =
+  pub filled_step : (f : Function) (base : Typed) (p : FilledOf CType) (l : Low) → R 0 l (filled f base p l)
+  filled_step f base p l =
       let r = low_e f.context p.value l in
-      then_steps R k l r.low _ (j.uncounted _ 0 l r.low (value_steps R k f.context p.value (λ h. j) l)) (filled_by_step (is_array p.of) (is_record p.of) f base clear p r.value r.low)
+      then_steps R k l r.low _ (j.uncounted _ 0 l r.low (value_steps R k f.context p.value (λ h. j) l)) (filled_by_step (is_array p.of) (is_record p.of) f base p r.value r.low)
 
-  all_filled_step : (f : Function) (base : Typed) (clear : Option ℕ) (ps : List (FilledOf CType)) (l : Low) → R 0 l (all_filled f base clear ps l)
-  all_filled_step f base clear [] l = k.same l
-  all_filled_step f base clear (p ∷ ps) l =
-      then_steps R k l (filled f base clear p l) _ (filled_step f base clear p l) (all_filled_step f base (zero_behind f.context.unit.tags p clear) ps (filled f base clear p l))
+  pub all_filled_step : (f : Function) (base : Typed) (ps : List (FilledOf CType)) (l : Low) → R 0 l (all_filled f base ps l)
+  all_filled_step f base [] l = k.same l
+  all_filled_step f base (p ∷ ps) l =
+      then_steps R k l (filled f base p l) _ (filled_step f base p l) (all_filled_step f base ps (filled f base p l))
 
-  whole_step : (clears : Bool) (base : Typed) (size : ℕ) (l : Low) → R 0 l (zeroed_whole clears base size l)
-  whole_step true base size l = zeroed_step base Four 0 ((size + 3) / 4) l
+  pub whole_step : (clears : Bool) (base : Typed) (size : ℕ) (l : Low) → R 0 l (zeroed_whole clears base size l)
+  whole_step true base size l =
+      let l1 = zeroed base Four 0 (size / 4) l in
+      then_steps R k l l1 _ (zeroed_step base Four 0 (size / 4) l) (each_step base One (4 * (size / 4)) (size % 4) l1)
   whole_step false base size l = k.same l
 
   initialised_as_step : (f : Function) (n : ℕ) (of : Option CType) (clears : Bool) (ps : List (FilledOf CType)) (l : Low) → R 0 l (initialised_as f n of clears ps l)
@@ -152,7 +150,7 @@ module _ (R : Relation) (k : Steps R) (j : Jumps R) where
   initialised_as_step f n (Some of) clears ps l =
       let base = local_place f.context n of in
       let l1 = zeroed_whole clears base (size_of f.context.unit.tags of) l in
-      then_steps R k l l1 _ (whole_step clears base (size_of f.context.unit.tags of) l) (all_filled_step f base (zero_at_first clears) ps l1)
+      then_steps R k l l1 _ (whole_step clears base (size_of f.context.unit.tags of) l) (all_filled_step f base ps l1)
 
   pub initialised_step : (f : Function) (n : ℕ) (clears : Bool) (ps : List (FilledOf CType)) (l : Low) → R 0 l (initialised f n clears ps l)
   initialised_step f n clears ps l = initialised_as_step f n (slice_get f.locals n) clears ps l

@@ -1,5 +1,5 @@
 -- What initialisers take: a slot and a label for a loop that clears, and what the values take.
-use Rattle.std.specs.Prelude.{◌≤◌, ℕ, zero, suc, ◌+◌, ◌-◌, ◌*◌, ◌/◌, min, ℤ, pos, nat_le, Bool, true, false, Option, Some, None, List, [], ◌∷◌, length, get_or, slice_get}
+use Rattle.std.specs.Prelude.{◌≤◌, ℕ, zero, suc, ◌+◌, ◌-◌, ◌*◌, ◌/◌, ◌%◌, min, ℤ, pos, nat_le, Bool, true, false, Option, Some, None, List, [], ◌∷◌, length, get_or, slice_get}
 use Rattle.std.proofs.Common.{arith}
 use Rattle.objects.specs.declared.operators.Binary.TheVariants as binary
 use Rattle.objects.specs.declared.operators.Comparison.TheVariants as comparison
@@ -27,7 +27,7 @@ use Rattle.lowered_forms.specs.Lows.{Low, acted, marked, with_label, with_slot, 
 use Rattle.lowered_forms.specs.Places.{further, local_place}
 use Rattle.lowered_forms.specs.Values.{slot_read, stored_in}
 use Rattle.lowered_statements.specs.Functions.{Function}
-use Rattle.lowered_statements.specs.Initialisers.{are_zero_from, padded, text_copied, text_filled, filled_by, filled, all_filled, zero_behind, zero_at_first, zeroed_whole, initialised_as, initialised}
+use Rattle.lowered_statements.specs.Initialisers.{part_at, text_copied, text_filled, filled_by, filled, all_filled, zeroed_whole, initialised_as, initialised}
 use Rattle.lowered_statements.specs.Zeroing.{zeroed_at, zeroed_each, zeroed_next, zeroed_up_to, zeroed_in_turn, zeroed_by, zeroed}
 use Rattle.lowered_sizes.proofs.lemmas.Counting.{branched_counts, stored_counts}
 use Rattle.lowered_sizes.proofs.lemmas.CountedExpressions.{slots_for, slots_are, value_counts, test_counts}
@@ -82,39 +82,37 @@ zeroed_takes base w from n l = zeroed_by_takes (nat_le n 4) base w from n l
 
 -- ---- initialisers
 
-padded_takes : (are_zero : Bool) (base : Typed) (from n : ℕ) (l : Low) → Takes 1 1 l (padded are_zero base from n l)
-padded_takes true base from n l = allowed 1 1 l l (takes_counts.same l)
-padded_takes false base from n l = zeroed_takes base One from n l
+text_copied_takes : (base text : Typed) (offset bytes room : ℕ) (l : Low) → Takes 1 1 l (text_copied base text offset bytes room l)
+text_copied_takes base text offset bytes room l =
+    let r = copy_root bytes 1 (part_at room offset base) text in
+    joined (takes_counts.acts r l) (zeroed_takes base One (offset + bytes) (room - bytes) (acted r l))
 
-text_copied_takes : (base text : Typed) (are_zero : Bool) (offset bytes room : ℕ) (l : Low) → Takes 1 1 l (text_copied base text are_zero offset bytes room l)
-text_copied_takes base text are_zero offset bytes room l =
-    let r = copy_root bytes 1 (further true offset base) text in
-    joined (takes_counts.acts r l) (padded_takes are_zero base (offset + bytes) (room - bytes) (acted r l))
+text_takes : (f : Function) (base : Typed) (offset : ℕ) (of : CType) (what : CoreKind) (l : Low) → Takes 1 1 l (text_filled f base offset of what l)
+text_takes f base offset (Array of (Some room)) (kind.Text n) l =
+    text_copied_takes base (name (text_name f.context.unit n) (pos 0)) offset (min room (length (get_or f.context.unit.texts n []) + 1)) room l
+text_takes f base offset of what l = allowed 1 1 l l (takes_counts.same l)
 
-text_takes : (f : Function) (base : Typed) (clear : Option ℕ) (offset : ℕ) (of : CType) (what : CoreKind) (l : Low) → Takes 1 1 l (text_filled f base clear offset of what l)
-text_takes f base clear offset (Array of (Some room)) (kind.Text n) l =
-    text_copied_takes base (name (text_name f.context.unit n) (pos 0)) (are_zero_from offset clear) offset (min room (length (get_or f.context.unit.texts n []) + 1)) room l
-text_takes f base clear offset of what l = allowed 1 1 l l (takes_counts.same l)
+filled_by_takes : (array whole : Bool) (f : Function) (base : Typed) (p : FilledOf CType) (v : Typed) (l : Low) → Takes 1 1 l (filled_by array whole f base p v l)
+filled_by_takes true whole f base p v l = text_takes f base p.offset p.of (what_of p.value) l
+filled_by_takes false true f base p v l = allowed 1 1 l _ (takes_counts.acts (copy_root (size_of f.context.unit.tags p.of) (align_of f.context.unit.tags p.of) (part_at (size_of f.context.unit.tags p.of) p.offset base) v) l)
+filled_by_takes false false f base p v l = allowed 1 1 l _ (takes_counts.acts (written_by (is_field (spot_filled p)) false f.context.order (spot_filled p) (further true p.offset base) v) l)
 
-filled_by_takes : (array whole : Bool) (f : Function) (base : Typed) (clear : Option ℕ) (p : FilledOf CType) (v : Typed) (l : Low) → Takes 1 1 l (filled_by array whole f base clear p v l)
-filled_by_takes true whole f base clear p v l = text_takes f base clear p.offset p.of (what_of p.value) l
-filled_by_takes false true f base clear p v l = allowed 1 1 l _ (takes_counts.acts (copy_root (size_of f.context.unit.tags p.of) (align_of f.context.unit.tags p.of) (further true p.offset base) v) l)
-filled_by_takes false false f base clear p v l = allowed 1 1 l _ (takes_counts.acts (written_by (is_field (spot_filled p)) false f.context.order (spot_filled p) (further true p.offset base) v) l)
-
-filled_takes : (f : Function) (base : Typed) (clear : Option ℕ) (p : FilledOf CType) (l : Low) → Takes (2 * parts p.value) (3 * parts p.value) l (filled f base clear p l)
-filled_takes f base clear p l =
+filled_takes : (f : Function) (base : Typed) (p : FilledOf CType) (l : Low) → Takes (2 * parts p.value) (3 * parts p.value) l (filled f base p l)
+filled_takes f base p l =
     let r = low_e f.context p.value l in
     let d = slots_are p.value in
     let e = some_parts p.value in
-    at_most (2 * parts p.value) (3 * parts p.value) (joined (value_takes f.context p.value l) (filled_by_takes (is_array p.of) (is_record p.of) f base clear p r.value r.low)) (omega (arith, d)) (omega (arith, e))
+    at_most (2 * parts p.value) (3 * parts p.value) (joined (value_takes f.context p.value l) (filled_by_takes (is_array p.of) (is_record p.of) f base p r.value r.low)) (omega (arith, d)) (omega (arith, e))
 
-all_filled_takes : (f : Function) (base : Typed) (clear : Option ℕ) (ps : List (FilledOf CType)) (l : Low) → Takes (2 * filled_nodes ps) (3 * filled_nodes ps) l (all_filled f base clear ps l)
-all_filled_takes f base clear [] l = takes_counts.same l
-all_filled_takes f base clear (p ∷ ps) l =
-    at_most (2 * filled_nodes (p ∷ ps)) (3 * filled_nodes (p ∷ ps)) (joined (filled_takes f base clear p l) (all_filled_takes f base (zero_behind f.context.unit.tags p clear) ps (filled f base clear p l))) (omega arith) (omega arith)
+all_filled_takes : (f : Function) (base : Typed) (ps : List (FilledOf CType)) (l : Low) → Takes (2 * filled_nodes ps) (3 * filled_nodes ps) l (all_filled f base ps l)
+all_filled_takes f base [] l = takes_counts.same l
+all_filled_takes f base (p ∷ ps) l =
+    at_most (2 * filled_nodes (p ∷ ps)) (3 * filled_nodes (p ∷ ps)) (joined (filled_takes f base p l) (all_filled_takes f base ps (filled f base p l))) (omega arith) (omega arith)
 
 whole_takes : (clears : Bool) (base : Typed) (size : ℕ) (l : Low) → Takes 1 1 l (zeroed_whole clears base size l)
-whole_takes true base size l = zeroed_takes base Four 0 ((size + 3) / 4) l
+whole_takes true base size l =
+    let l1 = zeroed base Four 0 (size / 4) l in
+    joined (zeroed_takes base Four 0 (size / 4) l) (each_takes base One (4 * (size / 4)) (size % 4) l1)
 whole_takes false base size l = allowed 1 1 l l (takes_counts.same l)
 
 initialised_as_takes : (f : Function) (n : ℕ) (of : Option CType) (clears : Bool) (ps : List (FilledOf CType)) (l : Low) → Takes (1 + 2 * filled_nodes ps) (1 + 3 * filled_nodes ps) l (initialised_as f n of clears ps l)
@@ -122,7 +120,7 @@ initialised_as_takes f n None clears ps l = allowed (1 + 2 * filled_nodes ps) (1
 initialised_as_takes f n (Some of) clears ps l =
     let base = local_place f.context n of in
     let size = size_of f.context.unit.tags of in
-    joined (whole_takes clears base size l) (all_filled_takes f base (zero_at_first clears) ps (zeroed_whole clears base size l))
+    joined (whole_takes clears base size l) (all_filled_takes f base ps (zeroed_whole clears base size l))
 
 pub initialised_takes : (f : Function) (n : ℕ) (clears : Bool) (ps : List (FilledOf CType)) (l : Low) → Takes (1 + 2 * filled_nodes ps) (1 + 3 * filled_nodes ps) l (initialised f n clears ps l)
 initialised_takes f n clears ps l = initialised_as_takes f n (slice_get f.locals n) clears ps l
