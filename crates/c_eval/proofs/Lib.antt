@@ -18,6 +18,7 @@ pub mod Firsts
 pub mod Counts
 pub mod Lighter
 pub mod Passing
+pub mod Returns
 pub mod Unused
 pub mod StatementSteps
 pub mod SwitchSteps

@@ -1,18 +1,25 @@
 //! What is left to do, the innermost on top.
 ghost use Rattle.std.specs.Prelude.{◌≡◌, ◌∷◌, [], IfOk, IfSome, IfNone, reverse};
-ghost use Rattle.c_eval.specs.Frames.{below, first_or_zero, frames, joined, others};
+ghost use Rattle.c_eval.specs.Frames.{apart, below, frames, from_call, joined};
 
 use crate::frame::Frame;
-use crate::kept::Kept;
+use crate::kept::{Counts, Kept, Ways};
+use c_meaning::{CoreExpr, CoreStmt, FilledPlace};
 use lcc_base::Memory;
 use objects::Value;
 use std::alloc::Global;
 
-/// What is left to do: frames without their values, and the values of those that have one.
+/// What is left to do: frames, and apart of them what only some have, each of one kind by itself. So a frame takes 16
+/// bytes, and what stands apart of it.
 #[derive(Drop)]
 pub struct Stack<'a> {
     kept: Vec<Kept<'a>>,
     values: Vec<Value>,
+    parts: Vec<&'a [CoreExpr]>,
+    statements: Vec<&'a [CoreStmt]>,
+    ways: Vec<Ways<'a>>,
+    places: Vec<&'a [FilledPlace]>,
+    counts: Vec<Counts>,
 }
 
 impl<'a> Stack<'a> {
@@ -24,6 +31,11 @@ impl<'a> Stack<'a> {
         Stack {
             kept: Vec::new(alloc),
             values: Vec::new(alloc),
+            parts: Vec::new(alloc),
+            statements: Vec::new(alloc),
+            ways: Vec::new(alloc),
+            places: Vec::new(alloc),
+            counts: Vec::new(alloc),
         }
     }
 
@@ -50,11 +62,26 @@ impl<'a> Stack<'a> {
         Some(self.join(kept))
     }
 
-    /// Puts a frame's value on top of the others, if it has one, and gives what is left of it.
+    /// The frames above the innermost call's, taken off.
+    pub fn to_call(&mut self) -> Result<(), Memory>
+        ensures { IfOk result (λ _. frames self.new ≡ from_call (frames self.old)) }
+    {
+        'inside: loop {
+            match self.pop() {
+                Some(Frame::Activation(call, result, objects, base)) => {
+                    return self.push(Frame::Activation(call, result, objects, base));
+                }
+                Some(_) => {}
+                None => return Ok(()),
+            }
+        }
+    }
+
+    /// Puts what stands apart of a frame on top of the others' of its kind, and gives what is left of it.
     #[inline(always)]
     fn part(&mut self, frame: Frame<'a>) -> Result<Kept<'a>, Memory>
-        ensures joined { IfOk result (λ k. joined k (reverse self.new.values.items) ≡ frame.entry) }
-        ensures below { IfOk result (λ k. below k (reverse self.new.values.items) ≡ reverse self.old.values.items) }
+        ensures joined { IfOk result (λ k. joined k (apart self.new) ≡ frame.entry) }
+        ensures below { IfOk result (λ k. below k (apart self.new) ≡ apart self.old) }
         ensures same { self.new.kept.items ≡ self.old.kept.items }
     {
         match frame {
@@ -64,8 +91,14 @@ impl<'a> Stack<'a> {
                 Ok(Kept::Second(e))
             }
             Frame::Right(e) => Ok(Kept::Right(e)),
-            Frame::Comma(parts) => Ok(Kept::Comma(parts)),
-            Frame::Argument(arguments, n) => Ok(Kept::Argument(n, arguments)),
+            Frame::Comma(parts) => {
+                self.parts.push(parts)?;
+                Ok(Kept::Comma)
+            }
+            Frame::Argument(arguments, n) => {
+                self.parts.push(arguments)?;
+                Ok(Kept::Argument(n))
+            }
             Frame::Passed(e, value) => {
                 self.values.push(value)?;
                 Ok(Kept::Passed(e))
@@ -75,12 +108,29 @@ impl<'a> Stack<'a> {
                 Ok(Kept::Called(e))
             }
             Frame::Activation(call, result, objects, base) => {
-                Ok(Kept::Activation(result, call, objects, base))
+                if objects > u32::MAX as usize || base > u32::MAX as usize {
+                    return Err(Memory);
+                }
+                let counts = Counts {
+                    objects: objects as u32,
+                    base: base as u32,
+                };
+                self.counts.push(counts)?;
+                Ok(Kept::Activation(result, call))
             }
             Frame::Drop => Ok(Kept::Drop),
-            Frame::Then(statements) => Ok(Kept::Then(statements)),
-            Frame::Catch(statements) => Ok(Kept::Catch(statements)),
-            Frame::Branch(test, then, otherwise) => Ok(Kept::Branch(test, then, otherwise)),
+            Frame::Then(statements) => {
+                self.statements.push(statements)?;
+                Ok(Kept::Then)
+            }
+            Frame::Catch(statements) => {
+                self.statements.push(statements)?;
+                Ok(Kept::Catch)
+            }
+            Frame::Branch(test, then, otherwise) => {
+                self.ways.push(Ways { then, otherwise })?;
+                Ok(Kept::Branch(test))
+            }
             Frame::Initial(s) => Ok(Kept::Initial(s)),
             Frame::Body(s) => Ok(Kept::Body(s)),
             Frame::Last(s) => Ok(Kept::Last(s)),
@@ -90,33 +140,61 @@ impl<'a> Stack<'a> {
             Frame::Return(e) => Ok(Kept::Return(e)),
             Frame::Fill(places, value) => {
                 self.values.push(value)?;
-                Ok(Kept::Fill(places))
+                self.places.push(places)?;
+                Ok(Kept::Fill)
             }
         }
     }
 
-    /// Takes the value of such a frame off the others, if it has one, and gives the frame.
+    /// Takes what stands apart of such a frame off the others', and gives the frame.
     #[inline(always)]
     fn join(&mut self, kept: Kept<'a>) -> Frame<'a>
-        ensures joined { result ≡ joined kept.entry (reverse self.old.values.items) }
-        ensures below { reverse self.new.values.items ≡ below kept.entry (reverse self.old.values.items) }
+        ensures joined { result ≡ joined kept.entry (apart self.old) }
+        ensures below { apart self.new ≡ below kept.entry (apart self.old) }
         ensures same { self.new.kept.items ≡ self.old.kept.items }
     {
         match kept {
             Kept::First(e) => Frame::First(e),
-            Kept::Second(e) => Frame::Second(e, self.value()),
+            Kept::Second(e) => match self.values.pop() {
+                Some(value) => Frame::Second(e, value),
+                None => Frame::Drop,
+            },
             Kept::Right(e) => Frame::Right(e),
-            Kept::Comma(parts) => Frame::Comma(parts),
-            Kept::Argument(n, arguments) => Frame::Argument(arguments, n),
-            Kept::Passed(e) => Frame::Passed(e, self.value()),
-            Kept::Called(e) => Frame::Called(e, self.value()),
-            Kept::Activation(result, call, objects, base) => {
-                Frame::Activation(call, result, objects, base)
-            }
+            Kept::Comma => match self.parts.pop() {
+                Some(parts) => Frame::Comma(parts),
+                None => Frame::Drop,
+            },
+            Kept::Argument(n) => match self.parts.pop() {
+                Some(arguments) => Frame::Argument(arguments, n),
+                None => Frame::Drop,
+            },
+            Kept::Passed(e) => match self.values.pop() {
+                Some(value) => Frame::Passed(e, value),
+                None => Frame::Drop,
+            },
+            Kept::Called(e) => match self.values.pop() {
+                Some(value) => Frame::Called(e, value),
+                None => Frame::Drop,
+            },
+            Kept::Activation(result, call) => match self.counts.pop() {
+                Some(counts) => {
+                    Frame::Activation(call, result, counts.objects as usize, counts.base as usize)
+                }
+                None => Frame::Drop,
+            },
             Kept::Drop => Frame::Drop,
-            Kept::Then(statements) => Frame::Then(statements),
-            Kept::Catch(statements) => Frame::Catch(statements),
-            Kept::Branch(test, then, otherwise) => Frame::Branch(test, then, otherwise),
+            Kept::Then => match self.statements.pop() {
+                Some(statements) => Frame::Then(statements),
+                None => Frame::Drop,
+            },
+            Kept::Catch => match self.statements.pop() {
+                Some(statements) => Frame::Catch(statements),
+                None => Frame::Drop,
+            },
+            Kept::Branch(test) => match self.ways.pop() {
+                Some(ways) => Frame::Branch(test, ways.then, ways.otherwise),
+                None => Frame::Drop,
+            },
             Kept::Initial(s) => Frame::Initial(s),
             Kept::Body(s) => Frame::Body(s),
             Kept::Last(s) => Frame::Last(s),
@@ -124,20 +202,10 @@ impl<'a> Stack<'a> {
             Kept::Switch(s) => Frame::Switch(s),
             Kept::Switched => Frame::Switched,
             Kept::Return(e) => Frame::Return(e),
-            Kept::Fill(places) => Frame::Fill(places, self.value()),
-        }
-    }
-
-    /// The value on top of the others, taken off.
-    #[inline(always)]
-    fn value(&mut self) -> Value
-        ensures first { result ≡ first_or_zero (reverse self.old.values.items) }
-        ensures others { reverse self.new.values.items ≡ others (reverse self.old.values.items) }
-        ensures same { self.new.kept.items ≡ self.old.kept.items }
-    {
-        match self.values.pop() {
-            Some(value) => value,
-            None => Value::Number(0),
+            Kept::Fill => match (self.places.pop(), self.values.pop()) {
+                (Some(places), Some(value)) => Frame::Fill(places, value),
+                (_, _) => Frame::Drop,
+            },
         }
     }
 }

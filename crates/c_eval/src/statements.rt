@@ -96,6 +96,7 @@ impl<'a> Machine<'a> {
             Some(Ok(None)) => Ok(no_result(0)),
             Some(Err(stop)) => stopped(stop),
             None => {
+                self.stack.to_call()?;
                 self.stack.push(Frame::Return(e))?;
                 Ok(Focus::Eval(e))
             }
@@ -262,10 +263,13 @@ impl<'a> Machine<'a> {
         match first_at_once(program, &mut self.world, first) {
             Some(Ok(())) => Ok(Focus::List(rest)),
             Some(Err(stop)) => stopped(stop),
-            None => {
-                self.stack.push(Frame::Then(rest))?;
-                Ok(Focus::Start(first))
-            }
+            None => match rest {
+                [] => Ok(Focus::Start(first)),
+                [_, ..] => {
+                    self.stack.push(Frame::Then(rest))?;
+                    Ok(Focus::Start(first))
+                }
+            },
         }
     }
 
