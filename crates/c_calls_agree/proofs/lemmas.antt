@@ -6,9 +6,12 @@ pub mod Callees
 pub mod CallRoots
 pub mod NewCalls
 pub mod Holding
+pub mod Copies
 pub mod Arguments
 pub mod Making
 pub mod Calls
 pub mod StoredCalls
 pub mod StoredRoots
 pub mod ScalarCalls
+pub mod WholeCalls
+pub mod LoweredCalls

@@ -1,8 +1,7 @@
 //! Laws of lowered calls.
-ghost use Rattle.c_calls_agree.specs.Programs.{ProgramsGiveNothing};
-ghost use Rattle.c_calls_agree.specs.Laws.{ArgumentWordsArePassed, CallsCome, CallRootsAreMade, ScalarCallsAreLowered};
+ghost use Rattle.c_calls_agree.specs.Laws.{ArgumentWordsArePassed, CallsCome, CallRootsAreMade, ValuedCallsAreLowered, VoidCallsArePerformed};
 
-use c_runs::runs_stay_sound;
+use c_runs::{locals_are_objects, runs_stay_sound};
 use dag_forest::narrow_operators_give_narrow_words;
 use dag_seam::split_trees_mean;
 
@@ -19,11 +18,6 @@ pub fn calls_come()
     ensures { CallsCome }
 {}
 
-/// A call of type void gives no value.
-pub fn void_calls_give_nothing()
-    ensures { ProgramsGiveNothing }
-{}
-
 /// A root that calls comes to what C's call comes to, where the call of forests does.
 pub fn call_roots_are_made()
     ensures { CallRootsAreMade }
@@ -32,12 +26,15 @@ pub fn call_roots_are_made()
     split_trees_mean();
 }
 
-/// A call by name or by pointer of which neither the result nor an argument is a structure, and whose parts are lowered, straight or not, is
-/// lowered: it returns, exits, or goes on where its turns are spent, as C's call does.
-pub fn scalar_calls_are_lowered()
-    ensures { ScalarCallsAreLowered }
+/// A call by name or by pointer, whose parts are lowered, straight or not, is lowered: it returns, exits, or goes on where its turns are
+/// spent, as C's call does. Structures are passed as copies, and one that is given stands in the object for it. Of a call of type void the
+/// value isn't used.
+pub fn calls_are_lowered()
+    ensures valued { ValuedCallsAreLowered }
+    ensures void { VoidCallsArePerformed }
 {
     narrow_operators_give_narrow_words();
     runs_stay_sound();
+    locals_are_objects();
     split_trees_mean();
 }

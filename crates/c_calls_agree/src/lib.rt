@@ -3,7 +3,4 @@
 
 mod laws;
 
-pub use laws::{
-    argument_words_are_passed, call_roots_are_made, calls_come, scalar_calls_are_lowered,
-    void_calls_give_nothing,
-};
+pub use laws::{argument_words_are_passed, call_roots_are_made, calls_are_lowered, calls_come};

@@ -1,5 +1,5 @@
 //! Laws of lowered expressions that choose.
-ghost use Rattle.c_choices_agree.specs.Conditionals.{ConditionalsAreLowered};
+ghost use Rattle.c_choices_agree.specs.Conditionals.{ConditionalsAreLowered, VoidConditionalsArePerformed};
 ghost use Rattle.c_choices_agree.specs.Truths.{TruthsAreLowered};
 
 use c_runs::runs_stay_sound;
@@ -21,9 +21,10 @@ pub fn truths_are_lowered()
 }
 
 /// A conditional is lowered, where its condition is tested and both ways are lowered: what the way that is gone comes to, a number, a
-/// pointer or a structure's place, is kept in a slot.
+/// pointer or a structure's place, is kept in a slot. One of type void is performed, where its ways are.
 pub fn conditionals_are_lowered()
-    ensures { ConditionalsAreLowered }
+    ensures valued { ConditionalsAreLowered }
+    ensures void { VoidConditionalsArePerformed }
 {
     narrow_operators_give_narrow_words();
     runs_stay_sound();

@@ -5,6 +5,7 @@ use Rattle.forests.specs.Words.{Word}
 use Rattle.forests.specs.Worlds.{World, Outcome}
 use Rattle.dag_forest.specs.declared.entry.Entry.{Entry}
 use Rattle.dag_seam.specs.Open.{Open}
+use Rattle.c_types.specs.CType.{CType}
 use Rattle.c_meaning.specs.Each.{EachIs}
 use Rattle.c_meaning.specs.Units.{UnitTree}
 use Rattle.c_runs.specs.Worlds as c
@@ -15,8 +16,9 @@ use Rattle.c_agreement.specs.Called.{AreValues}
 use Rattle.piece_runs.specs.Pieces.{Piece, Front}
 use Rattle.piece_runs.specs.Reaches.{BodyRun, acting, keeps_at, Reaches}
 
--- Where the running call's locals stand: the words of their addresses, in order; and the objects of the call that hold none of them.
+-- The running call's locals: their types and the words of their addresses, in order; and the objects of the call that hold none of them.
 pub record Frame : Type 0 where
+  pub types : List CType
   pub addresses : List Word
   pub others : List ℕ
 

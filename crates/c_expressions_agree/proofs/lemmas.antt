@@ -1,2 +1,1 @@
-pub mod Voids
 pub mod Expressions

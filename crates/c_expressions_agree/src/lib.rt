@@ -3,4 +3,4 @@
 
 mod laws;
 
-pub use laws::{expressions_agree, scalar_expressions_agree};
+pub use laws::expressions_agree;

@@ -1,5 +1,5 @@
 //! Laws of lowered expressions, whatever their parts are.
-ghost use Rattle.c_parts_agree.specs.Plain.{PlainExpressionsAgree};
+ghost use Rattle.c_parts_agree.specs.Plain.{CommasAreLowered, CommasArePerformed, ConversionsToVoidAreLowered, PlainExpressionsAgree};
 
 use c_runs::runs_stay_sound;
 use dag_forest::narrow_operators_give_narrow_words;
@@ -8,6 +8,16 @@ use dag_forest::narrow_operators_give_narrow_words;
 /// stands before it, the run comes to what C's evaluation comes to, and the operand has its value there.
 pub fn plain_expressions_agree()
     ensures { PlainExpressionsAgree }
+{
+    narrow_operators_give_narrow_words();
+    runs_stay_sound();
+}
+
+/// So are conversions to void, and commas, where parts whose values aren't used are performed; and a comma is performed where all are.
+pub fn dropped_parts_agree()
+    ensures conversions { ConversionsToVoidAreLowered }
+    ensures commas { CommasAreLowered }
+    ensures performed { CommasArePerformed }
 {
     narrow_operators_give_narrow_words();
     runs_stay_sound();

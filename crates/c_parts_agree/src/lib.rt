@@ -3,4 +3,4 @@
 
 mod laws;
 
-pub use laws::plain_expressions_agree;
+pub use laws::{dropped_parts_agree, plain_expressions_agree};

@@ -1,1 +1,1 @@
-mod SearchExamples
+mod TableExamples

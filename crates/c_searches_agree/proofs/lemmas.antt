@@ -2,6 +2,9 @@ pub mod Holding
 pub mod Finding
 pub mod Ways
 pub mod Searching
+pub mod Tables
+pub mod Reading
+pub mod Jumping
 pub mod Labels
 pub mod Values
-pub mod Jumping
+pub mod Lengths

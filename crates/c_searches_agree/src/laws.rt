@@ -1,17 +1,18 @@
 //! Laws of lowered searches of switches.
-ghost use Rattle.c_searches_agree.specs.Jumps.{ReadsLead};
-ghost use Rattle.c_searches_agree.specs.Laws.{SearchesAgree, SparseSearchesAgree};
+ghost use Rattle.c_searches_agree.specs.Jumps.{JumpsLead, LabelsAreRead};
+ghost use Rattle.c_searches_agree.specs.Laws.{CheckedSwitchesLead, SearchesAgree};
+ghost use Rattle.c_searches_agree.specs.Lengths.{TablesAreShort};
 
 use c_runs::runs_stay_sound;
 use c_slots_agree::{slots_are_read, slots_are_stored, slots_are_taken, slots_stay};
 use dag_forest::narrow_operators_give_narrow_words;
 use dag_seam::split_trees_mean;
 
-/// Behind the value of a switch, which is stored in a slot, the search of its tables leads to where C goes, where each jump through a table
-/// leads to the number's label; and so it does where no table has two labels, since then there is no such jump.
+/// Behind the value of a switch, which is stored in a slot, the search of its tables leads to where C goes; so it does for each
+/// switch of a checked function.
 pub fn searches_agree()
     ensures searches { SearchesAgree }
-    ensures sparse { SparseSearchesAgree }
+    ensures checked { CheckedSwitchesLead }
 {
     narrow_operators_give_narrow_words();
     runs_stay_sound();
@@ -22,10 +23,18 @@ pub fn searches_agree()
     slots_are_read();
 }
 
-/// A jump through a table leads to the number's label where the label's word is read in the table.
+/// In a table of the unit the label of each number between its first and its last one is read, and a jump through the table leads
+/// there.
 pub fn jumps_through_tables_lead()
-    ensures { ReadsLead }
+    ensures read { LabelsAreRead }
+    ensures lead { JumpsLead }
 {
     narrow_operators_give_narrow_words();
     split_trees_mean();
+    slots_are_read();
 }
+
+/// A table of a function's switches has at most two labels for each case, where no switch has more cases than these.
+pub fn tables_are_short()
+    ensures { TablesAreShort }
+{}

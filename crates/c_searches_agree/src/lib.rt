@@ -3,4 +3,4 @@
 
 mod laws;
 
-pub use laws::{jumps_through_tables_lead, searches_agree};
+pub use laws::{jumps_through_tables_lead, searches_agree, tables_are_short};

@@ -1,14 +1,13 @@
 -- What the run of a body of forests comes to, given what a statement of C comes to.
 -- Source: ISO/IEC 9899:1990, 5.1.2.3 (program execution), 6.6 (statements); X. Leroy, Formal verification of a realistic compiler,
 -- Communications of the ACM 52(7), 2009, section 2 (simulations).
-use Rattle.std.specs.Prelude.{◌≡◌, ℕ, suc, pos, Bool, true, false, Option, Some, None, List, Result, Ok, Err, slice_get}
+use Rattle.std.specs.Prelude.{◌≡◌, ℕ, suc, pos, Bool, true, Option, Some, None, List, Result, Ok, Err}
 use Rattle.lcc_base.specs.declared.cause.Cause.{Cause}
 use Rattle.objects.specs.declared.purpose.Purpose.TheVariants.{Initialisation}
 use Rattle.objects.specs.declared.value.Value.{Value}
-use Rattle.objects.specs.declared.value.Value.TheVariants.{Number, Pointer}
+use Rattle.objects.specs.declared.value.Value.TheVariants.{Number}
 use Rattle.objects.specs.Objects.{Object}
 use Rattle.forests.specs.Accesses.{word_read}
-use Rattle.forests.specs.Objects.{Object as Place}
 use Rattle.forests.specs.Words.{Word, Plain}
 use Rattle.forests.specs.Worlds.{World, Outcome}
 use Rattle.c_types.specs.CType.{CType}
@@ -26,7 +25,7 @@ use Rattle.c_expr_agreement.specs.LoweredExpr.{Left}
 use Rattle.c_expr_agreement.specs.Scenes.{Scene}
 use Rattle.lowered_forms.specs.Lows.{Low}
 use Rattle.c_straight_agree.specs.Agreement.{IsLeftBut}
-use Rattle.c_straight_agree.specs.Layouts.{FrameLayout, address_of, IsWordPlace, IsLaidOut, HoldsWholes}
+use Rattle.c_straight_agree.specs.Layouts.{FrameLayout, address_of, IsWordPlace, IsLaidOut, IsOpenAt, HoldsWholes}
 use Rattle.c_straight_agree.specs.Standing.{IsBody, IsSoundIn}
 use Rattle.c_tests_agree.specs.Tested.{Passed}
 
@@ -79,11 +78,6 @@ pub record Ending : Type 0 where
   pub of : CType
   pub copy : Option Value
   pub gives_zero : Bool
-
--- an object at an address may be written
-abbrev pub IsOpenAt : List Place → Word → Type 0
-IsOpenAt objects (Plain (Pointer name offset)) = (home : Place) → slice_get objects name.place ≡ Some home → home.constant ≡ false
-IsOpenAt objects u = Unit {0}
 
 -- those of the locals may, const or not: an initialiser stores into them
 abbrev pub AreOpen : Activation → World → Type 0

@@ -19,7 +19,7 @@ use Rattle.piece_runs.specs.Reaches.{Stops}
 use Rattle.c_expr_agreement.specs.LoweredExpr.{Left}
 use Rattle.lowered_forms.specs.Lows.{Low, jumped, marked}
 use Rattle.lowered_forms.specs.Values.{Lowered}
-use Rattle.c_straight_agree.specs.Agreement.{IsLowered}
+use Rattle.c_straight_agree.specs.Agreement.{IsPerformed}
 use Rattle.c_straight_agree.specs.Finals.{Final}
 use Rattle.c_tests_agree.specs.Tested.{AreMarkedOnce, Label, low_at, jumps, IsTested}
 use Rattle.c_stmt_agreement.specs.Comings.{Activation, HasFrame, Origin, Ways, Ending, Came}
@@ -37,7 +37,7 @@ NothingIsLowered = (p : Activation) (y : Ways) (e : Ending) (a : Low) → Lowere
 -- an expression whose value isn't used
 abbrev pub ExpressionIsLowered : Type 0
 ExpressionIsLowered =
-    (p : Activation) → HasFrame p → (y : Ways) (e : Ending) (x : CoreTree) → IsTame x → (a : Low) → p.locals ≤ length a.slots → (r : Lowered) → IsLowered p.scene p.layout x a r → IsFinal p r.low
+    (p : Activation) → HasFrame p → (y : Ways) (e : Ending) (x : CoreTree) → IsTame x → (a : Low) → p.locals ≤ length a.slots → (r : Lowered) → IsPerformed p.scene p.layout x a r → IsFinal p r.low
     → LoweredStmt p y e (stmt.Expression x) a r.low
 
 abbrev pub BreakIsLowered : Type 0

@@ -1,1 +1,2 @@
 mod LoopExamples
+mod TableExamples

@@ -20,6 +20,7 @@ use Rattle.c_tests_agree.specs.Tested.{AreMarkedOnce, Label}
 use Rattle.c_stmt_agreement.specs.Comings.{Activation, HasFrame, Origin, Ending, Returned, IsNoValue, ReturnedWith}
 use Rattle.c_stmt_agreement.specs.LoweredStmt.{StandsAt}
 use Rattle.c_stmts_agree.specs.Parts.{PartsAgree}
+use Rattle.c_stmts_agree.specs.Tables.{HasTables}
 use Rattle.c_stmts_agree.specs.Ways.{IsEnding}
 
 -- by what the execution of a body comes to, whose end is a return without a value; nothing is asked where it is undefined, or where a jump leaves the body, as in no
@@ -34,11 +35,11 @@ CameBack p e o (Over (Undefined cause line) old) = Unit {0}
 CameBack p e o (Over OutOfTurns old) = Stops o.start o.turns old.trace
 CameBack p e o (Over (Exit status) old) = Left p.scene o.start o.map status old
 
--- a body whose pieces end with it, and in which the function's labels stand
+-- a body whose pieces end with it, in which the function's labels stand, and whose tables are the unit's
 abbrev pub FunctionBodiesAgree : Type 0
 FunctionBodiesAgree =
     (p : Activation) → HasFrame p → AreMarkedOnce p.scene.body → (f : Function) (e : Ending) → IsEnding f e → ((n : ℕ) → IsOwn f n → Label p.scene (label_at f n))
-    → (t : StmtTree) → PartsAgree p f e t → GoesWithin f false false t → (b : Body) → p.locals ≤ length b.low.slots → p.scene.body.pieces ≡ (ended (end_by f.gives_zero (low_s f no_exits t b).low)).pieces
+    → (t : StmtTree) → PartsAgree p f e t → GoesWithin f false false t → (b : Body) → p.locals ≤ length b.low.slots → HasTables p f (low_s f no_exits t b) → p.scene.body.pieces ≡ (ended (end_by f.gives_zero (low_s f no_exits t b).low)).pieces
     → (o : Origin) (k : ℕ) → StandsAt p o b.low k → CameBack p e o (exec (context p.scene.unit p.scene.lowered.order) t Start k o.old)
 
 -- so a lowered function's labels stand in its body, and a block begins behind each

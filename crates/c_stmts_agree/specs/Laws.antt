@@ -15,21 +15,24 @@ use Rattle.c_stmt_agreement.specs.Comings.{Activation, HasFrame, Ways, Ending}
 use Rattle.c_stmt_agreement.specs.Laws.{IsFinal}
 use Rattle.c_stmt_agreement.specs.LoweredStmt.{LoweredStmt, LoweredStmts}
 use Rattle.c_stmts_agree.specs.Parts.{ValueAgrees, PartsAgree, AllPartsAgree}
+use Rattle.c_stmts_agree.specs.Tables.{HasTables}
 use Rattle.c_stmts_agree.specs.Ways.{AreWays, IsEnding}
 
--- A statement whose parts agree is lowered, in a body each label of which is marked once, where its jumps stay in the function: from each state in which the
+-- A statement whose parts agree is lowered, in a body each label of which is marked once, where its jumps stay in the function and its tables are the unit's: from each state in which the
 -- run stands before it, or behind a label in it, the run comes to what C's execution comes to.
 abbrev pub StatementsAgree : Type 0
 StatementsAgree =
     (p : Activation) → HasFrame p → AreMarkedOnce p.scene.body → (f : Function) (e : Ending) → IsEnding f e → (x : Exits) (y : Ways) (breaks continues : Bool) → AreWays p f x y breaks continues
-    → (t : StmtTree) → PartsAgree p f e t → GoesWithin f breaks continues t → (b : Body) → p.locals ≤ length b.low.slots → IsFinal p (low_s f x t b).low
+    → (t : StmtTree) → PartsAgree p f e t → GoesWithin f breaks continues t → (b : Body) → p.locals ≤ length b.low.slots → HasTables p f (low_s f x t b)
+    → IsFinal p (low_s f x t b).low
     → LoweredStmt p y e t b.low (low_s f x t b).low
 
 -- so are statements one behind the other
 abbrev pub SequencesAgree : Type 0
 SequencesAgree =
     (p : Activation) → HasFrame p → AreMarkedOnce p.scene.body → (f : Function) (e : Ending) → IsEnding f e → (x : Exits) (y : Ways) (breaks continues : Bool) → AreWays p f x y breaks continues
-    → (ts : StmtTrees) → AllPartsAgree p f e ts → AllGoWithin f breaks continues ts → (b : Body) → p.locals ≤ length b.low.slots → IsFinal p (low_all f x ts b).low
+    → (ts : StmtTrees) → AllPartsAgree p f e ts → AllGoWithin f breaks continues ts → (b : Body) → p.locals ≤ length b.low.slots → HasTables p f (low_all f x ts b)
+    → IsFinal p (low_all f x ts b).low
     → LoweredStmts p y e ts b.low (low_all f x ts b).low
 
 -- ---- returns

@@ -1,4 +1,5 @@
 pub mod Ways
+pub mod Tables
 pub mod Parts
 pub mod CheckedParts
 pub mod Jumps

@@ -21,14 +21,20 @@ use Rattle.lowered_statements.specs.Returns.{return_row}
 use Rattle.lowered_statements.specs.Rows.{chosen_by}
 use Rattle.lowered_statements.specs.Statements.{StmtTree, StmtTrees}
 use Rattle.lowered_labels.specs.Used.{IsOwn}
-use Rattle.c_straight_agree.specs.Agreement.{IsLowered}
+use Rattle.c_straight_agree.specs.Agreement.{IsLowered, IsPerformed}
 use Rattle.c_tests_agree.specs.Tested.{Label, low_at, IsTested}
 use Rattle.c_stmt_agreement.specs.Comings.{Activation, Ways, Ending}
 use Rattle.c_stmt_agreement.specs.Laws.{IsFinal, LoweredSearch}
 use Rattle.c_stmt_agreement.specs.LoweredStmt.{LoweredStmt}
+use Rattle.c_stmts_agree.specs.Tables.{HasTables}
 use Rattle.c_stmts_agree.specs.Ways.{IsBehind}
 
 -- ---- expressions
+
+-- one whose value isn't used
+pub record EffectAgrees (p : Activation) (f : Function) (x : CoreTree) : Type 0 where
+  pub tame : IsTame x
+  pub performed : (l : Low) → p.locals ≤ length l.slots → IsPerformed p.scene p.layout x l (low_e f.context x l)
 
 pub record ValueAgrees (p : Activation) (f : Function) (x : CoreTree) : Type 0 where
   pub tame : IsTame x
@@ -67,16 +73,17 @@ search_row f x cases default b = search_by f (is_signed (type_of x)) (low_e f.co
 abbrev pub search_end : Function → CoreTree → Body → ℕ
 search_end f x b = (low_e f.context x b.low).low.labels
 
--- where the cases' labels are the function's, it leads to where C goes
+-- where the cases' labels are the function's, and its tables the unit's, it leads to where C goes
 abbrev pub SearchAgrees : Activation → Function → CoreTree → List CoreCase → Option ℕ → Type 0
 SearchAgrees p f x cases default =
-    AllByRecursion (λ c. IsOwn f c.label) cases → IfSome default (IsOwn f) → (y : Ways) → ((n : ℕ) → IsOwn f n → IsBehind p.scene (label_at f n) (y.labels n)) → (b : Body) → p.locals ≤ length b.low.slots → IsFinal p (search_row f x cases default b).low → (t : Label p.scene (search_end f x b))
+    AllByRecursion (λ c. IsOwn f c.label) cases → IfSome default (IsOwn f) → (y : Ways) → ((n : ℕ) → IsOwn f n → IsBehind p.scene (label_at f n) (y.labels n)) → (b : Body) → p.locals ≤ length b.low.slots
+    → HasTables p f (search_row f x cases default b) → IsFinal p (search_row f x cases default b).low → (t : Label p.scene (search_end f x b))
     → LoweredSearch p y x cases default b.low (low_at p.scene (search_end f x b) t)
 
 -- ---- statements
 
 abbrev pub MaybeAgrees : Activation → Function → Option CoreTree → Type 0
-MaybeAgrees p f x = IfSome x (ValueAgrees p f)
+MaybeAgrees p f x = IfSome x (EffectAgrees p f)
 
 abbrev pub MaybeTestAgrees : Activation → Function → Option CoreTree → Type 0
 MaybeTestAgrees p f x = IfSome x (TestAgrees p f)
@@ -84,7 +91,7 @@ MaybeTestAgrees p f x = IfSome x (TestAgrees p f)
 abbrev mutual
   pub PartsAgree : Activation → Function → Ending → StmtTree → Type 0
   PartsAgree p f e stmt.Nothing = Unit {0}
-  PartsAgree p f e (stmt.Expression x) = ValueAgrees p f x
+  PartsAgree p f e (stmt.Expression x) = EffectAgrees p f x
   PartsAgree p f e (stmt.Initialise local zero places) = RowAgrees p e (stmt.Initialise local zero places) (λ l. initialised f local zero places l)
   PartsAgree p f e (stmt.Block first locals ts) = AllPartsAgree p f e ts
   PartsAgree p f e (stmt.If x t u) = TestAgrees p f x × (PartsAgree p f e t × PartsAgree p f e u)

@@ -1,6 +1,8 @@
 pub mod Hidden
-pub mod Copying
 pub mod Returning
-pub mod Storing
 pub mod Places
+pub mod Zeros
+pub mod Bases
+pub mod Stores
+pub mod Zeroing
 pub mod Filling

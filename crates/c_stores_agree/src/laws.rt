@@ -1,8 +1,9 @@
-//! Laws of statements that copy structures.
-ghost use Rattle.c_stores_agree.specs.Initialisers.{ScalarInitialisersAgree};
+//! Laws of statements that copy structures, and of initialisers.
+ghost use Rattle.c_stores_agree.specs.Initialisers.{PlainInitialisersAgree};
 ghost use Rattle.c_stores_agree.specs.Returns.{StructureReturnsAgree};
 
 use c_runs::runs_stay_sound;
+use c_slots_agree::{slots_are_read, slots_are_stored, slots_are_taken, slots_stay};
 use dag_forest::narrow_operators_give_narrow_words;
 use dag_seam::split_trees_mean;
 
@@ -15,11 +16,16 @@ pub fn structures_are_returned()
     split_trees_mean();
 }
 
-/// The lowering of an initialiser of scalars and bit-fields agrees with C, where no zeros stand before: each value is stored in its
-/// place, const or not.
+/// The lowering of a local's initialiser without strings agrees with C: zeros as a whole, by words and bytes or by a loop, and then a value
+/// in each place, const or not: a scalar, a bit-field or a structure.
 pub fn initialisers_agree()
-    ensures { ScalarInitialisersAgree }
+    ensures { PlainInitialisersAgree }
 {
     narrow_operators_give_narrow_words();
     runs_stay_sound();
+    split_trees_mean();
+    slots_are_taken();
+    slots_are_stored();
+    slots_stay();
+    slots_are_read();
 }

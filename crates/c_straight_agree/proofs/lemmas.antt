@@ -7,9 +7,12 @@ pub mod AskedNodes
 pub mod AskedTemplates
 pub mod Acting
 pub mod Coming
+pub mod Performing
+pub mod Used
 pub mod Lasting
 pub mod Extending
 pub mod Placing
+pub mod Opens
 pub mod Wholes
 pub mod Parts
 pub mod Reading

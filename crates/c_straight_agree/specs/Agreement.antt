@@ -104,6 +104,21 @@ IsLowered s y e l r =
     → IsFront r.low.slots h.before → Standing s start turns l f map before values first k → IsSoundIn s before → HoldsWholes s y first
     → CameTo s start turns l r.low h r.value map before values first (eval (context s.unit s.lowered.order) e k before)
 
+-- ---- expressions whose values aren't used: statements, operands that are dropped, and all of type void
+
+-- what the evaluation comes to but for the value
+abbrev pub without_value : Result → Result
+without_value (Gives v k old) = GivesNone 0 k old
+without_value (GivesNone line k old) = GivesNone line k old
+without_value (Ends how old) = Ends how old
+
+-- The same, where nothing is asked of the operand.
+abbrev pub IsPerformed : Scene → FrameLayout → CoreTree → Low → Lowered → Type 0
+IsPerformed s y e l r =
+    (start : ℕ → Outcome) (turns : ℕ) (f : Front s.body.pieces l.pieces l.entries) (h : Front s.body.pieces r.low.pieces r.low.entries) (map : Map) (before : c.World) (values : ℕ → Word) (first : World) (k : ℕ)
+    → IsFront r.low.slots h.before → Standing s start turns l f map before values first k → IsSoundIn s before → HoldsWholes s y first
+    → CameTo s start turns l r.low h r.value map before values first (without_value (eval (context s.unit s.lowered.order) e k before))
+
 -- ---- parts of expressions
 
 -- a straight expression, lowered behind the slots of the locals

@@ -7,6 +7,7 @@ use Rattle.op_forest.specs.declared.frame.Slot.{Slot}
 use Rattle.op_forest.specs.Frames.{IsFrame}
 use Rattle.forests.specs.Accesses.{word_read}
 use Rattle.forests.specs.Addresses.{Home, local, parameter}
+use Rattle.forests.specs.Objects.{Object}
 use Rattle.forests.specs.Units.{pointer_to}
 use Rattle.forests.specs.Words.{Word, Plain}
 use Rattle.forests.specs.Worlds.{World}
@@ -16,6 +17,7 @@ use Rattle.c_meaning.specs.declared.core_expr.Change.TheVariants as change
 use Rattle.c_meaning.specs.declared.core_expr.CoreKind.{CoreKind}
 use Rattle.c_meaning.specs.declared.core_expr.CoreKind.TheVariants as kind
 use Rattle.c_meaning.specs.CoreTrees.{Core, NoCore, Cores, type_of}
+use Rattle.c_meaning.specs.Each.{EachIs}
 use Rattle.c_meaning.specs.Types.{is_record}
 use Rattle.c_meaning.specs.Values.{CoreTree, CoreTrees}
 use Rattle.c_runs.specs.Calls.{built_in_number}
@@ -63,6 +65,7 @@ pub record IsWordPlace (s : Scene) (place : ℤ) : Type 0 where
 -- Each local has a place, where its address is, and all its bytes below 0 are in one slot; of a structure that was passed, the parameter word. And names stand for the unit's own functions, objects and texts.
 pub record IsLaidOut (s : Scene) (y : FrameLayout) : Type 0 where
   pub frame : IsFrame s.body.setting.environment.home.slots
+  pub types : s.frame.types ≡ y.types
   pub places : (n : ℕ) (of : CType) → slice_get y.types n ≡ Some of → (z : ℤ) × (slice_get y.places n ≡ Some z) × IsRoomAt s z (size_of s.unit.tags of)
   pub addresses : (n : ℕ) (of : CType) (z : ℤ) (w : Word) → slice_get y.types n ≡ Some of → is_passed_whole (context_in s y) n of ≡ false → slice_get y.places n ≡ Some z → slice_get s.frame.addresses n ≡ Some w → address_of s.body.setting.environment.home z ≡ Some w
   pub wholes : (n : ℕ) (of : CType) (z : ℤ) → slice_get y.types n ≡ Some of → is_passed_whole (context_in s y) n of ≡ true → slice_get y.places n ≡ Some z → IsWordPlace s z
@@ -71,10 +74,20 @@ pub record IsLaidOut (s : Scene) (y : FrameLayout) : Type 0 where
   pub texts : (n : ℕ) → n < length s.unit.texts → (length s.unit.objects + n < s.own) × (s.body.setting.environment.global (text_name s.unit n) ≡ Some (pointer_to s.lowered (length s.unit.objects + n)))
 
 -- the parameter words of structures that were passed have the addresses of their bytes
-abbrev pub HoldsWholes : Scene → FrameLayout → World → Type 0
-HoldsWholes s y w =
+abbrev pub HoldAddresses : Scene → FrameLayout → World → Type 0
+HoldAddresses s y w =
     (n : ℕ) (of : CType) (z : ℤ) (a u : Word) → slice_get y.types n ≡ Some of → is_passed_whole (context_in s y) n of ≡ true → slice_get y.places n ≡ Some z → address_of s.body.setting.environment.home z ≡ Some a → slice_get s.frame.addresses n ≡ Some u
     → word_read s.body.setting.environment.order w.objects a ≡ Some u
+
+-- an object at an address may be written
+abbrev pub IsOpenAt : List Object → Word → Type 0
+IsOpenAt objects (Plain (Pointer name offset)) = (home : Object) → slice_get objects name.place ≡ Some home → home.constant ≡ false
+IsOpenAt objects u = Unit {0}
+
+-- So it is with structures: those that were passed are where parameter words say, and locals, to which others are copied, may be written.
+pub record HoldsWholes (s : Scene) (y : FrameLayout) (w : World) : Type 0 where
+  pub words : HoldAddresses s y w
+  pub opens : EachIs (IsOpenAt w.objects) s.frame.addresses
 
 -- ---- expressions
 

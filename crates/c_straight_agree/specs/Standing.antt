@@ -11,7 +11,7 @@ use Rattle.forests.specs.Words.{Word}
 use Rattle.forests.specs.Worlds.{World, Outcome}
 use Rattle.dag_forest.specs.Split.{slot_name}
 use Rattle.dag_seam.specs.Turns.{waiting}
-use Rattle.c_runs.specs.Soundness.{IsTameUnit, IsSound}
+use Rattle.c_runs.specs.Soundness.{IsTameUnit, IsSound, AreLocalsOf}
 use Rattle.c_runs.specs.Worlds as c
 use Rattle.c_match.specs.Ranges.{Map}
 use Rattle.c_agreement.specs.Agrees.{ComesWith}
@@ -66,7 +66,8 @@ pub record Standing (s : Scene) (start : ℕ → Outcome) (turns : ℕ) (l : Low
   pub free : AreFree s.body w
   pub ready : IsReady s w k
 
--- C's world is sound, and its objects are short
+-- C's world is sound, the running call's locals are objects of their types' sizes, and all objects are short
 pub record IsSoundIn (s : Scene) (old : c.World) : Type 0 where
   pub sound : IsSound s.unit old
+  pub locals : AreLocalsOf s.unit.tags s.frame.types old
   pub short : AreShort (c.objects old)

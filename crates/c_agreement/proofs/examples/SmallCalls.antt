@@ -53,6 +53,7 @@ main_called first second third fourth = record {
   fitting = refl;
   passed = record { world = sound_world; values = tt; copies = tt; result = λ e. absurd (let never : ⊥ = cc in never) };
   plain = λ e. refl;
+  short = λ p x e. absurd (let never : ⊥ = cc in never);
   worlds = empty_match first second third fourth [] tt [];
   words = tt;
   copies = tt;
@@ -66,6 +67,7 @@ write_called = record {
   fitting = refl;
   passed = record { world = sound_world; values = tt; copies = tt; result = λ e. absurd (let never : ⊥ = cc in never) };
   plain = λ e. refl;
+  short = λ p x e. absurd (let never : ⊥ = cc in never);
   worlds = empty_match _ _ _ _ [] tt [];
   words = tt;
   copies = tt;

@@ -51,7 +51,7 @@ use Rattle.lowered_forms.specs.Lows.{Low, with_entries}
 use Rattle.lowered_forms.proofs.lemmas.Blocks.{rooted_one_there}
 use Rattle.lowered_forms.proofs.lemmas.Fronts.{front_before}
 use Rattle.lowered_forms.proofs.lemmas.WithinTemplates.{as_p_in}
-use Rattle.c_straight_agree.specs.Agreement.{HasWord, Came}
+use Rattle.c_straight_agree.specs.Agreement.{HasWord, Came, CameTo, without_value}
 use Rattle.c_straight_agree.specs.Lasting.{LastingValue}
 use Rattle.c_straight_agree.specs.Narrow.{CharsAreNarrow, ShortsAreNarrow}
 use Rattle.c_straight_agree.specs.Settled.{seen, IsNear}
@@ -65,7 +65,7 @@ use Rattle.c_straight_agree.proofs.lemmas.Placing.{lone_by}
 use Rattle.c_straight_agree.proofs.lemmas.Putting.{alike_length, slot_is_private, still_free, frame_stays}
 use Rattle.c_straight_agree.proofs.lemmas.SettledTemplates.{as_p_set}
 use Rattle.c_calls_agree.specs.Given.{CallReturned, CallExited, CallStopped, NoneLeft, CallCame}
-use Rattle.c_calls_agree.specs.Laws.{CalledTo, CallRootsAreMade}
+use Rattle.c_calls_agree.specs.Laws.{CallRootsAreMade}
 use Rattle.c_calls_agree.specs.Passing.{Passing}
 use Rattle.c_calls_agree.proofs.lemmas.Words.{at_passing}
 
@@ -178,31 +178,31 @@ module _ (chars : CharsAreNarrow) (shorts : ShortsAreNarrow) (means : TurnsMean)
     abbrev after : Low
     after = with_entries (es ++ entry.Root (with_kids (call_head false) (kids.One node)) ∷ []) m
 
-    behind_call : (v : Option Value) (j : ℕ) (new : c.World) → CallReturned s map old world k function None v j new → Came s start turns m after h a map old values w None new j
-    behind_call v j new r =
-        let alike = call_alike means s locals body start turns m.pieces m.slots le keeps k map old es front others world at node function is None v j new r in
+    behind_call : (place v : Option Value) (j : ℕ) (new : c.World) → CallReturned s map old world k function place v j new → Came s start turns m after h a map old values w None new j
+    behind_call place v j new r =
+        let alike = call_alike means s locals body start turns m.pieces m.slots le keeps k map old es front others world at node function is place v j new r in
         record {
           later = r.later;
           grown = r.grown;
           others = others;
           world = r.world;
-          stands = standing_of s start turns after h r.later new others r.world j keeps (call_stands means s locals body start turns m.pieces m.slots le keeps k map old es front others world at node function is None v j new r h block)
+          stands = standing_of s start turns after h r.later new others r.world j keeps (call_stands means s locals body start turns m.pieces m.slots le keeps k map old es front others world at node function is place v j new r h block)
               (record { arguments = r.arguments; callees = λ i lt there. st.callees i (let l = r.fewer in omega (arith, lt, l)) there });
           alike = near.alike ∙ alike;
-          left = λ place lt private none.
-              r.left place (let l = alike_length w.objects world.objects near.alike in omega (arith, lt, l)) private
-              ∙ near.same place (lone_by s locals body m.slots m.pieces m.entries f st.slots place none);
-          private = λ place lt private. r.private place private;
+          left = λ p lt private none.
+              r.left p (let l = alike_length w.objects world.objects near.alike in omega (arith, lt, l)) private
+              ∙ near.same p (lone_by s locals body m.slots m.pieces m.entries f st.slots p none);
+          private = λ p lt private. r.private p private;
           kept = λ grows n lt. near.kept n lt;
           has = has_word r.later others r.world;
         }
 
-    made_by : (r : Result) → CallCame s map old world k function None r → CalledTo s start turns m after h a map old values w r
-    made_by (Gives v j new) came = behind_call (Some v) j new came
-    made_by (GivesNone line j new) came = behind_call None j new came
-    made_by (Ends (Undefined cause line) new) came = tt
-    made_by (Ends OutOfTurns new) came = call_stops means s locals body start turns m.pieces m.slots le keeps k map old es front others world at node function is h new came
-    made_by (Ends (Exit status) new) came = record {
+    made_by : (place : Option Value) (r : Result) → CallCame s map old world k function place r → CameTo s start turns m after h a map old values w (without_value r)
+    made_by place (Gives v j new) came = behind_call place (Some v) j new came
+    made_by place (GivesNone line j new) came = behind_call place None j new came
+    made_by place (Ends (Undefined cause line) new) came = tt
+    made_by place (Ends OutOfTurns new) came = call_stops means s locals body start turns m.pieces m.slots le keeps k map old es front others world at node function is h new came
+    made_by place (Ends (Exit status) new) came = record {
       later = came.later;
       grown = came.grown;
       world = came.world;
@@ -210,9 +210,9 @@ module _ (chars : CharsAreNarrow) (shorts : ShortsAreNarrow) (means : TurnsMean)
       matches = came.matches;
     }
 
-  pub root_is_made : (r : Result) → ((world : World) → Matches s.lowered s.own map old world → AreValues map vs world.arguments → CallCame s map old world k function None r)
-      → (h : Front s.body.pieces (called g m).pieces (called g m).entries) (a : Typed) → ((later : Map) (others : ℕ → Word) (world : World) → HasWord s a later others world) → CalledTo s start turns m (called g m) h a map old values w r
-  root_is_made r come h a has_word =
+  pub root_is_made : (place : Option Value) (r : Result) → ((world : World) → AreAlike w.objects world.objects → Matches s.lowered s.own map old world → AreValues map vs world.arguments → CallCame s map old world k function place r)
+      → (h : Front s.body.pieces (called g m).pieces (called g m).entries) (a : Typed) → ((later : Map) (others : ℕ → Word) (world : World) → HasWord s a later others world) → CameTo s start turns m (called g m) h a map old values w (without_value r)
+  root_is_made place r come h a has_word =
       let here = seen s.body map values w in
       let t = as_p g in
       let gs = (asked t m.entries).entries in
@@ -222,9 +222,9 @@ module _ (chars : CharsAreNarrow) (shorts : ShortsAreNarrow) (means : TurnsMean)
       let settled = as_p_set keeps here g.suffix g.tree (lasting_settled s locals body m f st.slots (length m.slots) (omega arith) map values w g (Function function) has) in
       let front = front_of s.body.pieces m.pieces gs (gs ++ entry.Root (with_kids (call_head false) (kids.One node)) ∷ []) (front_before gs (entry.Root (with_kids (call_head false) (kids.One node)) ∷ [])) h in
       let n = template_answers chars shorts s locals body start turns m.pieces m.slots le keeps k map old t m.entries f values w at inside settled has.holds.word (p_gives here g.suffix g.tree has.holds.word has.holds.gives) front in
-      made_by gs front n.others n.world n.stands node (n.has ∙ has.holds.is) n.near h (rooted_one_there (call_head false) t m.entries st.block inside).0 a has_word r
-      (come n.world n.stands.matches (subst (λ (ws : List Word). AreValues map vs ws) (sym n.near.arguments) st.words))
+      made_by gs front n.others n.world n.stands node (n.has ∙ has.holds.is) n.near h (rooted_one_there (call_head false) t m.entries st.block inside).0 a has_word place r
+      (come n.world n.near.alike n.stands.matches (subst (λ (ws : List Word). AreValues map vs ws) (sym n.near.arguments) st.words))
 
 pub call_roots_are_made : CharsAreNarrow → ShortsAreNarrow → TurnsMean → CallRootsAreMade
-call_roots_are_made chars shorts means s locals body program start turns m le f map old values w k vs st g function within has r come h a has_word =
-    root_is_made chars shorts means s locals body start turns m le f map old values w k vs st g function within has r come h a has_word
+call_roots_are_made chars shorts means s locals body program start turns m le f map old values w k vs st g function within has place r come h a has_word =
+    root_is_made chars shorts means s locals body start turns m le f map old values w k vs st g function within has place r come h a has_word

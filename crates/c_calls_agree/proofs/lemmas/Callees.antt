@@ -31,6 +31,7 @@ use Rattle.c_runs.proofs.lemmas.SoundCalls.{call_sound}
 use Rattle.c_match.specs.Held.{IsOpenTo}
 use Rattle.c_match.specs.Ranges.{Map}
 use Rattle.c_match_worlds.specs.Matches.{Matches}
+use Rattle.c_pointers_agree.specs.Held.{AreShort}
 use Rattle.c_agreement.specs.Agrees.{ComesWith}
 use Rattle.c_agreement.specs.Called.{AreValues, passed_values, IsOpenCopy, IsCalled}
 use Rattle.c_agreement.specs.CameTo.{CameTo, Returns}
@@ -73,7 +74,7 @@ given_by : (p : CallPair) (map : Map) (v : Option Value) (w : Word) → IsCallRe
 given_by p map None w h = tt
 given_by p map (Some v) w h = h
 
-module _ (s : Scene) (locals : ℕ) (body : IsBody s locals) (program : IsProgram s) (map : Map) (w : World) (a : Call) (passed : IsPassedCall s.unit a) (plain : is_record a.of ≡ false → a.result ≡ None) (matches : Matches s.lowered s.own map a.world w) (words : AreValues map (passed_values a) w.arguments)
+module _ (s : Scene) (locals : ℕ) (body : IsBody s locals) (program : IsProgram s) (map : Map) (w : World) (a : Call) (passed : IsPassedCall s.unit a) (plain : is_record a.of ≡ false → a.result ≡ None) (short : AreShort (c.objects a.world)) (matches : Matches s.lowered s.own map a.world w) (words : AreValues map (passed_values a) w.arguments)
     (copies : EachIs (IsOpenCopy map w.objects) a.arguments) (open_result : (v : Value) → a.result ≡ Some v → IsOpenTo Initialisation map w.objects v) where
   abbrev pair : CallPair
   pair = pair_of s.unit s.lowered a map w
@@ -85,6 +86,7 @@ module _ (s : Scene) (locals : ℕ) (body : IsBody s locals) (program : IsProgra
     fitting = fit;
     passed = passed;
     plain = plain;
+    short = short;
     worlds = subst (λ (n : ℕ). Matches s.lowered n map a.world w) program.own matches;
     words = words;
     copies = copies;
@@ -158,5 +160,5 @@ module _ (s : Scene) (locals : ℕ) (body : IsBody s locals) (program : IsProgra
   comes_by k callees None None there is = tt
 
 pub calls_come : CallsCome
-calls_come s locals body program map w k a callees passed plain matches words copies open_result =
-    comes_by s locals body program map w a passed plain matches words copies open_result k callees (function_at s.unit a.function) (built_in_at s.unit a.function) refl refl
+calls_come s locals body program map w k a callees passed plain short matches words copies open_result =
+    comes_by s locals body program map w a passed plain short matches words copies open_result k callees (function_at s.unit a.function) (built_in_at s.unit a.function) refl refl

@@ -1,45 +1,50 @@
 -- The call of the first operand with the others, where these are there.
-use Rattle.std.specs.Prelude.{◌≡◌, ◌<◌, ℕ, zero, suc, Bool, true, false, Option, Some, None, List, [], ◌∷◌, length, slice_get, if◌then◌else◌}
+use Rattle.std.specs.Prelude.{◌≡◌, ◌<◌, ℕ, zero, suc, Bool, true, false, Option, Some, None, Result as Checked, Ok, Err, List, [], ◌∷◌, length, slice_get, if◌then◌else◌}
 use Rattle.std.proofs.Common.{true≢false, refl, sym, ap, subst, ◌∙◌}
 use Rattle.std.proofs.lemmas.Option.{none-some}
+use Rattle.lcc_base.specs.declared.cause.Cause.{Cause}
 use Rattle.lcc_base.specs.declared.cause.Cause.TheVariants.{CallMismatch}
+use Rattle.lcc_base.specs.declared.order.Order.{Order}
+use Rattle.lcc_base.specs.Traces.{Closed}
+use Rattle.objects.specs.declared.purpose.Purpose.TheVariants.{Initialisation}
 use Rattle.objects.specs.declared.value.Value.{Value}
-use Rattle.objects.specs.declared.value.Value.TheVariants.{Number, Pointer, Function}
+use Rattle.objects.specs.declared.value.Value.TheVariants.{Function}
+use Rattle.forests.specs.Objects.{Object}
 use Rattle.forests.specs.Words.{Word}
 use Rattle.forests.specs.Worlds.{World, Outcome}
-use Rattle.c_types.specs.CType.{CType, Plain as PlainType, Array, Kind, Simple, Structure, Union, Enumeration}
-use Rattle.c_types.specs.CType as type
+use Rattle.c_types.specs.CType.{CType, unqualified}
+use Rattle.c_types.specs.Layout.{Tag}
 use Rattle.c_meaning.specs.declared.built_in.BuiltIn.{BuiltIn}
-use Rattle.c_meaning.specs.declared.built_in.BuiltIn.TheVariants.{Putchar, Getchar, Exit}
+use Rattle.c_meaning.specs.Copies.{locals_from, copied}
 use Rattle.c_meaning.specs.Each.{EachIs}
-use Rattle.c_types.specs.Compatible.{kinds_compatible}
-use Rattle.c_meaning.specs.Types.{is_record, is_void, is_void_kind}
-use Rattle.c_meaning.specs.Units.{FunctionTree}
-use Rattle.c_runs.specs.Calls.{Argument, Call, int, fits, result_fits, built_in_fits, function_at, built_in_at, called_by, number_of, with_number, provided}
+use Rattle.c_meaning.specs.Types.{is_record}
+use Rattle.c_meaning.specs.Units.{FunctionTree, UnitTree}
+use Rattle.c_runs.specs.Calls.{Argument, Call, Setting, fits, built_in_fits, function_at, built_in_at, called_by, provided, handed, returned}
 use Rattle.c_runs.specs.Expressions.{call_by, result_place}
-use Rattle.c_runs.specs.Locals.{IsPassedCall, IsPassed}
-use Rattle.c_runs.specs.Outcomes as how
-use Rattle.c_runs.specs.Outcomes.{Undefined, OutOfTurns, Result, Gives, GivesNone, Ends, undefined, either, spend}
-use Rattle.c_runs.specs.Run.{context}
-use Rattle.c_runs.specs.Soundness.{outlines}
+use Rattle.c_runs.specs.Locals.{IsPassedCall, LocalIsObject}
+use Rattle.c_runs.specs.Outcomes.{Result, Gives, GivesNone, Ends, Out, Next, Break, Continue, Return, Goto, Over, undefined, if_fine, either, spend}
+use Rattle.c_runs.specs.Places.{assigned, size_of}
+use Rattle.c_runs.specs.Run.{context, setting, body_run, function_run, calls_below, call}
+use Rattle.c_runs.specs.Soundness.{outlines, IsObjectOf}
 use Rattle.c_runs.specs.Worlds as c
+use Rattle.c_match.specs.Held.{IsOpenTo}
 use Rattle.c_match.specs.Ranges.{Map}
 use Rattle.c_match_worlds.specs.Matches.{Matches}
 use Rattle.c_agreement.specs.Agrees.{ComesWith}
-use Rattle.c_agreement.specs.Called.{AreValues, behind_hidden, IsOpenCopy}
-use Rattle.c_rows_agree.specs.Typed.{Typed}
+use Rattle.c_agreement.specs.Called.{AreValues, behind_hidden, passed_values}
 use Rattle.piece_runs.specs.Pieces.{Front}
 use Rattle.c_expr_agreement.specs.Scenes.{Scene}
 use Rattle.lowered_forms.specs.Lows.{Low}
-use Rattle.c_straight_agree.specs.Agreement.{CameTo}
+use Rattle.c_straight_agree.specs.Layouts.{FrameLayout, IsLaidOut, IsOpenAt}
 use Rattle.c_straight_agree.specs.Standing.{IsBody, Standing, IsSoundIn}
 use Rattle.c_calls_agree.specs.Given.{CallCame}
-use Rattle.c_calls_agree.specs.Laws.{CalledTo}
+use Rattle.c_calls_agree.specs.Laws.{HasCopies}
 use Rattle.c_calls_agree.specs.Passing.{Passing}
-use Rattle.c_calls_agree.specs.Programs.{IsNoValue, IsProgram, ProgramsGiveNothing}
-use Rattle.c_calls_agree.proofs.lemmas.Arguments.{values_of, AreScalars}
-use Rattle.c_calls_agree.proofs.lemmas.BuiltIns.{both_true}
+use Rattle.c_calls_agree.specs.Programs.{IsProgram}
+use Rattle.c_calls_agree.proofs.lemmas.Arguments.{values_of}
+use Rattle.c_calls_agree.proofs.lemmas.BuiltIns.{built_in_gives_no_record}
 use Rattle.c_calls_agree.proofs.lemmas.Callees.{context_calls, calls_come}
+use Rattle.c_calls_agree.proofs.lemmas.Copies.{place_for, local_is_open, AreEvaluated, copies_are_open}
 
 -- ---- the call as C makes it
 
@@ -57,67 +62,62 @@ by_value s of line n xs k w f = refl
 no_place : (of : CType) (vs : List Value) (n : ℕ) → is_record of ≡ false → result_place of vs n ≡ None
 no_place of vs n plain = ap (λ (b : Bool). if b then slice_get vs n else None) plain
 
--- scalars are passed by themselves
-copies_none : (s : Scene) (lives : List _) (xs : List Argument) → EachIs (λ (x : Argument). is_record x.of ≡ false) xs → EachIs (λ (x : Argument). IsPassed s.unit.tags lives x.of x.value) xs
-copies_none s lives [] h = tt
-copies_none s lives (x ∷ xs) h = ((λ r. absurd (true≢false (sym r ∙ h.0))), copies_none s lives xs h.1)
+-- ---- a call that gives a structure gives the place of its object
 
-open_none : (map : Map) (w : World) (xs : List Argument) → EachIs (λ (x : Argument). is_record x.of ≡ false) xs → EachIs (IsOpenCopy map w.objects) xs
-open_none map w [] h = tt
-open_none map w (x ∷ xs) h = ((λ r. absurd (true≢false (sym r ∙ h.0))), open_none map w xs h.1)
+-- no other value comes of it
+abbrev pub GivesOnly : Value → Result → Type 0
+GivesOnly p (Gives v k w) = v ≡ p
+GivesOnly p (GivesNone line k w) = Unit {0}
+GivesOnly p (Ends how w) = Unit {0}
 
--- ---- a call of type void gives no value
+fine_only : {A : Type 0} (p : Value) (checked : Checked A Cause) (line : ℕ) (w : c.World) (go : A → Result) → ((a : A) → GivesOnly p (go a)) → GivesOnly p (if_fine checked line w go)
+fine_only p (Ok a) line w go h = h a
+fine_only p (Err cause) line w go h = tt
 
-int_kind : (k : Kind) → is_void_kind k ≡ true → kinds_compatible (Simple type.Int) k ≡ true → ⊥
-int_kind (Simple type.Void) v e = true≢false (sym e)
-int_kind k v e = true≢false (sym v)
+spent_only : (p : Value) (k : ℕ) (w : c.World) (go : ℕ → Result) → ((j : ℕ) → GivesOnly p (go j)) → GivesOnly p (spend k w go)
+spent_only p zero w go h = tt
+spent_only p (suc k) w go h = h k
 
-int_is_not_void : (of : CType) → is_void of ≡ true → result_fits int of ≡ true → ⊥
-int_is_not_void (PlainType q k) v e = int_kind k v (both_true _ _ e).1
-int_is_not_void (Array of n) v e = absurd (true≢false (sym v))
+module _ (tags : List Tag) (a : Call) (p : Value) (result : a.result ≡ Some p) where
+  handed_only : (v : Value) (line k : ℕ) (w : c.World) → GivesOnly p (handed tags a.of a.result v line k a.world w)
+  handed_only v line k w =
+      subst (λ (o : Option Value). GivesOnly p (handed tags a.of o v line k a.world w)) (sym result)
+      (fine_only p (assigned Initialisation tags a.of (c.objects w) v p) line w (λ os. Gives p k (c.left_behind Closed a.world (c.with_objects w os))) (λ os. refl))
 
-number_none : (v : Value) (line : ℕ) (w : c.World) (go : ℕ → Result) → ((n : ℕ) → IsNoValue (go n)) → IsNoValue (number_of v line w go)
-number_none (Number n) line w go h = h n
-number_none (Pointer object offset) line w go h = tt
-number_none (Function f) line w go h = tt
+  returned_only : (o : Out) → GivesOnly p (returned tags a o)
+  returned_only (Next k w) = tt
+  returned_only (Return None line k w) = tt
+  returned_only (Return (Some v) line k w) = handed_only v line k w
+  returned_only (Break k w) = tt
+  returned_only (Continue k w) = tt
+  returned_only (Goto l k w) = tt
+  returned_only (Over h w) = tt
 
-with_number_none : (xs : List Argument) (line : ℕ) (w : c.World) (go : ℕ → Result) → ((n : ℕ) → IsNoValue (go n)) → IsNoValue (with_number xs line w go)
-with_number_none [] line w go h = tt
-with_number_none (x ∷ xs) line w go h = number_none x.value line w go h
+run_only : (s : Setting) (o : Option FunctionTree) (a : Call) (k : ℕ) (p : Value) → a.result ≡ Some p → GivesOnly p (function_run s o a k)
+run_only s None a k p result = tt
+run_only s (Some f) a k p result = returned_only s.unit.tags a p result (body_run s f a.function a.arguments k a.world)
 
-spent_none : (k : ℕ) (w : c.World) (go : ℕ → Result) → ((j : ℕ) → IsNoValue (go j)) → IsNoValue (spend k w go)
-spent_none zero w go h = tt
-spent_none (suc k) w go h = h k
+call_only : (u : UnitTree) (order : Order) (k : ℕ) (a : Call) (p : Value) → a.result ≡ Some p → GivesOnly p (call u order k a)
+unfolding call
+call_only u order k a p result = run_only (setting u order (λ k1 b. calls_below u order k k1 b)) (slice_get u.functions a.function) a k p result
 
-built_in_none : (b : BuiltIn) (a : Call) → is_void a.of ≡ true → built_in_fits b a.of a.arguments ≡ true → (j : ℕ) → IsNoValue (provided b a j)
-built_in_none Putchar a void fit j = absurd (int_is_not_void a.of void (both_true _ _ fit).0)
-built_in_none Getchar a void fit j = absurd (int_is_not_void a.of void (both_true _ _ fit).0)
-built_in_none Exit a void fit j = with_number_none a.arguments a.line a.world (λ n. Ends (how.Exit n) a.world) (λ n. tt)
+module _ (s : Scene) (a : Call) (whole : is_record a.of ≡ true) (p : Value) (result : a.result ≡ Some p) (k : ℕ) where
+  own_only : (f : FunctionTree) (fit : Bool) → GivesOnly p (either fit (λ k1 w1. spend k1 w1 (λ k2. (context s.unit s.lowered.order).calls k2 a)) (λ k1 w1. undefined CallMismatch a.line w1) k a.world)
+  own_only f false = tt
+  own_only f true = spent_only p k a.world (λ k2. (context s.unit s.lowered.order).calls k2 a) (λ j. subst (GivesOnly p) (sym (context_calls s.unit s.lowered.order j a)) (call_only s.unit s.lowered.order j a p result))
 
-module _ (s : Scene) (program : IsProgram s) (a : Call) (void : is_void a.of ≡ true) (k : ℕ) where
-  own_none : (f : FunctionTree) → function_at s.unit a.function ≡ Some f → (fit : Bool) → fits f a ≡ fit → IsNoValue (either fit (λ k1 w1. spend k1 w1 (λ k2. (context s.unit s.lowered.order).calls k2 a)) (λ k1 w1. undefined CallMismatch a.line w1) k a.world)
-  own_none f there false fit = tt
-  own_none f there true fit = spent_none k a.world (λ k2. (context s.unit s.lowered.order).calls k2 a) (λ j. subst IsNoValue (sym (context_calls s.unit s.lowered.order j a)) (program.voids j a f there fit void))
+  -- no built-in function gives one
+  built_only : (b : BuiltIn) (fit : Bool) → built_in_fits b a.of a.arguments ≡ fit → GivesOnly p (either fit (λ k1 w1. spend k1 w1 (λ k2. provided b a k2)) (λ k1 w1. undefined CallMismatch a.line w1) k a.world)
+  built_only b false fit = tt
+  built_only b true fit = absurd (true≢false (sym whole ∙ built_in_gives_no_record b a.of a.arguments fit))
 
-  built_none : (b : BuiltIn) → (fit : Bool) → built_in_fits b a.of a.arguments ≡ fit → IsNoValue (either fit (λ k1 w1. spend k1 w1 (λ k2. provided b a k2)) (λ k1 w1. undefined CallMismatch a.line w1) k a.world)
-  built_none b false fit = tt
-  built_none b true fit = spent_none k a.world (λ k2. provided b a k2) (λ j. built_in_none b a void fit j)
+  called_only : (o : Option FunctionTree) (b : Option BuiltIn) → GivesOnly p (called_by (context s.unit s.lowered.order) o b a k a.world)
+  called_only (Some f) b = own_only f (fits f a)
+  called_only None (Some b) = built_only b (built_in_fits b a.of a.arguments) refl
+  called_only None None = tt
 
-  pub void_none : (o : Option FunctionTree) (b : Option BuiltIn) → function_at s.unit a.function ≡ o → IsNoValue (called_by (context s.unit s.lowered.order) o b a k a.world)
-  void_none (Some f) b there = own_none f there (fits f a) refl
-  void_none None (Some b) there = built_none b (built_in_fits b a.of a.arguments) refl
-  void_none None None there = tt
-
-pub programs_give_nothing : ProgramsGiveNothing
-programs_give_nothing s program k a void = void_none s program a void k (function_at s.unit a.function) (built_in_at s.unit a.function) refl
-
--- so what comes behind the root is all
-pub came_to_nothing : (s : Scene) (start : ℕ → Outcome) (turns : ℕ) (l m : Low) (h : Front s.body.pieces m.pieces m.entries) (a : Typed) (map : Map) (before : c.World) (values : ℕ → Word) (first : World) (r : Result) → IsNoValue r → CalledTo s start turns l m h a map before values first r → CameTo s start turns l m h a map before values first r
-came_to_nothing s start turns l m h a map before values first (Gives v k old) none came = absurd none
-came_to_nothing s start turns l m h a map before values first (GivesNone line k old) none came = came
-came_to_nothing s start turns l m h a map before values first (Ends (Undefined cause line) old) none came = tt
-came_to_nothing s start turns l m h a map before values first (Ends OutOfTurns old) none came = came
-came_to_nothing s start turns l m h a map before values first (Ends (how.Exit status) old) none came = came
+pub structure_given : (s : Scene) (of : CType) (line n : ℕ) (xs : List Argument) (k : ℕ) (w : c.World) (f : ℕ) (p : Value) → is_record of ≡ true → result_place of w.locals n ≡ Some p → GivesOnly p (called_so s of line n xs k w f)
+structure_given s of line n xs k w f p whole result = called_only s (made_call of line n xs w f) whole p result k (function_at s.unit f) (built_in_at s.unit f)
 
 -- ---- a state before an expression is one before argument words
 
@@ -134,18 +134,39 @@ standing_passes s start turns l f map old values w k st = record {
 
 -- ---- what C's call comes to is what forests' does
 
-module _ (s : Scene) (locals : ℕ) (body : IsBody s locals) (program : IsProgram s) (of : CType) (line n : ℕ) (plain : is_record of ≡ false) (xs : List Argument) (k : ℕ) (old : c.World) (sound : IsSoundIn s old) (scalars : AreScalars old.storage.made xs) (map : Map) (callees : (j : ℕ) → j < k → (function : ℕ) → function < length s.unit.functions → ComesWith s.unit s.lowered function j) (f : ℕ) where
+module _ (s : Scene) (locals : ℕ) (body : IsBody s locals) (program : IsProgram s) (each : LocalIsObject) (y : FrameLayout) (laid : IsLaidOut s y) (of : CType) (line n : ℕ) (copies : HasCopies y (locals_from n (copied of))) (xs : List Argument) (k : ℕ) (old : c.World) (sound : IsSoundIn s old) (evaluated : AreEvaluated s old xs) (map : Map) (addresses : AreValues map old.locals s.frame.addresses)
+    (callees : (j : ℕ) → j < k → (function : ℕ) → function < length s.unit.functions → ComesWith s.unit s.lowered function j) (f : ℕ) where
   abbrev a : Call
   a = made_call of line n xs old f
 
-  none : a.result ≡ None
-  none = no_place of old.locals n plain
+  abbrev copied_if : Bool → List CType
+  copied_if b = if b then unqualified of ∷ [] else []
+
+  result_by : (b : Bool) → HasCopies y (locals_from n (copied_if b)) → b ≡ true → (v : Value) × ((if b then slice_get old.locals n else None) ≡ Some v) × IsObjectOf (outlines (c.objects old)) (size_of s.unit.tags of) v
+  result_by true h whole = let place = place_for each s y laid old sound n of h.0.0 in (place.copy, place.there, place.object)
+  result_by false h whole = absurd (true≢false (sym whole))
 
   is_passed : IsPassedCall s.unit a
-  is_passed = record { world = sound.sound; values = scalars.sound; copies = copies_none s (outlines old.storage.objects) xs scalars.scalars; result = λ r. absurd (true≢false (sym r ∙ plain)) }
+  is_passed = record { world = sound.sound; values = evaluated.sound; copies = evaluated.copies; result = result_by (is_record of) copies }
 
-  pub scalar_call_comes : (world : World) → Matches s.lowered s.own map old world → AreValues map (values_of xs) world.arguments → CallCame s map old world k f None (called_so s of line n xs k old f)
-  scalar_call_comes world matches words =
+  result_open : (b : Bool) (objects : List Object) → EachIs (IsOpenAt objects) s.frame.addresses → (v : Value) → (if b then slice_get old.locals n else None) ≡ Some v → IsOpenTo Initialisation map objects v
+  result_open true objects opens v is = local_is_open map old.locals s.frame.addresses objects addresses opens n v is
+  result_open false objects opens v is = absurd (none-some v is)
+
+  pub call_comes : (world : World) → EachIs (IsOpenAt world.objects) s.frame.addresses → Matches s.lowered s.own map old world → AreValues map (passed_values a) world.arguments → CallCame s map old world k f a.result (called_so s of line n xs k old f)
+  call_comes world opens matches words =
+      calls_come s locals body program map world k a callees is_passed (λ plain. no_place of old.locals n plain) sound.short matches words
+      (copies_are_open map old.locals s.frame.addresses world.objects addresses opens xs evaluated.locals) (result_open (is_record of) world.objects opens)
+
+  -- without a structure as its result
+  pub plain_call_comes : is_record of ≡ false → (world : World) → EachIs (IsOpenAt world.objects) s.frame.addresses → Matches s.lowered s.own map old world → AreValues map (values_of xs) world.arguments → CallCame s map old world k f None (called_so s of line n xs k old f)
+  plain_call_comes plain world opens matches words =
+      let none = no_place of old.locals n plain in
       subst (λ (place : Option Value). CallCame s map old world k f place (called_so s of line n xs k old f)) none
-      (calls_come s locals body program map world k a callees is_passed (λ p. none) matches (subst (λ (o : Option Value). AreValues map (behind_hidden o (values_of xs)) world.arguments) (sym none) words) (open_none map world xs scalars.scalars)
-      (λ v is. absurd (none-some v (sym none ∙ is))))
+      (call_comes world opens matches (subst (λ (o : Option Value). AreValues map (behind_hidden o (values_of xs)) world.arguments) (sym none) words))
+
+  -- and with one, at its place
+  pub whole_call_comes : (p : Value) → result_place of old.locals n ≡ Some p → (world : World) → EachIs (IsOpenAt world.objects) s.frame.addresses → Matches s.lowered s.own map old world → AreValues map (p ∷ values_of xs) world.arguments → CallCame s map old world k f (Some p) (called_so s of line n xs k old f)
+  whole_call_comes p is world opens matches words =
+      subst (λ (place : Option Value). CallCame s map old world k f place (called_so s of line n xs k old f)) is
+      (call_comes world opens matches (subst (λ (o : Option Value). AreValues map (behind_hidden o (values_of xs)) world.arguments) (sym is) words))

@@ -1,4 +1,4 @@
--- Calls that give scalars, or nothing.
+-- Calls that give scalars.
 use Rattle.std.specs.Prelude.{◌≡◌, ◌≤◌, ◌<◌, ℕ, ◌+◌, ℤ, Bool, true, false, Option, Some, None, List, [], ◌∷◌, length}
 use Rattle.std.proofs.Common.{refl, sym, subst, ◌∙◌, arith, length-append}
 use Rattle.objects.specs.declared.value.Value.{Value}
@@ -13,18 +13,17 @@ use Rattle.forests.specs.Worlds.{World, Outcome}
 use Rattle.dag_forest.specs.Tally.{node_count}
 use Rattle.dag_seam.specs.SplitLaws.{TurnsMean}
 use Rattle.c_types.specs.CType.{CType}
-use Rattle.c_meaning.specs.CoreTrees.{NoCore, Cores}
-use Rattle.c_meaning.specs.Types.{is_record, is_void, is_pointer}
+use Rattle.c_meaning.specs.Types.{is_record, is_pointer}
 use Rattle.c_runs.specs.Expressions.{call_by}
 use Rattle.c_runs.specs.Run.{context}
 use Rattle.c_runs.specs.Outcomes.{Undefined, OutOfTurns, Exit, Result, Gives, GivesNone, Ends}
-use Rattle.c_runs.specs.Soundness.{EvalStaysSound}
+use Rattle.c_runs.specs.Locals.{LocalIsObject}
 use Rattle.c_runs.specs.Worlds as c
 use Rattle.c_match.specs.Ranges.{Map}
 use Rattle.c_match.proofs.lemmas.Growing.{grown_refl, grown_trans}
 use Rattle.c_rows_agree.specs.Templates.{Gives as GivesWord}
-use Rattle.c_rows_agree.specs.Typed.{Typed, head, as_p}
-use Rattle.c_pointers_agree.specs.Pointers.{local, call_head}
+use Rattle.c_rows_agree.specs.Typed.{Typed, head}
+use Rattle.c_pointers_agree.specs.Pointers.{local}
 use Rattle.piece_runs.specs.Pieces.{Front}
 use Rattle.piece_runs.specs.Reaches.{keeps_at}
 use Rattle.c_expr_agreement.specs.Scenes.{Scene}
@@ -35,22 +34,23 @@ use Rattle.lowered_forms.specs.Values.{Lowered, placed, slot_read}
 use Rattle.lowered_forms.proofs.lemmas.Blocks.{within_more}
 use Rattle.c_straight_agree.specs.Agreement.{Came, CameTo}
 use Rattle.c_straight_agree.specs.Extends.{Extends}
+use Rattle.c_straight_agree.specs.Layouts.{FrameLayout, context_in, IsLaidOut}
 use Rattle.c_straight_agree.specs.Narrow.{CharsAreNarrow, ShortsAreNarrow}
 use Rattle.c_straight_agree.specs.Settled.{seen, IsSettled}
 use Rattle.c_straight_agree.specs.Standing.{IsBody, Standing}
 use Rattle.c_straight_agree.proofs.lemmas.At.{at_of, at_front}
-use Rattle.c_straight_agree.proofs.lemmas.Extending.{extends_itself, extends_joins, placed_extends, acted_extends, extends_nodes, extends_slots, extends_grows, front_back, slots_back}
+use Rattle.c_straight_agree.proofs.lemmas.Extending.{placed_extends, acted_extends, extends_nodes, extends_slots, extends_grows, front_back, slots_back}
 use Rattle.c_straight_agree.proofs.lemmas.Lasting.{lasting_more, lasting_stays}
+use Rattle.c_straight_agree.proofs.lemmas.Opens.{opens_stay}
 use Rattle.c_straight_agree.proofs.lemmas.Putting.{alike_length}
 use Rattle.c_slots_agree.specs.Slots.{IsSlotAt}
 use Rattle.c_slots_agree.proofs.lemmas.Reads.{slots_are_read}
 use Rattle.c_slots_agree.proofs.lemmas.Taken.{slots_are_taken}
-use Rattle.c_calls_agree.specs.Laws.{ScalarCallsAreLowered}
 use Rattle.c_calls_agree.specs.Passing.{Passing, PassedTo}
 use Rattle.c_calls_agree.specs.Programs.{IsProgram}
 use Rattle.c_calls_agree.proofs.lemmas.Arguments.{values_of, GoesAll}
-use Rattle.c_calls_agree.proofs.lemmas.Calls.{root_extends, slot_extends, made_plain, void_goes, call_is_lowered}
-use Rattle.c_calls_agree.proofs.lemmas.Making.{called_so, by_value, standing_passes, scalar_call_comes}
+use Rattle.c_calls_agree.proofs.lemmas.Calls.{made_as}
+use Rattle.c_calls_agree.proofs.lemmas.Making.{called_so, by_value, standing_passes, plain_call_comes}
 use Rattle.c_calls_agree.proofs.lemmas.StoredRoots.{CallStored, StoredTo, root_is_stored, word_came}
 use Rattle.c_calls_agree.proofs.lemmas.Words.{passing_at, words_extend, have_more, words_are_passed}
 
@@ -114,7 +114,10 @@ module _ (chars : CharsAreNarrow) (shorts : ShortsAreNarrow) (s : Scene) (locals
 
 -- ---- calls that give scalars
 
-module _ (chars : CharsAreNarrow) (shorts : ShortsAreNarrow) (means : TurnsMean) (s : Scene) (locals : ℕ) (body : IsBody s locals) (program : IsProgram s) (frame : IsFrame s.body.setting.environment.home.slots) (of : CType) (line n : ℕ) (plain : is_record of ≡ false) where
+module _ (chars : CharsAreNarrow) (shorts : ShortsAreNarrow) (means : TurnsMean) (s : Scene) (locals : ℕ) (body : IsBody s locals) (program : IsProgram s) (each : LocalIsObject) (y : FrameLayout) (laid : IsLaidOut s y) (of : CType) (line : ℕ) (plain : is_record of ≡ false) where
+  abbrev frame : IsFrame s.body.setting.environment.home.slots
+  frame = laid.frame
+
   module _ (start : ℕ → Outcome) (turns : ℕ) (l l0 m p : Low) (pointer : Bool) (offset : ℤ) (few : length l.slots ≤ length m.slots) (nodes : node_count l.entries ≤ node_count m.entries) (x : Extends m p) (entries : node_count l0.entries ≡ node_count l.entries) (slots : length l.slots ≤ length l0.slots)
       (g : Front s.body.pieces m.pieces m.entries) (e : Front s.body.pieces p.pieces p.entries) (h : Front s.body.pieces (placed (slot_read (result_suffix pointer) offset) p).low.pieces (placed (slot_read (result_suffix pointer) offset) p).low.entries)
       (le : locals ≤ length p.slots) (slot_at : IsSlotAt s (length l.slots) offset) (before : length l.slots < length p.slots) (map : Map) (old : c.World) (values : ℕ → Word) (w : World) (k : ℕ) (vs : List Value) (one : PassedTo s start turns l0 m g map old values w k vs) where
@@ -133,11 +136,11 @@ module _ (chars : CharsAreNarrow) (shorts : ShortsAreNarrow) (means : TurnsMean)
     finish (Ends OutOfTurns new) two = two
     finish (Ends (Exit status) new) two = two
 
-  scalar_goes : (callee : Value) → GoesAll s locals body (λ ps l. made_plain false of ps l) (λ xs k old. call_by (context s.unit s.lowered.order) of line callee n xs k old) callee
-  scalar_goes callee m le [] within xs start turns f h map old values w k slots st sound scalars have = absurd have
-  scalar_goes (Number i) m le (g ∷ as') within xs start turns f h map old values w k slots st sound scalars have = tt
-  scalar_goes (Pointer object offset) m le (g ∷ as') within xs start turns f h map old values w k slots st sound scalars have = tt
-  scalar_goes (Function function) m le (g ∷ as') within xs start turns f h map old values w k slots st sound scalars have =
+  pub scalar_goes : (callee : Value) → GoesAll s locals body y of (λ n ps l. made_as false false (context_in s y) of n ps l) (λ n xs k old. call_by (context s.unit s.lowered.order) of line callee n xs k old) callee
+  scalar_goes callee n m le [] within copies xs start turns f h map old values w k slots st sound wholes evaluated have = absurd have
+  scalar_goes (Number i) n m le (g ∷ as') within copies xs start turns f h map old values w k slots st sound wholes evaluated have = tt
+  scalar_goes (Pointer object offset) n m le (g ∷ as') within copies xs start turns f h map old values w k slots st sound wholes evaluated have = tt
+  scalar_goes (Function function) n m le (g ∷ as') within copies xs start turns f h map old values w k slots st sound wholes evaluated have =
       let l0 = with_slot m in
       let z = slot_offset m in
       let number = length m.slots in
@@ -172,28 +175,8 @@ module _ (chars : CharsAreNarrow) (shorts : ShortsAreNarrow) (means : TurnsMean)
       let before : number < length m1.slots = omega (arith, one_more, more) in
       let before2 : number < length p.slots = omega (arith, before, more2) in
       let stored = root_is_stored chars shorts means s locals body frame start turns m1 le1 h1 map old passed.others passed.world k (values_of xs) passed.stands g function (within_more count (node_count m1.entries) g.tree (extends_nodes l0 m1 x1) within.0) has number z slot_at le before r
-      (scalar_call_comes s locals body program of line n plain xs k old sound scalars map passed.stands.callees function) h2 in
+      (λ world alike matches words.
+      plain_call_comes s locals body program each y laid of line n copies xs k old sound evaluated map st.stands.frame.locals passed.stands.callees function plain world
+      (opens_stay s.frame.addresses w.objects world.objects (passed.alike ∙ alike) wholes.opens) matches words) h2 in
       subst (λ (y : Result). CameTo s start turns m q h (placed a p).value map old values w y) (sym (by_value s of line n xs k old function))
       (finish start turns m l0 m1 p (is_pointer of) z (omega (arith, before)) (extends_nodes l0 m1 x1) x2 refl (omega (arith, one_more)) h1 h2 h le2 slot_at before2 map old values w k (values_of xs) passed r stored)
-
-  -- ---- both
-
-  plain_goes : (void : Bool) → is_void of ≡ void → (callee : Value) → GoesAll s locals body (λ ps l. made_plain void of ps l) (λ xs k old. call_by (context s.unit s.lowered.order) of line callee n xs k old) callee
-  plain_goes true is callee = void_goes chars shorts means s locals body program of line n plain is callee
-  plain_goes false is callee = scalar_goes callee
-
-further_so : (void : Bool) (of : CType) (ps : List Typed) (l : Low) → Extends l (made_plain void of ps l).low
-further_so void of [] l = extends_itself l
-further_so true of (g ∷ as') l = extends_joins l (all_passed as' l) _ (words_extend as' l) (root_extends (call_head false) (as_p g) (all_passed as' l))
-further_so false of (g ∷ as') l =
-    let l0 = with_slot l in
-    let m1 = all_passed as' l0 in
-    let p = acted (call_stored (slot_offset l) g) m1 in
-    let a = slot_read (result_suffix (is_pointer of)) (slot_offset l) in
-    extends_joins l l0 (placed a p).low (slot_extends l) (extends_joins l0 m1 (placed a p).low (words_extend as' l0) (extends_joins m1 p (placed a p).low (acted_extends (call_stored (slot_offset l) g) m1) (placed_extends a p)))
-
-pub scalar_calls_are_lowered : CharsAreNarrow → ShortsAreNarrow → TurnsMean → EvalStaysSound → ScalarCallsAreLowered
-scalar_calls_are_lowered chars shorts means evals s locals y body program laid n of line NoCore tame parts none l le = λ start turns f h map before values first k slots st sound wholes. tt
-scalar_calls_are_lowered chars shorts means evals s locals y body program laid n of line (Cores f kids) tame parts none l le =
-    call_is_lowered chars shorts means s locals body program of line n none.0 evals y laid (is_void of) refl (λ ps m. further_so (is_void of) of ps m)
-    (λ callee. plain_goes chars shorts means s locals body program laid.frame of line n none.0 (is_void of) refl callee) f kids parts none.1 l le

@@ -153,7 +153,7 @@ module _ (chars : CharsAreNarrow) (shorts : ShortsAreNarrow) (means : TurnsMean)
       ap (λ (o : Option ℕ). (found_or_new o x b.entries).entries ++ entry.Root (with_kids (head op.Asgn I) (kids.Two a.node (found_or_new o x b.entries).node)) ∷ []) (call_is_new b.entries x refl)
       ∙ append_assoc b.entries (entry.Value x ∷ []) (entry.Root (with_kids (head op.Asgn I) (kids.Two a.node (length (keys_of b.entries)))) ∷ [])
 
-  pub root_is_stored : (r : Result) → ((world : World) → Matches s.lowered s.own map old world → AreValues map vs world.arguments → CallCame s map old world k function None r)
+  pub root_is_stored : (r : Result) → ((world : World) → AreAlike w.objects world.objects → Matches s.lowered s.own map old world → AreValues map vs world.arguments → CallCame s map old world k function None r)
       → (h : Front s.body.pieces m.pieces (rooted (call_stored offset g) m.entries)) → StoredTo s start turns number m (acted (call_stored offset g) m) h map old values w r
   root_is_stored r come =
       let es = m.entries in
@@ -185,7 +185,7 @@ module _ (chars : CharsAreNarrow) (shorts : ShortsAreNarrow) (means : TurnsMean)
       let below : first.node < node_count gs = (let p = there.below in let q = there_b.others in omega (arith, p, q)) in
       made_by gs g1 b.others b.world b.stands first.node second.node below there_b.below (same_words (b.others first.node) (a.others first.node) (Plain (Pointer name 0)) (b.near.kept first.node there.below) a.has) (b.has ∙ has.holds.is) near (let p = there.others in let q = there_b.others in omega (arith, p, q)) h
       (subst IsBlock (root_is es) blocks) r
-      (come b.world b.stands.matches (subst (λ (ws : List Word). AreValues map vs ws) (sym near.arguments) st.words)))
+      (come b.world near.alike b.stands.matches (subst (λ (ws : List Word). AreValues map vs ws) (sym near.arguments) st.words)))
 
 -- ---- a template that gives a word becomes a node that has it
 

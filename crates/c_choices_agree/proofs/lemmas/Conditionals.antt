@@ -1,16 +1,17 @@
 -- Conditionals are lowered.
 use Rattle.std.specs.Prelude.{◌≡◌, ◌≤◌, ◌<◌, ℕ, suc, ℤ, ◌||◌, Bool, true, false, Option, Some, None, List, [], ◌∷◌, ◌++◌, length}
-use Rattle.std.proofs.Common.{refl, sym, ap, subst, arith, length-append}
+use Rattle.std.proofs.Common.{true≢false, refl, sym, ap, subst, ◌∙◌, arith, length-append}
 use Rattle.objects.specs.declared.value.Value.{Value}
 use Rattle.op_forest.specs.declared.frame.Slot.{Slot}
 use Rattle.forests.specs.Words.{Word, unknown}
 use Rattle.forests.specs.Worlds.{World, Outcome}
 use Rattle.dag_forest.specs.Tally.{node_count}
 use Rattle.dag_seam.specs.SplitLaws.{TurnsMean}
-use Rattle.c_meaning.specs.CoreTrees.{line_of}
+use Rattle.c_meaning.specs.declared.core_expr.CoreKind.TheVariants as kind
+use Rattle.c_meaning.specs.CoreTrees.{Core, NoCore, Cores, line_of}
 use Rattle.c_meaning.specs.Types.{is_void, is_pointer, is_record}
 use Rattle.c_meaning.specs.Values.{CoreTree}
-use Rattle.c_runs.specs.Outcomes.{Undefined, OutOfTurns, Exit, Result, Gives, GivesNone, Ends, then_give, truth, branch}
+use Rattle.c_runs.specs.Outcomes.{Undefined, OutOfTurns, Exit, Result, Gives, GivesNone, Ends, then_give, truth, is_true, branch}
 use Rattle.c_runs.specs.Soundness.{EvalStaysSound}
 use Rattle.c_runs.specs.Worlds as c
 use Rattle.c_match.specs.Ranges.{Map}
@@ -29,14 +30,14 @@ use Rattle.lowered_forms.proofs.lemmas.Fronts.{front_before}
 use Rattle.lowered_forms.proofs.lemmas.NodesOf.{values_have_nodes}
 use Rattle.lowered_forms.proofs.lemmas.Stepping.{placed_steps}
 use Rattle.lowered_forms.proofs.lemmas.WithinTemplates.{HasIn}
-use Rattle.c_straight_agree.specs.Agreement.{Came, CameTo}
+use Rattle.c_straight_agree.specs.Agreement.{Came, CameTo, without_value}
 use Rattle.c_straight_agree.specs.Finals.{Final}
 use Rattle.c_straight_agree.specs.Layouts.{FrameLayout, context_in, IsLaidOut, HoldsWholes}
 use Rattle.c_straight_agree.specs.Narrow.{CharsAreNarrow, ShortsAreNarrow}
-use Rattle.c_straight_agree.specs.Parts.{IsLoweredPart}
 use Rattle.c_straight_agree.specs.Standing.{place_of, IsBody, Standing, IsSoundIn}
 use Rattle.c_straight_agree.proofs.lemmas.Finals.{back, back_steps, back_jumps, finals_go_back, test_finals_go_back}
-use Rattle.c_straight_agree.proofs.lemmas.Parts.{result}
+use Rattle.c_straight_agree.proofs.lemmas.Parts.{result, Results}
+use Rattle.c_straight_agree.proofs.lemmas.Performing.{give_without, either_without, none_without}
 use Rattle.c_straight_agree.proofs.lemmas.Wholes.{wholes_left}
 use Rattle.c_slots_agree.specs.Slots.{IsSlotAt}
 use Rattle.c_tests_agree.specs.Connectives.{IsTestPart}
@@ -47,7 +48,7 @@ use Rattle.c_tests_agree.proofs.lemmas.Joining.{Between, between_came, between_p
 use Rattle.c_tests_agree.proofs.lemmas.Jumping.{jump, address}
 use Rattle.c_tests_agree.proofs.lemmas.Marking.{with_label_stands, label_here, mark_stands}
 use Rattle.c_tests_agree.proofs.lemmas.Valuing.{slots_more}
-use Rattle.c_choices_agree.specs.Conditionals.{GivesNoValue, ConditionalsAreLowered}
+use Rattle.c_choices_agree.specs.Conditionals.{ConditionalsAreLowered, VoidConditionalsArePerformed}
 use Rattle.c_choices_agree.proofs.lemmas.Keeping.{IsKept, kept_final, kept_slots, kept_pieces, KeptBehind, kept_comes, kept_stays, kept_read, read_pieces}
 use Rattle.c_choices_agree.proofs.lemmas.Passing.{with_slot_stands, one_slot, between_itself, marked_is_new, came_behind, came_map}
 use Rattle.c_choices_agree.proofs.lemmas.Slots.{SlotLaws}
@@ -98,7 +99,8 @@ longer_kept sort z r = record {
 }
 
 module _ (chars : CharsAreNarrow) (shorts : ShortsAreNarrow) (means : TurnsMean) (evals : EvalStaysSound) (laws : SlotLaws) (jumping : JumpsAreTaken) (s : Scene) (once : AreMarkedOnce s.body) (locals : ℕ) (body : IsBody s locals) (y : FrameLayout) (laid : IsLaidOut s y) (a b c1 : CoreTree)
-    (pa : IsTestPart s locals y a) (pb : IsLoweredPart s locals y b) (pc : IsLoweredPart s locals y c1) (sort : Sort) (none_b : sort ≡ Nothing → GivesNoValue s b) (none_c : sort ≡ Nothing → GivesNoValue s c1) (l : Low) (le : locals ≤ length l.slots) where
+    (pa : IsTestPart s locals y a) (view : Result → Result) (pb : (l : Low) → locals ≤ length l.slots → Results s locals body y l (low_e (context_in s y) b l) (λ k old. view (result s b k old))) (pc : (l : Low) → locals ≤ length l.slots → Results s locals body y l (low_e (context_in s y) c1 l) (λ k old. view (result s c1 k old)))
+    (sort : Sort) (none : sort ≡ Nothing → (r : Result) (v : Value) (j : ℕ) (new : c.World) → view r ≡ Gives v j new → ⊥) (l : Low) (le : locals ≤ length l.slots) where
   abbrev x : Context
   x = context_in s y
 
@@ -283,32 +285,32 @@ module _ (chars : CharsAreNarrow) (shorts : ShortsAreNarrow) (means : TurnsMean)
       chosen_between : (m : Low) (g : Front all m.pieces m.entries) (old : c.World) (j : ℕ) → (p : Passed s start turns (length begun.slots) m g map before first old j) → Between s i map before first p.later old p.world
       chosen_between m g old j p = between_joins s i (length begun.slots) from_begun map before first map before first (between_itself s i map before first) p.later old p.world (between_passed s start turns (length begun.slots) m g map before first old j p)
 
-      no_value : (e : CoreTree) → (sort ≡ Nothing → GivesNoValue s e) → (v : Value) (j m : ℕ) (old new : c.World) → IsSoundIn s old → result s e j old ≡ Gives v m new → sort ≡ Nothing → Some v ≡ None
-      no_value e none v j m old new so is empty = absurd (none empty j m v old new so is)
+      no_value : (r : Result) (v : Value) (m : ℕ) (new : c.World) → view r ≡ Gives v m new → sort ≡ Nothing → Some v ≡ None
+      no_value r v m new is empty = absurd (none empty r v m new is)
 
       one_way : (is : Bool) (j : ℕ) (old : c.World) → IsSoundIn s old → PassedBy (jumps false is) s start turns (length begun.slots) chosen final_chosen.front second past map before first old j
-          → CameTo s start turns l out.low h out.value map before values first (branch (truth is) (λ k1 w1. result s b k1 w1) (λ k1 w1. result s c1 k1 w1) j old)
+          → CameTo s start turns l out.low h out.value map before values first (branch (truth is) (λ k1 w1. view (result s b k1 w1)) (λ k1 w1. view (result s c1 k1 w1)) j old)
       unfolding past final_second
       one_way true j old so p =
           let between = chosen_between chosen final_chosen.front old j p in
-          came_map s start turns l out.low h out.value map before values first p.later old p.others p.world between chosen way.low final_way.front way.value (result s b j old)
-          (pb.lowered chosen (enough chosen later_chosen) start turns final_chosen.front final_way.front p.later old p.others p.world j final_way.slots p.stands so (wholes_left s y laid map before first p.world st.stands.frame.others between.alike i between.left wholes))
-          (λ v m new is came. way_comes map before values first p.later old p.others p.world between (Some v) new m (no_value b none_b v j m old new so is) (values_have_nodes x b chosen p.stands.block).value came)
+          came_map s start turns l out.low h out.value map before values first p.later old p.others p.world between chosen way.low final_way.front way.value (view (result s b j old))
+          (pb chosen (enough chosen later_chosen) start turns final_chosen.front final_way.front p.later old p.others p.world j final_way.slots p.stands so (wholes_left s y laid map before first p.world st.stands.frame.others between.alike i between.left wholes))
+          (λ v m new is came. way_comes map before values first p.later old p.others p.world between (Some v) new m (no_value (result s b j old) v m new is) (values_have_nodes x b chosen p.stands.block).value came)
           (λ line m new is came. way_comes map before values first p.later old p.others p.world between None new m (λ e. refl) (values_have_nodes x b chosen p.stands.block).value came)
       one_way false j old so p =
           let between = chosen_between other_begun final_second.front old j p in
-          came_map s start turns l out.low h out.value map before values first p.later old p.others p.world between other_begun other.low final_other.front other.value (result s c1 j old)
-          (pc.lowered other_begun (enough other_begun later_second) start turns final_second.front final_other.front p.later old p.others p.world j final_other.slots p.stands so (wholes_left s y laid map before first p.world st.stands.frame.others between.alike i between.left wholes))
-          (λ v m new is came. other_comes map before values first p.later old p.others p.world between (Some v) new m (no_value c1 none_c v j m old new so is) (values_have_nodes x c1 other_begun p.stands.block).value came)
+          came_map s start turns l out.low h out.value map before values first p.later old p.others p.world between other_begun other.low final_other.front other.value (view (result s c1 j old))
+          (pc other_begun (enough other_begun later_second) start turns final_second.front final_other.front p.later old p.others p.world j final_other.slots p.stands so (wholes_left s y laid map before first p.world st.stands.frame.others between.alike i between.left wholes))
+          (λ v m new is came. other_comes map before values first p.later old p.others p.world between (Some v) new m (no_value (result s c1 j old) v m new is) (values_have_nodes x c1 other_begun p.stands.block).value came)
           (λ line m new is came. other_comes map before values first p.later old p.others p.world between None new m (λ e. refl) (values_have_nodes x c1 other_begun p.stands.block).value came)
 
-      conditional_comes : CameTo s start turns l out.low h out.value map before values first (then_give (asked_at s a (line_of a) k before) (λ v k1 w1. branch v (λ k2 w2. result s b k2 w2) (λ k2 w2. result s c1 k2 w2) k1 w1))
+      conditional_comes : CameTo s start turns l out.low h out.value map before values first (then_give (asked_at s a (line_of a) k before) (λ v k1 w1. branch v (λ k2 w2. view (result s b k2 w2)) (λ k2 w2. view (result s c1 k2 w2)) k1 w1))
       conditional_comes =
-          went_came s start turns l chosen out.low final_chosen.front h out.value second past map before values first (length begun.slots) (asked_at s a (line_of a) k before) (λ v k1 w1. branch v (λ k2 w2. result s b k2 w2) (λ k2 w2. result s c1 k2 w2) k1 w1)
+          went_came s start turns l chosen out.low final_chosen.front h out.value second past map before values first (length begun.slots) (asked_at s a (line_of a) k before) (λ v k1 w1. branch v (λ k2 w2. view (result s b k2 w2)) (λ k2 w2. view (result s c1 k2 w2)) k1 w1)
           (pa.tested begun (let a = from_begun in omega (arith, le, a)) second false start turns f final_chosen.front past map before values first k (line_of a) final_chosen.slots begins sound wholes)
           (λ is j old e p. one_way is j old (sound_asked s locals body evals a pa.tame (line_of a) k j (truth is) before old sound e) p)
 
--- ---- the law
+-- ---- the laws
 
 nothing_is_void : (v w : Bool) → sort_by v w ≡ Nothing → v ≡ true
 nothing_is_void true w e = refl
@@ -316,6 +318,16 @@ nothing_is_void false true e = absurd (let never : ⊥ = cc in never)
 nothing_is_void false false e = absurd (let never : ⊥ = cc in never)
 
 pub conditionals_are_lowered : CharsAreNarrow → ShortsAreNarrow → TurnsMean → EvalStaysSound → SlotLaws → JumpsAreTaken → ConditionalsAreLowered
-conditionals_are_lowered chars shorts means evals laws jumping s locals y body once laid of line a b c1 pa pb pc none l le start turns f h map before values first k slots st sound wholes =
+conditionals_are_lowered chars shorts means evals laws jumping s locals y body once laid of line a b c1 valued pa pb pc l le start turns f h map before values first k slots st sound wholes =
     let empty : sort_of of ≡ Nothing → is_void of ≡ true = nothing_is_void (is_void of) (is_pointer of || is_record of) in
-    conditional_comes chars shorts means evals laws jumping s once locals body y laid a b c1 pa pb pc (sort_of of) (λ e. (none (empty e)).0) (λ e. (none (empty e)).1) l le start turns f h slots map before values first k st sound wholes
+    conditional_comes chars shorts means evals laws jumping s once locals body y laid a b c1 pa (λ r. r) pb.lowered pc.lowered (sort_of of) (λ e r v j new is. true≢false (sym (empty e) ∙ valued)) l le start turns f h slots map before values first k st sound wholes
+
+pub void_conditionals_are_performed : CharsAreNarrow → ShortsAreNarrow → TurnsMean → EvalStaysSound → SlotLaws → JumpsAreTaken → VoidConditionalsArePerformed
+void_conditionals_are_performed chars shorts means evals laws jumping s locals y body once laid of line a b c1 void pa pb pc l le start turns f h map before values first k slots st sound wholes =
+    let x = context_in s y in
+    let e = Core kind.Conditional of line (Cores a (Cores b (Cores c1 NoCore))) in
+    subst (λ (r : Result). CameTo s start turns l (low_e x e l).low h (low_e x e l).value map before values first r)
+    (sym (give_without (asked_at s a (line_of a) k before) (λ v k1 w1. branch v (λ k2 w2. result s b k2 w2) (λ k2 w2. result s c1 k2 w2) k1 w1)
+    (λ v k1 w1. branch v (λ k2 w2. without_value (result s b k2 w2)) (λ k2 w2. without_value (result s c1 k2 w2)) k1 w1)
+    (λ v k1 w1. either_without (is_true v) (λ k2 w2. result s b k2 w2) (λ k2 w2. result s c1 k2 w2) _ _ k1 w1 refl refl)))
+    (conditional_comes chars shorts means evals laws jumping s once locals body y laid a b c1 pa without_value pb.performed pc.performed (sort_of of) (λ e1 r v j new is. none_without r v j new is) l le start turns f h slots map before values first k st sound wholes)

@@ -64,7 +64,7 @@ pieces_are_roots : roots_of Big setting.environment.home pieces ≡ roots
 pieces_are_roots = refl
 
 abbrev scene : Scene
-scene = record { unit = source; own = 0; lowered = target; body = body; frame = record { addresses = []; others = [] } }
+scene = record { unit = source; own = 0; lowered = target; body = body; frame = record { types = []; addresses = []; others = [] } }
 
 -- ---- the constant
 

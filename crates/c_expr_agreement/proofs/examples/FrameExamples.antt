@@ -6,6 +6,7 @@ use Rattle.objects.specs.Bytes.{unknown_byte}
 use Rattle.forests.specs.Objects.{objects_from}
 use Rattle.forests.specs.Words.{Plain}
 use Rattle.forests.specs.Worlds.{World}
+use Rattle.c_types.specs.CType.{Int, basic}
 use Rattle.c_runs.specs.Worlds as c
 use Rattle.c_match.specs.Ranges.{Range, Map}
 use Rattle.c_expr_agreement.specs.Scenes.{Frame, InFrame}
@@ -25,7 +26,7 @@ abbrev one_local : c.World
 one_local = record { storage = record { objects = record { made = 0; constant = false; bytes = replicate 4 unknown_byte } ∷ []; made = 1 }; locals = Pointer (record { place = 0; made = 0; size = 4 }) 0 ∷ []; input = []; trace = [] }
 
 abbrev frame_of : List ℕ → Frame
-frame_of others = record { addresses = Plain (Pointer (record { place = 0; made = 0; size = 4 }) 0) ∷ []; others = others }
+frame_of others = record { types = basic Int ∷ []; addresses = Plain (Pointer (record { place = 0; made = 0; size = 4 }) 0) ∷ []; others = others }
 
 only_first : (m : ℕ) (r : Range) → places m ≡ Some r → r.object.place ≡ 0
 only_first zero r e = ap (λ (x : Range). x.object.place) (sym (same_range e))

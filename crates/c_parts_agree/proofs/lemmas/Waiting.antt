@@ -137,7 +137,7 @@ module _ (chars : CharsAreNarrow) (shorts : ShortsAreNarrow) (evals : EvalStaysS
       let within = pending_in 0 z.tree (held_free (node_count l1.entries) p l1 comes.value) in
       joins s start turns l2 l3 r.low h3 h q r.value one.later old1 wait.others wait.world (Some u) old2 k2 (front_length l2.slots l3.slots x3.slots) (grows_later l2 l3 r.low x3 (extends_pieces l3 r.low x4) (λ e. x4)) two (act v u k2 old2)
       (goes l3 le3 z q (within_more 0 (node_count l3.entries) z.tree (omega arith) within) (values_have_nodes x b l2 wait.stands.block).value v u start turns h3 h two.later old2 two.others two.world k2 slots two.stands so2.world
-      (value_later old1.storage.made old2.storage.made v so2.made so.value) so2.value
+      (value_later old1.storage.made old2.storage.made v so2.keeps.made so.value) so2.value
       (lasting_more s locals (length l2.slots) (length l3.slots) (front_length l2.slots l3.slots x3.slots) z two.later two.others two.world v
       (lasting_stays s locals body (length l2.slots) (length l2.slots) (omega arith) one.later two.later two.grown old1 wait.others two.others wait.world two.world wait.stands.stands.frame two.alike two.left 0 (no_nodes wait.others two.others) z v within wait.has))
       two.has)))))

@@ -1,5 +1,5 @@
 -- The run goes on from place to place while a slot holds a number: over one comparison, and from labels.
-use Rattle.std.specs.Prelude.{◌≡◌, ◌≤◌, ◌<◌, ℕ, ◌^◌, Bool, true, false, Ok, length}
+use Rattle.std.specs.Prelude.{◌≡◌, ◌≤◌, ◌<◌, ℕ, ◌^◌, Bool, true, false, Ok, length, if◌then◌else◌}
 use Rattle.std.proofs.Common.{refl, subst, arith}
 use Rattle.objects.specs.declared.operators.Comparison.{Comparison}
 use Rattle.objects.specs.declared.value.Value.TheVariants.{Number}
@@ -106,7 +106,11 @@ module _ (chars : CharsAreNarrow) (shorts : ShortsAreNarrow) (means : TurnsMean)
         (number_holds (seen s.body g.map others world) x.signed m small) e)
         final.front final.slots t
 
-    -- it jumps where the comparison holds, else the next block begins
+    -- it jumps where the comparison holds, else the next block begins, and the slot holds the number still
+    pub comparison_held : (is : Bool) → comparison_value x.signed o (Number n) (Number m) ≡ Ok is → (g : Origin) (k : ℕ) → StandsAt p g a k → SlotHolds p.scene i (Plain (Number n)) g.world → HeldAt p i n g (if is then low_at p.scene label t else compared_with o x m label a) k
+    comparison_held true e g k here holds = held_passed g k here holds (low_at p.scene label t) t.front (compared_passed true e g k here holds)
+    comparison_held false e g k here holds = held_passed g k here holds (compared_with o x m label a) final.front (compared_passed false e g k here holds)
+
     pub comparison_goes : (d : Low) (is : Bool) → comparison_value x.signed o (Number n) (Number m) ≡ Ok is → (is ≡ true → ComesHolding p i n (low_at p.scene label t) d) → (is ≡ false → ComesHolding p i n (compared_with o x m label a) d) → ComesHolding p i n a d
-    comparison_goes d true e taken next g k here holds = held_on p i n g (low_at p.scene label t) d k (held_passed g k here holds (low_at p.scene label t) t.front (compared_passed true e g k here holds)) (taken refl)
-    comparison_goes d false e taken next g k here holds = held_on p i n g (compared_with o x m label a) d k (held_passed g k here holds (compared_with o x m label a) final.front (compared_passed false e g k here holds)) (next refl)
+    comparison_goes d true e taken next g k here holds = held_on p i n g (low_at p.scene label t) d k (comparison_held true e g k here holds) (taken refl)
+    comparison_goes d false e taken next g k here holds = held_on p i n g (compared_with o x m label a) d k (comparison_held false e g k here holds) (next refl)

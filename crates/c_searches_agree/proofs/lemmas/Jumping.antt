@@ -34,8 +34,10 @@ use Rattle.c_stmt_agreement.specs.Laws.{IsFinal}
 use Rattle.c_stmt_agreement.specs.LoweredStmt.{StandsAt}
 use Rattle.c_stmt_agreement.proofs.lemmas.Expressions.{passed_came}
 use Rattle.c_stmt_agreement.proofs.lemmas.Roots.{keeps, behind, root, root_front, stands_before}
-use Rattle.c_searches_agree.specs.Jumps.{ReadsLead, entry_in}
+use Rattle.c_slots_agree.specs.Laws.{SlotsAreRead}
+use Rattle.c_searches_agree.specs.Jumps.{JumpsLead, entry_in}
 use Rattle.c_searches_agree.proofs.lemmas.Holding.{room_behind}
+use Rattle.c_searches_agree.proofs.lemmas.Reading.{labels_are_read}
 
 module _ (chars : CharsAreNarrow) (shorts : ShortsAreNarrow) (means : TurnsMean) (p : Activation) (frame : HasFrame p) (once : AreMarkedOnce p.scene.body) where
   -- to the label of the word
@@ -62,9 +64,9 @@ entry_within f x t b nodes =
     (moved_in nodes 4 false (name table (pos 0)) (binary_of binary.Subtract x.signed (slot_read I x.slot) (number x.signed t.low)) tt
     (binary_in nodes binary.Subtract x.signed (slot_read I x.slot) (number x.signed t.low) (slot_in nodes I x.slot) (number_in nodes x.signed t.low)))
 
-pub reads_lead : CharsAreNarrow → ShortsAreNarrow → TurnsMean → ReadsLead
-reads_lead chars shorts means p frame once f all x t reads i n slot le word not_below not_above b less tables final m e =
+pub jumps_lead : CharsAreNarrow → ShortsAreNarrow → TurnsMean → SlotsAreRead → JumpsLead
+jumps_lead chars shorts means slots p frame once f x t whole i n slot le word not_below not_above b less tables final m e =
     subst (λ (q : ℕ). (l : Label p.scene q) → (o : Origin) (k : ℕ) (at : StandsAt p o b.low k) → SlotHolds p.scene i (Plain (Number n)) o.world → Came p o (low_at p.scene q l) o.old k) e
     (λ l o k at holds.
-    let r = reads i n slot le word not_below not_above b less tables o k at holds in
+    let r = labels_are_read slots p frame f x t whole i n slot word not_below not_above b less tables o k at holds in
     word_jumps chars shorts means p frame once b.low (room_behind p.locals i (length b.low.slots) le less) (entry_in f x t b) (slice_index_or t.labels (offset t.low n) x.default) l final o k at (entry_within f x t b (node_count b.low.entries)) r.1 r.0)

@@ -1,7 +1,7 @@
 -- The labels of a switch: those of its tables stand in the body, and C's choice is one of them.
-use Rattle.std.specs.Prelude.{◌≤◌, ◌<◌, ℕ, zero, suc, ◌+◌, ◌%◌, ◌^◌, ◌==◌, Bool, true, false, IfSome, Option, Some, List, [], ◌∷◌, length, map, if◌then◌else◌}
+use Rattle.std.specs.Prelude.{ℕ, zero, suc, ◌+◌, ◌%◌, ◌^◌, ◌==◌, Bool, true, false, IfSome, Option, Some, List, [], ◌∷◌, map, if◌then◌else◌}
 use Rattle.std.specs.List.{AllByRecursion}
-use Rattle.std.proofs.Common.{sym, subst, arith}
+use Rattle.std.proofs.Common.{sym, subst}
 use Rattle.c_meaning.specs.declared.core_stmt.CoreCase.{CoreCase}
 use Rattle.c_runs.specs.Statements.{chosen}
 use Rattle.switch_tables.specs.declared.table.Table.{Table}
@@ -18,7 +18,7 @@ use Rattle.lowered_statements.specs.Searches.{Choice}
 use Rattle.lowered_labels.specs.Used.{IsOwn}
 use Rattle.c_tests_agree.specs.Tested.{Label}
 use Rattle.c_stmt_agreement.specs.Comings.{Activation}
-use Rattle.c_searches_agree.specs.Jumps.{JumpLeads, IfJumps}
+use Rattle.c_searches_agree.specs.Jumps.{JumpLeads}
 use Rattle.c_searches_agree.proofs.lemmas.Searching.{IsGood}
 
 -- ---- what the default and each case's label have, each label of the tables has
@@ -71,17 +71,7 @@ chosen_is_own f (c ∷ cs) default n h d = by (c.number == n) (chosen_is_own f c
 
 -- ---- what is asked of the tables
 
-pub are_good : (p : Activation) (f : Function) (x : Choice) (all : List (List ℕ)) (ts : List Table) → AllByRecursion (IsTable x.signed) ts → AllByRecursion (λ t. AllByRecursion (λ l. Label p.scene l) t.labels) ts
-    → AllByRecursion (λ t. IfJumps t.labels (JumpLeads p f all x t)) ts → AllByRecursion (IsGood p f x all) ts
-are_good p f x all [] whole labels leads = tt
-are_good p f x all (t ∷ ts) whole labels leads = (record { whole = whole.0; labels = labels.0; leads = leads.0 }, are_good p f x all ts whole.1 labels.1 leads.1)
-
--- a table of at most one label has one, and makes no jump
-no_jump : (ls : List ℕ) → 0 < length ls → length ls ≤ 1 → (leads : Type 0) → IfJumps ls leads
-no_jump [] some few leads = absurd (let never : ⊥ = omega (arith, some) in never)
-no_jump (label ∷ []) some few leads = tt
-no_jump (label ∷ other ∷ ls) some few leads = absurd (let never : ⊥ = omega (arith, few) in never)
-
-pub no_jumps : (signed : Bool) (Leads : Table → Type 0) (ts : List Table) → AllByRecursion (IsTable signed) ts → AllByRecursion (λ t. length t.labels ≤ 1) ts → AllByRecursion (λ t. IfJumps t.labels (Leads t)) ts
-no_jumps signed Leads [] whole few = tt
-no_jumps signed Leads (t ∷ ts) whole few = (no_jump t.labels whole.0.some few.0 (Leads t), no_jumps signed Leads ts whole.1 few.1)
+pub are_good : (p : Activation) (f : Function) (x : Choice) → ((t : Table) → IsTable x.signed t → JumpLeads p f x t) → (ts : List Table) → AllByRecursion (IsTable x.signed) ts → AllByRecursion (λ t. AllByRecursion (λ l. Label p.scene l) t.labels) ts
+    → AllByRecursion (IsGood p f x) ts
+are_good p f x leads [] whole labels = tt
+are_good p f x leads (t ∷ ts) whole labels = (record { whole = whole.0; labels = labels.0; leads = leads t whole.0 }, are_good p f x leads ts whole.1 labels.1)

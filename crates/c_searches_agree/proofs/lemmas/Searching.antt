@@ -15,7 +15,6 @@ use Rattle.switch_tables.proofs.lemmas.Searching.{EachTable}
 use Rattle.c_rows_agree.specs.Integers.{number, compared}
 use Rattle.c_rows_agree.specs.Places.{loaded_pointer}
 use Rattle.c_rows_agree.specs.Typed.{head}
-use Rattle.lowered_forms.specs.Later.{IsFront}
 use Rattle.lowered_forms.specs.Lows.{Low, acted_one}
 use Rattle.lowered_forms.specs.Values.{slot_read}
 use Rattle.lowered_forms.proofs.lemmas.Fronts.{front_before}
@@ -30,24 +29,25 @@ use Rattle.c_tests_agree.specs.Tested.{AreMarkedOnce, Label, low_at}
 use Rattle.c_choices_agree.proofs.lemmas.Slots.{SlotLaws}
 use Rattle.c_stmt_agreement.specs.Comings.{Activation, HasFrame}
 use Rattle.c_stmt_agreement.specs.Laws.{IsFinal}
-use Rattle.c_searches_agree.specs.Jumps.{ComesHolding, JumpLeads, IfJumps}
+use Rattle.c_stmts_agree.specs.Tables.{HasTables}
+use Rattle.c_searches_agree.specs.Jumps.{ComesHolding, JumpLeads}
 use Rattle.c_searches_agree.proofs.lemmas.Finding.{alone_leads, leads_below, leads_above, leads_within, leads_here, leads_behind}
 use Rattle.c_searches_agree.proofs.lemmas.Holding.{stays_below, room_behind, moves_holding, same_place, jump_goes, comparison_goes}
-use Rattle.c_searches_agree.proofs.lemmas.Ways.{search_back, search_room, side, side_back, side_front, side_room, way_moves, way_room, SearchGoes, side_goes}
+use Rattle.c_searches_agree.proofs.lemmas.Ways.{search_back, search_room, side, side_back, side_has, side_room, way_moves, way_room, SearchGoes, side_goes}
 
 -- what is asked of each table of a search
-pub record IsGood (p : Activation) (f : Function) (x : Choice) (all : List (List ℕ)) (t : Table) : Type 0 where
+pub record IsGood (p : Activation) (f : Function) (x : Choice) (t : Table) : Type 0 where
   pub whole : IsTable x.signed t
   pub labels : AllByRecursion (λ l. Label p.scene l) t.labels
-  pub leads : IfJumps t.labels (JumpLeads p f all x t)
+  pub leads : JumpLeads p f x t
 
-module _ (chars : CharsAreNarrow) (shorts : ShortsAreNarrow) (means : TurnsMean) (laws : SlotLaws) (p : Activation) (frame : HasFrame p) (once : AreMarkedOnce p.scene.body) (f : Function) (x : Choice) (all : List (List ℕ)) (i n : ℕ) (at : IsSlotAt p.scene i x.slot) (le : p.locals ≤ i) (word : n < 2 ^ 32)
+module _ (chars : CharsAreNarrow) (shorts : ShortsAreNarrow) (means : TurnsMean) (laws : SlotLaws) (p : Activation) (frame : HasFrame p) (once : AreMarkedOnce p.scene.body) (f : Function) (x : Choice) (i n : ℕ) (at : IsSlotAt p.scene i x.slot) (le : p.locals ≤ i) (word : n < 2 ^ 32)
     (default : Label p.scene x.default) where
   abbrev Goes : Low → Low → Type 0
   Goes a b = ComesHolding p i n a b
 
   abbrev Searches : Search → Type 0
-  Searches s = SearchGoes p f x all i n s
+  Searches s = SearchGoes p f x i n s
 
   compared_back : (o : Comparison) (m label : ℕ) (a : Low) → IsFinal p (compared_with o x m label a) → IsFinal p a
   compared_back o m label a = branched_steps (back p.scene.body.pieces) (back_steps p.scene.body.pieces) (back_jumps p.scene.body.pieces) (compared o x.signed true label (slot_read I x.slot) (number x.signed m)) a
@@ -82,7 +82,7 @@ module _ (chars : CharsAreNarrow) (shorts : ShortsAreNarrow) (means : TurnsMean)
     b1 = on_low (λ a. with_way lower a) b
 
     less1 : i < length b1.low.slots
-    less1 = way_room p f x all i n lower b.low less
+    less1 = way_room p f x i n lower b.low less
 
     abbrev way_below : ℕ
     way_below = way lower x.default below
@@ -113,14 +113,14 @@ module _ (chars : CharsAreNarrow) (shorts : ShortsAreNarrow) (means : TurnsMean)
           by true below_it apart = sym (alone_leads x.signed x.default n lower greater is) ∙ leads_below x.signed x.default n m word t lower greater whole e below_it
           by false behind_it apart = leads_behind x.signed x.default n m word t lower greater whole e label one apart behind_it
 
-      pub number_goes : IsFront (side p f x all i n lower below b4).tables all → IsFinal p (side p f x all i n lower below b4).low → Goes b.low to
+      pub number_goes : HasTables p f (side p f x i n lower below b4) → IsFinal p (side p f x i n lower below b4).low → Goes b.low to
       number_goes tables final =
-          let final4 = side_back p f x all i n lower below b4 final in
-          let final3 = search_back p f x all i n greater b3 final4 in
+          let final4 = side_back p f x i n lower below b4 final in
+          let final3 = search_back p f x i n greater b3 final4 in
           let final2 = below_back alone t.low way_below b2.low final3 in
-          let tables4 = side_front p f x all i n lower below b4 tables in
-          let way_lower = side_goes p f x all i n once default lower goes_lower below b4 (search_room p f x all i n greater b3 less3) tables final in
-          moves_holding p i n b.low b1.low to (way_moves p f x all i n lower b.low)
+          let tables4 = side_has p f x i n lower below b4 tables in
+          let way_lower = side_goes p f x i n once default lower goes_lower below b4 (search_room p f x i n greater b3 less3) tables final in
+          moves_holding p i n b.low b1.low to (way_moves p f x i n lower b.low)
           (comparison_goes chars shorts means p frame once laws x i n at le comparison.Equal t.low label whole.low b1.low less1 there final2 to (n == t.low) refl
           (λ is. same_place p once i n label m (leads_here x.signed x.default n m word t lower greater whole e label one is) there l)
           (λ apart.
@@ -150,7 +150,7 @@ module _ (chars : CharsAreNarrow) (shorts : ShortsAreNarrow) (means : TurnsMean)
     c5 = through f x t c4
 
     abbrev c6 : Body
-    c6 = side p f x all i n greater above c5
+    c6 = side p f x i n greater above c5
 
     through_back : IsFinal p c5.low → IsFinal p c4.low
     through_back final =
@@ -158,7 +158,7 @@ module _ (chars : CharsAreNarrow) (shorts : ShortsAreNarrow) (means : TurnsMean)
         (back_steps p.scene.body.pieces).acts_one (head op.Jump V) place c4.low ((back_jumps p.scene.body.pieces).ends (acted_one (head op.Jump V) place c4.low) final)
 
     less_c2 : i < length c2.low.slots
-    less_c2 = way_room p f x all i n greater b1.low less1
+    less_c2 = way_room p f x i n greater b1.low less1
 
     less_c3 : i < length c3.low.slots
     less_c3 = compared_room comparison.Less t.low way_below c2.low less_c2
@@ -172,18 +172,18 @@ module _ (chars : CharsAreNarrow) (shorts : ShortsAreNarrow) (means : TurnsMean)
     last_small : last_in t < 2 ^ 32
     last_small = omega arith
 
-    pub table_goes : JumpLeads p f all x t → IsFront (side p f x all i n lower below c6).tables all → IsFinal p (side p f x all i n lower below c6).low → Goes b.low to
+    pub table_goes : JumpLeads p f x t → HasTables p f (side p f x i n lower below c6) → IsFinal p (side p f x i n lower below c6).low → Goes b.low to
     table_goes leads tables final =
-        let final6 = side_back p f x all i n lower below c6 final in
-        let final5 = side_back p f x all i n greater above c5 final6 in
+        let final6 = side_back p f x i n lower below c6 final in
+        let final5 = side_back p f x i n greater above c5 final6 in
         let final4 = through_back final5 in
         let final3 = compared_back comparison.Greater (last_in t) way_above c3.low final4 in
-        let tables6 = side_front p f x all i n lower below c6 tables in
-        let tables5 = side_front p f x all i n greater above c5 tables6 in
-        let way_lower = side_goes p f x all i n once default lower goes_lower below c6 (side_room p f x all i n greater above c5 less_c5) tables final in
-        let way_greater = side_goes p f x all i n once default greater goes_greater above c5 less_c5 tables6 final6 in
-        moves_holding p i n b.low b1.low to (way_moves p f x all i n lower b.low)
-        (moves_holding p i n b1.low c2.low to (way_moves p f x all i n greater b1.low)
+        let tables6 = side_has p f x i n lower below c6 tables in
+        let tables5 = side_has p f x i n greater above c5 tables6 in
+        let way_lower = side_goes p f x i n once default lower goes_lower below c6 (side_room p f x i n greater above c5 less_c5) tables final in
+        let way_greater = side_goes p f x i n once default greater goes_greater above c5 less_c5 tables6 final6 in
+        moves_holding p i n b.low b1.low to (way_moves p f x i n lower b.low)
+        (moves_holding p i n b1.low c2.low to (way_moves p f x i n greater b1.low)
         (comparison_goes chars shorts means p frame once laws x i n at le comparison.Less t.low way_below whole.low c2.low less_c2 way_lower.label final3 to (is_less x.signed n t.low) refl
         (λ is. way_lower.goes m (leads_below x.signed x.default n m word t lower greater whole e is) l)
         (λ isnt.
@@ -199,12 +199,12 @@ module _ (chars : CharsAreNarrow) (shorts : ShortsAreNarrow) (means : TurnsMean)
     none_there : t.labels ≡ [] → ⊥
     none_there is = let some = whole.some in let none = ap (λ (ls : List ℕ). length ls) is in let never : ⊥ = omega (arith, some, none) in never
 
-    pub labels_go : (labels : List ℕ) → t.labels ≡ labels → AllByRecursion (λ q. Label p.scene q) labels → IfJumps labels (JumpLeads p f all x t) → IsFront (AtTable labels).tables all → IsFinal p (AtTable labels).low → Goes b.low to
+    pub labels_go : (labels : List ℕ) → t.labels ≡ labels → AllByRecursion (λ q. Label p.scene q) labels → JumpLeads p f x t → HasTables p f (AtTable labels) → IsFinal p (AtTable labels).low → Goes b.low to
     labels_go [] is there leads tables final = absurd (none_there is)
     labels_go (label ∷ []) is there leads tables final = number_goes label is there.0 tables final
     labels_go (label ∷ other ∷ ls) is there leads tables final = table_goes leads tables final
 
-  pub search_goes : (s : Search) → EachTable (IsGood p f x all) s → Searches s
+  pub search_goes : (s : Search) → EachTable (IsGood p f x) s → Searches s
   search_goes Nowhere good b less tables final m e l = jump_goes chars shorts means p frame once i n x.default m e b.low (room_behind p.locals i (length b.low.slots) le less) final l
   search_goes (At t lower greater) good b less tables final m e l =
       labels_go t good.0.whole lower greater (search_goes lower good.1.0) (search_goes greater good.1.1) b less m e l t.labels refl good.0.labels good.0.leads tables final

@@ -1,5 +1,5 @@
 -- The value of a switch is stored in a slot, and its search leads to where C goes.
-use Rattle.std.specs.Prelude.{◌≤◌, ◌<◌, ℕ, suc, ◌^◌, ℤ, Bool, IfSome, Option, Some, None, List, length}
+use Rattle.std.specs.Prelude.{◌≡◌, ◌≤◌, ◌<◌, ℕ, suc, ◌^◌, ℤ, Bool, true, IfSome, Option, Some, None, List, length}
 use Rattle.std.specs.List.{AllByRecursion}
 use Rattle.std.proofs.Common.{sym, ap, subst, ◌∙◌, arith}
 use Rattle.std.proofs.lemmas.Simd.{map-map}
@@ -11,7 +11,7 @@ use Rattle.dag_seam.specs.SplitLaws.{TurnsMean}
 use Rattle.c_meaning.specs.declared.core_stmt.CoreCase.{CoreCase}
 use Rattle.c_meaning.specs.CoreTrees.{type_of}
 use Rattle.c_meaning.specs.Scalars.{is_signed}
-use Rattle.c_meaning.specs.Units.{are_apart}
+use Rattle.c_meaning.specs.Units.{are_apart, numbers}
 use Rattle.c_meaning.specs.Values.{CoreTree}
 use Rattle.c_runs.specs.Expressions.{eval}
 use Rattle.c_runs.specs.Outcomes.{Undefined, OutOfTurns, Exit, Result, Gives, GivesNone, Ends}
@@ -20,6 +20,7 @@ use Rattle.c_runs.specs.Soundness.{EvalStaysSound, IsSoundResult}
 use Rattle.c_runs.specs.Statements.{chosen}
 use Rattle.c_runs.specs.Worlds as c
 use Rattle.c_match.proofs.lemmas.Growing.{grown_refl}
+use Rattle.switch_tables.specs.Cases.{AreWords}
 use Rattle.switch_tables.specs.Laws.{IsTable}
 use Rattle.switch_tables.specs.Searches.{Search, search_over}
 use Rattle.switch_tables.specs.Tables.{tables_of}
@@ -27,10 +28,8 @@ use Rattle.switch_tables.proofs.lemmas.Searching.{each_is_searched}
 use Rattle.switch_tables.proofs.lemmas.TableParts.{are_tables}
 use Rattle.piece_runs.specs.Reaches.{keeps_at}
 use Rattle.lowered_forms.specs.Expressions.{low_e}
-use Rattle.lowered_forms.specs.Later.{IsFront}
 use Rattle.lowered_forms.specs.Lows.{Low, with_label, slot_offset, with_slot}
 use Rattle.lowered_forms.specs.Values.{Lowered, stored_in}
-use Rattle.lowered_forms.proofs.lemmas.Fronts.{front_itself}
 use Rattle.lowered_forms.proofs.lemmas.NodesOf.{values_have_nodes}
 use Rattle.lowered_forms.proofs.lemmas.Stepping.{stored_steps}
 use Rattle.lowered_forms.proofs.lemmas.WithinTemplates.{HasIn}
@@ -54,26 +53,27 @@ use Rattle.c_stmt_agreement.specs.Laws.{IsFinal, chosen_place, CameByValue, Came
 use Rattle.c_stmt_agreement.specs.LoweredStmt.{StandsAt}
 use Rattle.c_stmt_agreement.proofs.lemmas.Expressions.{sound_in, passed_came, given_came}
 use Rattle.c_stmt_agreement.proofs.lemmas.Rebasing.{onward, stands_onward, came_on}
-use Rattle.c_stmts_agree.specs.Parts.{SearchAgrees, search_row, search_end}
+use Rattle.c_stmts_agree.specs.Parts.{ValueAgrees, search_row, search_end}
+use Rattle.c_stmts_agree.specs.Tables.{HasTables}
 use Rattle.c_stmts_agree.specs.Ways.{IsBehind}
 use Rattle.c_stmts_agree.proofs.lemmas.Backing.{room_lowered}
 use Rattle.c_stmts_agree.proofs.lemmas.Places.{relabels}
-use Rattle.c_searches_agree.specs.Jumps.{ComesHolding, JumpLeads, JumpsLead}
-use Rattle.c_searches_agree.specs.Laws.{IsChecked, AreSparse}
+use Rattle.c_searches_agree.specs.Jumps.{ComesHolding}
 use Rattle.c_searches_agree.proofs.lemmas.Holding.{HeldAt, held_on, moves_holding}
-use Rattle.c_searches_agree.proofs.lemmas.Labels.{tables_have, placed_have, each_follows, chosen_is_own, are_good, no_jumps}
+use Rattle.c_searches_agree.proofs.lemmas.Jumping.{jumps_lead}
+use Rattle.c_searches_agree.proofs.lemmas.Labels.{tables_have, placed_have, each_follows, chosen_is_own, are_good}
 use Rattle.c_searches_agree.proofs.lemmas.Searching.{IsGood, search_goes}
 use Rattle.c_searches_agree.proofs.lemmas.Ways.{search_back}
 
--- the tables of a checked switch
-tables_are_whole : (p : Activation) (f : Function) (x : CoreTree) (cases : List CoreCase) (default : Option ℕ) → IsChecked p f x cases default → (signed : Bool) (number : ℕ) → AllByRecursion (IsTable signed) (tables_of signed number (placed_cases f cases))
-tables_are_whole p f x cases default h signed number =
-    are_tables signed (placed_cases f cases) number (placed_have f (λ c. c.number < 2 ^ 32) cases h.words) (ap are_apart (map-map (λ c. c.number) (placed_case f) cases) ∙ h.apart)
+-- the tables of a switch whose cases' numbers are words, and apart
+tables_are_whole : (f : Function) (cases : List CoreCase) → AreWords cases → are_apart (numbers cases) ≡ true → (signed : Bool) (number : ℕ) → AllByRecursion (IsTable signed) (tables_of signed number (placed_cases f cases))
+tables_are_whole f cases words apart signed number =
+    are_tables signed (placed_cases f cases) number (placed_have f (λ c. c.number < 2 ^ 32) cases words) (ap are_apart (map-map (λ c. c.number) (placed_case f) cases) ∙ apart)
 
 module _ (chars : CharsAreNarrow) (shorts : ShortsAreNarrow) (means : TurnsMean) (evals : EvalStaysSound) (laws : SlotLaws) (p : Activation) (frame : HasFrame p) (once : AreMarkedOnce p.scene.body) (f : Function) (x : CoreTree) (cases : List CoreCase) (default : Option ℕ)
-    (checked : IsChecked p f x cases default) where
-  module _ (all : List (List ℕ)) (leads : JumpsLead p f all (is_signed (type_of x)) cases) (y : Ways) (labelled : (n : ℕ) → IsOwn f n → IsBehind p.scene (label_at f n) (y.labels n)) (b : Body) (le : p.locals ≤ length b.low.slots)
-      (tables : IsFront (search_row f x cases default b).tables all) (final : IsFinal p (search_row f x cases default b).low) (t : Label p.scene (search_end f x b)) where
+    (value : ValueAgrees p f x) (words : AreWords cases) (apart : are_apart (numbers cases) ≡ true) where
+  module _ (own : AllByRecursion (λ c. IsOwn f c.label) cases) (own_default : IfSome default (IsOwn f)) (y : Ways) (labelled : (n : ℕ) → IsOwn f n → IsBehind p.scene (label_at f n) (y.labels n)) (b : Body) (le : p.locals ≤ length b.low.slots)
+      (tables : HasTables p f (search_row f x cases default b)) (final : IsFinal p (search_row f x cases default b).low) (t : Label p.scene (search_end f x b)) where
     abbrev r : Lowered
     r = low_e f.context x b.low
 
@@ -105,7 +105,7 @@ module _ (chars : CharsAreNarrow) (shorts : ShortsAreNarrow) (means : TurnsMean)
     less = let e = one_slot r.low in omega (arith, e)
 
     final_stored : IsFinal p stored
-    final_stored = (back_jumps p.scene.body.pieces).label stored (search_back p f choice all i 0 tree b1 final)
+    final_stored = (back_jumps p.scene.body.pieces).label stored (search_back p f choice i 0 tree b1 final)
 
     final_slot : IsFinal p (with_slot r.low)
     final_slot = stored_steps (back p.scene.body.pieces) (back_steps p.scene.body.pieces) z r.value (with_slot r.low) final_stored
@@ -119,27 +119,26 @@ module _ (chars : CharsAreNarrow) (shorts : ShortsAreNarrow) (means : TurnsMean)
     -- ---- the search
 
     label_for : (d : Option ℕ) → IfSome d (IsOwn f) → Label p.scene (label_or f r.low.labels d)
-    label_for None own = t
-    label_for (Some q) own = (labelled q own).0
+    label_for None mine = t
+    label_for (Some q) mine = (labelled q mine).0
 
-    good : AllByRecursion (IsGood p f choice all) (tables_of choice.signed choice.default (placed_cases f cases))
+    good : AllByRecursion (IsGood p f choice) (tables_of choice.signed choice.default (placed_cases f cases))
     good =
-        are_good p f choice all (tables_of choice.signed choice.default (placed_cases f cases)) (tables_are_whole p f x cases default checked choice.signed choice.default)
+        are_good p f choice (λ table whole. jumps_lead chars shorts means laws.reads p frame once f choice table whole) (tables_of choice.signed choice.default (placed_cases f cases)) (tables_are_whole f cases words apart choice.signed choice.default)
         (tables_have (λ l. Label p.scene l) choice.signed (placed_cases f cases) choice.default
-        (placed_have f (λ d. Label p.scene d.label) cases (each_follows (λ d. IsOwn f d.label) (λ d. Label p.scene (label_at f d.label)) (λ d own. (labelled d.label own).0) cases checked.own))
-        (label_for default checked.own_default))
-        (leads z choice.default)
+        (placed_have f (λ d. Label p.scene d.label) cases (each_follows (λ d. IsOwn f d.label) (λ d. Label p.scene (label_at f d.label)) (λ d mine. (labelled d.label mine).0) cases own))
+        (label_for default own_default))
 
     choice_goes : (n : ℕ) (d : Option ℕ) → IfSome d (IsOwn f) → ((l : Label p.scene (label_or f r.low.labels d)) → ComesHolding p i n b1.low (low_at p.scene (label_or f r.low.labels d) l)) → ComesHolding p i n b1.low (chosen_place y end d)
-    choice_goes n None own h = h t
-    choice_goes n (Some q) own h = subst (ComesHolding p i n b1.low) (sym (labelled q own).1) (h (labelled q own).0)
+    choice_goes n None mine h = h t
+    choice_goes n (Some q) mine h = subst (ComesHolding p i n b1.low) (sym (labelled q mine).1) (h (labelled q mine).0)
 
     number_goes : (n : ℕ) → n < 2 ^ 32 → ComesHolding p i n b1.low (chosen_place y end (chosen cases default n))
     number_goes n word =
-        choice_goes n (chosen cases default n) (chosen_is_own f cases default n checked.own checked.own_default)
+        choice_goes n (chosen cases default n) (chosen_is_own f cases default n own own_default)
         (λ l.
-        search_goes chars shorts means laws p frame once f choice all i n at le_slots word (label_for default checked.own_default) tree (each_is_searched (IsGood p f choice all) (tables_of choice.signed choice.default (placed_cases f cases)) good) b1 less tables final
-        (label_or f r.low.labels (chosen cases default n)) (chosen_is_found f choice.signed cases default r.low.labels n checked.words checked.apart word) l)
+        search_goes chars shorts means laws p frame once f choice i n at le_slots word (label_for default own_default) tree (each_is_searched (IsGood p f choice) (tables_of choice.signed choice.default (placed_cases f cases)) good) b1 less tables final
+        (label_or f r.low.labels (chosen cases default n)) (chosen_is_found f choice.signed cases default r.low.labels n words apart word) l)
 
     -- ---- the value
 
@@ -179,16 +178,5 @@ module _ (chars : CharsAreNarrow) (shorts : ShortsAreNarrow) (means : TurnsMean)
 
     pub searches_agree : LoweredSearch p y x cases default b.low end
     searches_agree o k here =
-        result_chosen o k here (eval (context p.scene.unit p.scene.lowered.order) x k o.old) (sound_result p.scene p.locals frame.body evals x checked.value.tame k o.old here.sound)
-        (checked.value.lowered b.low le o.start o.turns here.front final_value.front o.map o.old here.values o.world k final_value.slots here.stands here.sound here.wholes)
-
-  -- ---- without jumps through tables
-
-  pub sparse_searches_agree : AreSparse f (is_signed (type_of x)) cases → SearchAgrees p f x cases default
-  sparse_searches_agree sparse own_cases own_default y labelled b le final t =
-      let all = (search_row f x cases default b).tables in
-      searches_agree all
-      (λ z number.
-      no_jumps (is_signed (type_of x)) (λ t1. JumpLeads p f all (record { slot = z; signed = is_signed (type_of x); default = number }) t1) (tables_of (is_signed (type_of x)) number (placed_cases f cases)) (tables_are_whole p f x cases default checked (is_signed (type_of x)) number)
-      (sparse number))
-      y labelled b le (front_itself all) final t
+        result_chosen o k here (eval (context p.scene.unit p.scene.lowered.order) x k o.old) (sound_result p.scene p.locals frame.body evals x value.tame k o.old here.sound)
+        (value.lowered b.low le o.start o.turns here.front final_value.front o.map o.old here.values o.world k final_value.slots here.stands here.sound here.wholes)

@@ -65,7 +65,7 @@ abbrev target : LoweredUnit
 target = record { functions = []; objects = []; names = []; order = Big }
 
 abbrev scene : Scene
-scene = record { unit = source; own = 0; lowered = target; body = body; frame = record { addresses = []; others = [] } }
+scene = record { unit = source; own = 0; lowered = target; body = body; frame = record { types = []; addresses = []; others = [] } }
 
 -- no locals
 abbrev activation : Activation
@@ -90,6 +90,7 @@ has_frame split = record {
       ends = λ i s e. absurd (let never : ⊥ = cc in never);
       apart = λ i j s t e f. absurd (let never : ⊥ = cc in never);
     };
+    types = refl;
     places = λ n of e. absurd (let never : ⊥ = cc in never);
     addresses = λ n of z w e p q r. absurd (let never : ⊥ = cc in never);
     wholes = λ n of z e p q. absurd (let never : ⊥ = cc in never);

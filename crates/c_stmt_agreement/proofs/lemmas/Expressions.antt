@@ -15,15 +15,14 @@ use Rattle.c_runs.specs.Soundness.{IsSound, Keeps, IsTame, IsSoundResult, EvalSt
 use Rattle.c_runs.specs.Statements.{Start, At}
 use Rattle.c_runs.specs.Worlds as c
 use Rattle.c_rows_agree.specs.Typed.{Typed}
-use Rattle.c_pointers_agree.proofs.lemmas.Short.{short_kept}
 use Rattle.piece_runs.specs.Pieces.{Front}
 use Rattle.lowered_forms.specs.Lows.{Low}
 use Rattle.lowered_forms.specs.Values.{Lowered}
-use Rattle.c_straight_agree.specs.Agreement.{IsLowered, CameTo}
+use Rattle.c_straight_agree.specs.Agreement.{CameTo, without_value, IsPerformed}
 use Rattle.c_straight_agree.specs.Agreement as expression
 use Rattle.c_straight_agree.specs.Standing.{IsSoundIn}
 use Rattle.c_straight_agree.proofs.lemmas.Coming.{fewer_taken}
-use Rattle.c_straight_agree.proofs.lemmas.Parts.{sound_result}
+use Rattle.c_straight_agree.proofs.lemmas.Parts.{sound_on, sound_result}
 use Rattle.c_straight_agree.proofs.lemmas.Wholes.{wholes_left}
 use Rattle.c_tests_agree.specs.Tested.{Label, low_at, Passed, PassedBy, jumps, WentTo, IsTested}
 use Rattle.c_stmt_agreement.specs.Comings.{Activation, HasFrame, Origin, Ways, Ending, Came, CameFrom}
@@ -35,7 +34,7 @@ use Rattle.c_stmt_agreement.proofs.lemmas.Results.{result_left, opens_left}
 -- ---- soundness
 
 pub sound_in : (p : Activation) (before old : c.World) → IsSoundIn p.scene before → IsSound p.scene.unit old → Keeps before old → IsSoundIn p.scene old
-sound_in p before old h sound keeps = record { sound = sound; short = short_kept (c.objects before) (c.objects old) keeps.lives h.short }
+sound_in p before old h sound keeps = sound_on p.scene before old h sound keeps
 
 truth_sound : (u : UnitTree) (before : c.World) (b : Bool) (k : ℕ) (w : c.World) → IsSound u w → Keeps before w → IsSoundResult u before (Gives (truth b) k w)
 truth_sound u before true k w sound keeps = (omega arith, (sound, keeps))
@@ -83,8 +82,8 @@ module _ (p : Activation) (frame : HasFrame p) (o : Origin) (a : Low) (k : ℕ) 
     abbrev pub given_came : (v : Option Value) (old : c.World) (j : ℕ) → IsSoundIn p.scene old → expression.Came p.scene o.start o.turns a b h w o.map o.old at.values o.world v old j → Came p o b old j
     given_came v old j sound x = passed_came b h old j sound (record { later = x.later; grown = x.grown; others = x.others; world = x.world; stands = x.stands; alike = x.alike; left = x.left; private = x.private })
 
-    pub dropped_came : (y : Ways) (e : Ending) (r : Result) → IsSoundResult p.scene.unit o.old r → CameTo p.scene o.start o.turns a b h w o.map o.old at.values o.world r → CameFrom p y e o b (then_go r (λ j old. Next j old))
-    dropped_came y e (Gives v j old) s x = given_came (Some v) old j (sound_in p o.old old at.sound s.1.0 s.1.1) x
+    pub dropped_came : (y : Ways) (e : Ending) (r : Result) → IsSoundResult p.scene.unit o.old r → CameTo p.scene o.start o.turns a b h w o.map o.old at.values o.world (without_value r) → CameFrom p y e o b (then_go r (λ j old. Next j old))
+    dropped_came y e (Gives v j old) s x = given_came None old j (sound_in p o.old old at.sound s.1.0 s.1.1) x
     dropped_came y e (GivesNone line j old) s x = given_came None old j (sound_in p o.old old at.sound s.0 s.1) x
     dropped_came y e (Ends (Undefined cause line) old) s x = tt
     dropped_came y e (Ends OutOfTurns old) s x = x
@@ -107,12 +106,12 @@ module _ (p : Activation) (frame : HasFrame p) (o : Origin) (a : Low) (k : ℕ) 
     went_tested when (Ends (Exit status) old) s x = x
 
 module _ (evals : EvalStaysSound) (p : Activation) (frame : HasFrame p) (x : CoreTree) (tame : IsTame x) where
-  pub expression_is_lowered : (y : Ways) (e : Ending) (a : Low) → p.locals ≤ length a.slots → (r : Lowered) → IsLowered p.scene p.layout x a r → IsFinal p r.low → LoweredStmt p y e (stmt.Expression x) a r.low
-  expression_is_lowered y e a le r lowered final Start i o k at =
+  pub expression_is_lowered : (y : Ways) (e : Ending) (a : Low) → p.locals ≤ length a.slots → (r : Lowered) → IsPerformed p.scene p.layout x a r → IsFinal p r.low → LoweredStmt p y e (stmt.Expression x) a r.low
+  expression_is_lowered y e a le r performed final Start i o k at =
       dropped_came p frame o a k at le r.low final.front r.value y e (eval (context p.scene.unit p.scene.lowered.order) x k o.old)
       (sound_result p.scene p.locals frame.body evals x tame k o.old at.sound)
-      (lowered o.start o.turns at.front final.front o.map o.old at.values o.world k final.slots at.stands at.sound at.wholes)
-  expression_is_lowered y e a le r lowered final (At l) i o k at = no_label i
+      (performed o.start o.turns at.front final.front o.map o.old at.values o.world k final.slots at.stands at.sound at.wholes)
+  expression_is_lowered y e a le r performed final (At l) i o k at = no_label i
 
   pub tests_are_tests : (n : ℕ) (when : Bool) (a b : Low) → p.locals ≤ length a.slots → IsTested p.scene p.layout x n when a b → IsFinal p b → (t : Label p.scene n) → TestIsLowered p (jumps when) x (low_at p.scene n t) a b
   tests_are_tests n when a b le tested final t o k at =

@@ -38,6 +38,7 @@ use Rattle.c_stmt_agreement.specs.Comings.{Activation, HasFrame, Origin, Ending}
 use Rattle.c_stmt_agreement.specs.LoweredStmt.{StandsAt}
 use Rattle.c_stmts_agree.specs.FunctionBodies.{CameBack}
 use Rattle.c_stmts_agree.specs.Parts.{PartsAgree}
+use Rattle.c_stmts_agree.specs.Tables.{HasTables}
 use Rattle.c_stmts_agree.specs.Ways.{IsEnding}
 use Rattle.c_stmts_agree.proofs.lemmas.Ends.{body_agrees}
 
@@ -71,7 +72,7 @@ abbrev target : LoweredUnit
 target = record { functions = []; objects = []; names = []; order = Big }
 
 abbrev activation : Activation
-activation = record { scene = record { unit = source; own = 0; lowered = target; body = body; frame = record { addresses = []; others = [] } }; layout = record { types = []; parameters = 0; places = [] }; locals = 0; result = None }
+activation = record { scene = record { unit = source; own = 0; lowered = target; body = body; frame = record { types = []; addresses = []; others = [] } }; layout = record { types = []; parameters = 0; places = [] }; locals = 0; result = None }
 
 body_is : AreSplit body → IsBody activation.scene 0
 body_is split = record {
@@ -92,6 +93,7 @@ has_frame split = record {
       ends = λ i s e. absurd (let never : ⊥ = cc in never);
       apart = λ i j s t e f. absurd (let never : ⊥ = cc in never);
     };
+    types = refl;
     places = λ n of e. absurd (let never : ⊥ = cc in never);
     addresses = λ n of z w e p q r. absurd (let never : ⊥ = cc in never);
     wholes = λ n of z e p q. absurd (let never : ⊥ = cc in never);
@@ -115,6 +117,9 @@ pieces_are = refl
 
 parts : (e : Ending) → PartsAgree activation function e loop
 parts e = (tt, (tt, (tt, tt)))
+
+no_tables : HasTables activation function (low_s function no_exits loop begin)
+no_tables n labels none = absurd (let never : ⊥ = cc in never)
 
 within : GoesWithin function false false loop
 within = (omega arith, tt)
@@ -143,7 +148,7 @@ ending = record { of = sample.int; copy = None; gives_zero = false }
 agrees : CharsAreNarrow → ShortsAreNarrow → TurnsMean → EvalStaysSound → AreSplit body → AreMarkedOnce body → (o : Origin) (k : ℕ) → StandsAt activation o begin.low k
     → CameBack activation ending o (exec (context activation.scene.unit activation.scene.lowered.order) loop Start k o.old)
 agrees chars shorts means evals split once o k at =
-    body_agrees activation function there chars shorts means evals (has_frame split) once ending (record { zero = refl; copy = λ e. refl }) loop (parts ending) within begin (omega arith) refl o k at
+    body_agrees activation function there chars shorts means evals (has_frame split) once ending (record { zero = refl; copy = λ e. refl }) loop (parts ending) within begin (omega arith) no_tables refl o k at
 
 -- ---- what is refused
 

@@ -1,6 +1,6 @@
--- What open blocks come to be, before statements, and that the locals have slots behind them.
-use Rattle.std.specs.Prelude.{◌≤◌, ℕ, Bool, Option, None, List, length}
-use Rattle.std.proofs.Common.{arith}
+-- What open blocks come to be, and which tables are the unit's, before statements; and that the locals have slots behind them.
+use Rattle.std.specs.Prelude.{◌≤◌, ℕ, Bool, Option, None, List, length, slice_get}
+use Rattle.std.proofs.Common.{ap, ◌∙◌, arith}
 use Rattle.op_forest.specs.declared.op.Op.TheVariants as op
 use Rattle.op_forest.specs.declared.suffix.Suffix.TheVariants.{P, V}
 use Rattle.op_forest.specs.declared.sym.Sym.TheVariants as sym
@@ -13,6 +13,7 @@ use Rattle.switch_tables.specs.Tables.{tables_of}
 use Rattle.c_rows_agree.specs.Templates.{Leaf}
 use Rattle.c_rows_agree.specs.Typed.{head, head_with}
 use Rattle.piece_runs.specs.Pieces.{Piece}
+use Rattle.dag_seam.proofs.lemmas.Acts.{get_left}
 use Rattle.lowered_forms.specs.Contexts.{Context}
 use Rattle.lowered_forms.specs.Expressions.{low_e, low_test}
 use Rattle.lowered_forms.specs.Later.{IsFront}
@@ -31,7 +32,9 @@ use Rattle.lowered_statements.proofs.lemmas.SearchSteps.{searched_step}
 use Rattle.c_straight_agree.specs.Finals.{Final}
 use Rattle.c_straight_agree.proofs.lemmas.Finals.{fewer_entries, back_steps, back_jumps}
 use Rattle.c_tests_agree.proofs.lemmas.Valuing.{slots_more}
+use Rattle.c_stmt_agreement.specs.Comings.{Activation}
 use Rattle.c_stmts_agree.specs.Parts.{search_row}
+use Rattle.c_stmts_agree.specs.Tables.{HasTables}
 
 -- ---- final blocks
 
@@ -71,6 +74,19 @@ module _ (all : List Piece) where
   -- labels are nothing to it
   pub label_back : (l : Low) (labels : ℕ) → Final all (record { pieces = l.pieces; entries = l.entries; slots = l.slots; labels = labels }) → Final all l
   label_back l labels final = record { front = final.front; slots = final.slots }
+
+-- ---- tables
+
+module _ (p : Activation) (f : Function) where
+  -- those made before are among those made behind it
+  pub has_before : (b d : Body) → IsFront b.tables d.tables → HasTables p f d → HasTables p f b
+  has_before b d front has n labels e = has n labels (ap (λ (ts : List (List ℕ)). slice_get ts n) front.is ∙ get_left b.tables front.more n labels e)
+
+  pub statement_has : (y : Exits) (t : StmtTree) (b : Body) → HasTables p f (low_s f y t b) → HasTables p f b
+  statement_has y t b = has_before b (low_s f y t b) (statements_add f y t b).tables
+
+  pub sequence_has : (y : Exits) (ts : StmtTrees) (b : Body) → HasTables p f (low_all f y ts b) → HasTables p f b
+  sequence_has y ts b = has_before b (low_all f y ts b) (statements_steps goes_on adding_steps f y ts b).tables
 
 -- ---- slots
 

@@ -36,6 +36,7 @@ use Rattle.c_stmt_agreement.specs.LoweredStmt.{StandsAt}
 use Rattle.c_stmt_agreement.proofs.lemmas.Rebasing.{onward, stands_onward, returned_on}
 use Rattle.c_stmts_agree.specs.FunctionBodies.{CameBack}
 use Rattle.c_stmts_agree.specs.Parts.{PartsAgree}
+use Rattle.c_stmts_agree.specs.Tables.{HasTables}
 use Rattle.c_stmts_agree.specs.Ways.{IsBehind, AreWays, IsEnding}
 use Rattle.c_stmts_agree.proofs.lemmas.Backing.{room_stated}
 use Rattle.c_stmts_agree.proofs.lemmas.Induction.{statement_agrees}
@@ -132,9 +133,9 @@ module _ (p : Activation) (f : Function) (there : (n : ℕ) → IsOwn f n → La
     begins = λ n. begins_by n (nat_lt (label_at f n) (length f.labels)) refl;
   }
 
-  pub body_agrees : CharsAreNarrow → ShortsAreNarrow → TurnsMean → EvalStaysSound → HasFrame p → AreMarkedOnce p.scene.body → (e : Ending) → IsEnding f e → (t : StmtTree) → PartsAgree p f e t → GoesWithin f false false t → (b : Body) → p.locals ≤ length b.low.slots
+  pub body_agrees : CharsAreNarrow → ShortsAreNarrow → TurnsMean → EvalStaysSound → HasFrame p → AreMarkedOnce p.scene.body → (e : Ending) → IsEnding f e → (t : StmtTree) → PartsAgree p f e t → GoesWithin f false false t → (b : Body) → p.locals ≤ length b.low.slots → HasTables p f (low_s f no_exits t b)
       → p.scene.body.pieces ≡ (ended (end_by f.gives_zero (low_s f no_exits t b).low)).pieces → (o : Origin) (k : ℕ) → StandsAt p o b.low k → CameBack p e o (exec (context p.scene.unit p.scene.lowered.order) t Start k o.old)
-  body_agrees chars shorts means evals frame once e ending t h within b le is o k at =
+  body_agrees chars shorts means evals frame once e ending t h within b le tables is o k at =
       let l = (low_s f no_exits t b).low in
       came_back chars shorts means p frame l (room_stated p.locals f no_exits t b le) ways e o f.gives_zero is ending.zero (exec (context p.scene.unit p.scene.lowered.order) t Start k o.old)
-      (statement_agrees chars shorts means evals p frame once f e ending t h no_exits ways false false are_ways within b le (last_final chars shorts means p frame l (room_stated p.locals f no_exits t b le) f.gives_zero is) Start tt o k at)
+      (statement_agrees chars shorts means evals p frame once f e ending t h no_exits ways false false are_ways within b le tables (last_final chars shorts means p frame l (room_stated p.locals f no_exits t b le) f.gives_zero is) Start tt o k at)

@@ -26,8 +26,9 @@ use Rattle.c_stmt_agreement.proofs.lemmas.Leading.{marks_lead}
 use Rattle.c_stmt_agreement.proofs.lemmas.Sequences.{nothing_is_lowered, no_statement_is_lowered, break_is_lowered, continue_is_lowered, goto_is_lowered, label_is_lowered, sequence_is_lowered}
 use Rattle.c_stmt_agreement.proofs.lemmas.Switches.{switch_is_lowered}
 use Rattle.c_stmts_agree.specs.Parts.{ReturnAgreesBy, SearchAgrees, PartsAgree, AllPartsAgree, search_row, search_end}
+use Rattle.c_stmts_agree.specs.Tables.{HasTables}
 use Rattle.c_stmts_agree.specs.Ways.{IsBehind, AreWays, IsEnding}
-use Rattle.c_stmts_agree.proofs.lemmas.Backing.{statement_back, sequence_back, mark_back, room_marked, room_stated, room_searched}
+use Rattle.c_stmts_agree.proofs.lemmas.Backing.{statement_back, sequence_back, statement_has, sequence_has, mark_back, room_marked, room_stated, room_searched}
 use Rattle.c_stmts_agree.proofs.lemmas.Places.{label_here, behind_mark, moves_behind, moves_come}
 use Rattle.c_stmts_agree.proofs.lemmas.Returning.{empty_return_agrees, scalar_return_agrees}
 use Rattle.c_stmts_agree.proofs.lemmas.Rows.{enters, unpaid, StatementAgrees, jump_leads, value_is_dropped, choice_agrees, while_agrees, do_agrees, for_agrees}
@@ -61,8 +62,8 @@ module _ (chars : CharsAreNarrow) (shorts : ShortsAreNarrow) (means : TurnsMean)
 
   switch_agrees : (v : CoreTree) (cases : List CoreCase) (default : Option ℕ) (t : StmtTree) → SearchAgrees p f v cases default → are_among cases (labels t) ≡ true → IfSome default (λ n. is_among n (labels t) ≡ true)
       → StatementAgrees p f e t → (x : Exits) (y : Ways) (breaks continues : Bool) → AreWays p f x y breaks continues
-      → AllByRecursion (λ c. IsOwn f c.label) cases → IfSome default (IsOwn f) → GoesWithin f true continues t → (b : Body) → p.locals ≤ length b.low.slots → IsFinal p (low_s f x (stmt.Switch v cases default t) b).low → LoweredStmt p y e (stmt.Switch v cases default t) b.low (low_s f x (stmt.Switch v cases default t) b).low
-  switch_agrees v cases default t search among with_default h x y breaks continues ways own own_default within b le final =
+      → AllByRecursion (λ c. IsOwn f c.label) cases → IfSome default (IsOwn f) → GoesWithin f true continues t → (b : Body) → p.locals ≤ length b.low.slots → HasTables p f (low_s f x (stmt.Switch v cases default t) b) → IsFinal p (low_s f x (stmt.Switch v cases default t) b).low → LoweredStmt p y e (stmt.Switch v cases default t) b.low (low_s f x (stmt.Switch v cases default t) b).low
+  switch_agrees v cases default t search among with_default h x y breaks continues ways own own_default within b le tables final =
       let n = search_end f v b in
       let b1 = search_row f v cases default b in
       let exits : Exits = record { breaks = n; continues = x.continues } in
@@ -73,48 +74,48 @@ module _ (chars : CharsAreNarrow) (shorts : ShortsAreNarrow) (means : TurnsMean)
       let inside : Ways = record { breaks = end; continues = y.continues; labels = y.labels } in
       let inner : AreWays p f exits inside true continues = record { breaking = λ is. behind_mark p.scene n b2.low final; continuing = ways.continuing; labelled = ways.labelled; begins = ways.begins } in
       switch_is_lowered p y e end t b1.low b2.low
-      (h exits inside true continues inner within b1 (room_searched p.locals f v cases default b le) final2)
+      (h exits inside true continues inner within b1 (room_searched p.locals f v cases default b le) tables final2)
       (unpaid p b2.low end (marks_lead means p frame n b2.low final))
       cases default among with_default v b.low
-      (search own own_default y ways.labelled b le final1 (label_here p.scene n b2.low final))
+      (search own own_default y ways.labelled b le (statement_has p f exits t b1 tables) final1 (label_here p.scene n b2.low final))
 
   -- ---- the induction
 
   mutual
-    pub statement_agrees : (t : StmtTree) → PartsAgree p f e t → (x : Exits) (y : Ways) (breaks continues : Bool) → AreWays p f x y breaks continues → GoesWithin f breaks continues t → (b : Body) → p.locals ≤ length b.low.slots → IsFinal p (low_s f x t b).low
+    pub statement_agrees : (t : StmtTree) → PartsAgree p f e t → (x : Exits) (y : Ways) (breaks continues : Bool) → AreWays p f x y breaks continues → GoesWithin f breaks continues t → (b : Body) → p.locals ≤ length b.low.slots → HasTables p f (low_s f x t b) → IsFinal p (low_s f x t b).low
         → LoweredStmt p y e t b.low (low_s f x t b).low
-    statement_agrees stmt.Nothing h x y breaks continues ways within b le final = nothing_is_lowered p y e b.low
-    statement_agrees (stmt.Expression v) h x y breaks continues ways within b le final = value_is_dropped chars shorts means evals p frame once f e v h y b.low le final
-    statement_agrees (stmt.Initialise local clears places) h x y breaks continues ways within b le final = h y b.low le final
-    statement_agrees (stmt.Block first locals ts) h x y breaks continues ways within b le final =
-        block_is_lowered p y e ts b.low (low_all f x ts b).low ways.begins (sequence_agrees ts h x y breaks continues ways within b le final) first locals
-    statement_agrees (stmt.If v t u) h x y breaks continues ways within b le final =
-        choice_agrees chars shorts means evals p frame once f e v h.0 t u (statement_agrees t h.1.0) (statement_agrees u h.1.1) x y breaks continues ways within.0 within.1 b le final
-    statement_agrees (stmt.While v t) h x y breaks continues ways within b le final =
-        while_agrees chars shorts means evals p frame once f e v h.0 t (statement_agrees t h.1) x y breaks continues ways within b le final
-    statement_agrees (stmt.Do t v) h x y breaks continues ways within b le final =
-        do_agrees chars shorts means evals p frame once f e v h.1 t (statement_agrees t h.0) x y breaks continues ways within b le final
-    statement_agrees (stmt.For first test last t) h x y breaks continues ways within b le final =
-        for_agrees chars shorts means evals p frame once f e first test last h.0 h.1.0 h.1.1.0 t (statement_agrees t h.1.1.1) x y breaks continues ways within b le final
-    statement_agrees (stmt.Switch v cases default t) h x y breaks continues ways within b le final =
-        switch_agrees v cases default t h.0 h.1.0 h.1.1.0 (statement_agrees t h.1.1.1) x y breaks continues ways within.0.0 within.0.1 within.1 b le final
-    statement_agrees (stmt.Label n t) h x y breaks continues ways within b le final =
+    statement_agrees stmt.Nothing h x y breaks continues ways within b le tables final = nothing_is_lowered p y e b.low
+    statement_agrees (stmt.Expression v) h x y breaks continues ways within b le tables final = value_is_dropped chars shorts means evals p frame once f e v h y b.low le final
+    statement_agrees (stmt.Initialise local clears places) h x y breaks continues ways within b le tables final = h y b.low le final
+    statement_agrees (stmt.Block first locals ts) h x y breaks continues ways within b le tables final =
+        block_is_lowered p y e ts b.low (low_all f x ts b).low ways.begins (sequence_agrees ts h x y breaks continues ways within b le tables final) first locals
+    statement_agrees (stmt.If v t u) h x y breaks continues ways within b le tables final =
+        choice_agrees chars shorts means evals p frame once f e v h.0 t u (statement_agrees t h.1.0) (statement_agrees u h.1.1) x y breaks continues ways within.0 within.1 b le tables final
+    statement_agrees (stmt.While v t) h x y breaks continues ways within b le tables final =
+        while_agrees chars shorts means evals p frame once f e v h.0 t (statement_agrees t h.1) x y breaks continues ways within b le tables final
+    statement_agrees (stmt.Do t v) h x y breaks continues ways within b le tables final =
+        do_agrees chars shorts means evals p frame once f e v h.1 t (statement_agrees t h.0) x y breaks continues ways within b le tables final
+    statement_agrees (stmt.For first test last t) h x y breaks continues ways within b le tables final =
+        for_agrees chars shorts means evals p frame once f e first test last h.0 h.1.0 h.1.1.0 t (statement_agrees t h.1.1.1) x y breaks continues ways within b le tables final
+    statement_agrees (stmt.Switch v cases default t) h x y breaks continues ways within b le tables final =
+        switch_agrees v cases default t h.0 h.1.0 h.1.1.0 (statement_agrees t h.1.1.1) x y breaks continues ways within.0.0 within.0.1 within.1 b le tables final
+    statement_agrees (stmt.Label n t) h x y breaks continues ways within b le tables final =
         label_agrees n t x y b (ways.labelled n within.0) final
-        (statement_agrees t h x y breaks continues ways within.1 (with_low (marked (label_at f n) b.low) b) (room_marked p.locals (label_at f n) b.low le) final)
-    statement_agrees (stmt.Goto n) h x y breaks continues ways within b le final =
+        (statement_agrees t h x y breaks continues ways within.1 (with_low (marked (label_at f n) b.low) b) (room_marked p.locals (label_at f n) b.low le) tables final)
+    statement_agrees (stmt.Goto n) h x y breaks continues ways within b le tables final =
         goto_is_lowered p y e n b.low (jumped (label_at f n) b.low) (jump_leads chars shorts means evals p frame once f e (label_at f n) b.low (y.labels n) le final (ways.labelled n within))
-    statement_agrees stmt.Break h x y breaks continues ways within b le final =
+    statement_agrees stmt.Break h x y breaks continues ways within b le tables final =
         break_is_lowered p y e b.low (jumped x.breaks b.low) (unpaid p b.low y.breaks (jump_leads chars shorts means evals p frame once f e x.breaks b.low y.breaks le final (ways.breaking within)))
-    statement_agrees stmt.Continue h x y breaks continues ways within b le final =
+    statement_agrees stmt.Continue h x y breaks continues ways within b le tables final =
         continue_is_lowered p y e b.low (jumped x.continues b.low) (jump_leads chars shorts means evals p frame once f e x.continues b.low y.continues le final (ways.continuing within))
-    statement_agrees (stmt.Return None) h x y breaks continues ways within b le final = empty_return_agrees chars shorts means p frame f e ending.zero y b.low le final
-    statement_agrees (stmt.Return (Some v)) h x y breaks continues ways within b le final = return_by v (is_record f.result) refl h y b.low le final
+    statement_agrees (stmt.Return None) h x y breaks continues ways within b le tables final = empty_return_agrees chars shorts means p frame f e ending.zero y b.low le final
+    statement_agrees (stmt.Return (Some v)) h x y breaks continues ways within b le tables final = return_by v (is_record f.result) refl h y b.low le final
 
-    pub sequence_agrees : (ts : StmtTrees) → AllPartsAgree p f e ts → (x : Exits) (y : Ways) (breaks continues : Bool) → AreWays p f x y breaks continues → AllGoWithin f breaks continues ts → (b : Body) → p.locals ≤ length b.low.slots → IsFinal p (low_all f x ts b).low
+    pub sequence_agrees : (ts : StmtTrees) → AllPartsAgree p f e ts → (x : Exits) (y : Ways) (breaks continues : Bool) → AreWays p f x y breaks continues → AllGoWithin f breaks continues ts → (b : Body) → p.locals ≤ length b.low.slots → HasTables p f (low_all f x ts b) → IsFinal p (low_all f x ts b).low
         → LoweredStmts p y e ts b.low (low_all f x ts b).low
-    sequence_agrees stmt.NoStmt h x y breaks continues ways within b le final = no_statement_is_lowered p y e b.low
-    sequence_agrees (stmt.Stmts t ts) h x y breaks continues ways within b le final =
+    sequence_agrees stmt.NoStmt h x y breaks continues ways within b le tables final = no_statement_is_lowered p y e b.low
+    sequence_agrees (stmt.Stmts t ts) h x y breaks continues ways within b le tables final =
         let b1 = low_s f x t b in
         sequence_is_lowered p y e t ts b.low b1.low (low_all f x ts b1).low
-        (statement_agrees t h.0 x y breaks continues ways within.0 b le (sequence_back p.scene.body.pieces f x ts b1 final))
-        (sequence_agrees ts h.1 x y breaks continues ways within.1 b1 (room_stated p.locals f x t b le) final)
+        (statement_agrees t h.0 x y breaks continues ways within.0 b le (sequence_has p f x ts b1 tables) (sequence_back p.scene.body.pieces f x ts b1 final))
+        (sequence_agrees ts h.1 x y breaks continues ways within.1 b1 (room_stated p.locals f x t b le) tables final)

@@ -31,9 +31,10 @@ use Rattle.c_stmt_agreement.proofs.lemmas.Loops.{while_is_lowered, do_is_lowered
 use Rattle.c_stmt_agreement.proofs.lemmas.Paying.{came_unpaid}
 use Rattle.c_stmt_agreement.proofs.lemmas.Rebasing.{came_itself}
 use Rattle.c_stmt_agreement.proofs.lemmas.Sequences.{nothing_is_lowered}
-use Rattle.c_stmts_agree.specs.Parts.{ValueAgrees, TestAgrees, MaybeAgrees, MaybeTestAgrees}
+use Rattle.c_stmts_agree.specs.Parts.{EffectAgrees, TestAgrees, MaybeAgrees, MaybeTestAgrees}
+use Rattle.c_stmts_agree.specs.Tables.{HasTables}
 use Rattle.c_stmts_agree.specs.Ways.{IsBehind, AreWays}
-use Rattle.c_stmts_agree.proofs.lemmas.Backing.{statement_back, mark_back, jump_back, label_back, room_marked, room_jumped, room_lowered, room_tested, room_stated}
+use Rattle.c_stmts_agree.proofs.lemmas.Backing.{statement_back, statement_has, mark_back, jump_back, label_back, room_marked, room_jumped, room_lowered, room_tested, room_stated}
 use Rattle.c_stmts_agree.proofs.lemmas.Places.{label_here, behind_mark, Moves, relabels}
 
 -- ---- where a statement begins
@@ -53,8 +54,8 @@ unpaid p a b leads o k at = came_unpaid p o b o.old k (leads o k at)
 
 abbrev pub StatementAgrees : Activation → Function → Ending → StmtTree → Type 0
 StatementAgrees p f e t =
-    (x : Exits) (y : Ways) (breaks continues : Bool) → AreWays p f x y breaks continues → GoesWithin f breaks continues t → (b : Body) → p.locals ≤ length b.low.slots → IsFinal p (low_s f x t b).low
-    → LoweredStmt p y e t b.low (low_s f x t b).low
+    (x : Exits) (y : Ways) (breaks continues : Bool) → AreWays p f x y breaks continues → GoesWithin f breaks continues t → (b : Body) → p.locals ≤ length b.low.slots → HasTables p f (low_s f x t b)
+    → IsFinal p (low_s f x t b).low → LoweredStmt p y e t b.low (low_s f x t b).low
 
 -- what stands between two repetitions of a loop, lowered as a test to the start of the body
 pub record Between (p : Activation) (does : ℕ → c.World → Result) (row : ℕ → Low → Low) : Type 0 where
@@ -68,8 +69,8 @@ module _ (chars : CharsAreNarrow) (shorts : ShortsAreNarrow) (means : TurnsMean)
   pub jump_leads : (n : ℕ) (l d : Low) → p.locals ≤ length l.slots → IsFinal p (jumped n l) → IsBehind p.scene n d → Leads p l d
   jump_leads n l d le final h = subst (λ (a : Low). Leads p l a) (sym h.1) (jumps_lead chars shorts means p frame once n l le h.0 final)
 
-  pub value_is_dropped : (x : CoreTree) → ValueAgrees p f x → (y : Ways) (l : Low) → p.locals ≤ length l.slots → IsFinal p (dropped f x l) → LoweredStmt p y e (stmt.Expression x) l (dropped f x l)
-  value_is_dropped x v y l le final = expression_is_lowered evals p frame x v.tame y e l le (low_e f.context x l) (v.lowered l le) final
+  pub value_is_dropped : (x : CoreTree) → EffectAgrees p f x → (y : Ways) (l : Low) → p.locals ≤ length l.slots → IsFinal p (dropped f x l) → LoweredStmt p y e (stmt.Expression x) l (dropped f x l)
+  value_is_dropped x v y l le final = expression_is_lowered evals p frame x v.tame y e l le (low_e f.context x l) (v.performed l le) final
 
   test_is_lowered : (x : CoreTree) → TestAgrees p f x → (n : ℕ) (when : Bool) (l : Low) → p.locals ≤ length l.slots → IsFinal p (low_test f.context x n when l) → (t : Label p.scene n)
       → TestIsLowered p (jumps when) x (low_at p.scene n t) l (low_test f.context x n when l)
@@ -104,9 +105,9 @@ module _ (chars : CharsAreNarrow) (shorts : ShortsAreNarrow) (means : TurnsMean)
   module _ (x : CoreTree) (v : TestAgrees p f x) (t u : StmtTree) (first : StatementAgrees p f e t) (second : StatementAgrees p f e u) (z : Exits) (y : Ways) (breaks continues : Bool) (ways : AreWays p f z y breaks continues)
       (within_t : GoesWithin f breaks continues t) (within_u : GoesWithin f breaks continues u) where
     -- with nothing on the second way
-    one_is_lowered : (n : ℕ) (b : Body) → p.locals ≤ length b.low.slots → IsFinal p (one_way f x (λ b1. low_s f z t b1) n b).low
+    one_is_lowered : (n : ℕ) (b : Body) → p.locals ≤ length b.low.slots → HasTables p f (one_way f x (λ b1. low_s f z t b1) n b) → IsFinal p (one_way f x (λ b1. low_s f z t b1) n b).low
         → LoweredStmt p y e (stmt.If x t stmt.Nothing) b.low (one_way f x (λ b1. low_s f z t b1) n b).low
-    one_is_lowered n b le final =
+    one_is_lowered n b le tables final =
         let l1 = low_test f.context x n false b.low in
         let b2 = low_s f z t (with_low l1 b) in
         let end = marked n b2.low in
@@ -114,15 +115,16 @@ module _ (chars : CharsAreNarrow) (shorts : ShortsAreNarrow) (means : TurnsMean)
         let final1 = statement_back p.scene.body.pieces f z t (with_low l1 b) final2 in
         choice_is_lowered p y e x t stmt.Nothing b.low l1 b2.low end end end
         (test_is_lowered x v n false b.low le final1 (label_here p.scene n b2.low final))
-        (first z y breaks continues ways within_t (with_low l1 b) (room_tested p.locals f.context x n false b.low le) final2)
+        (first z y breaks continues ways within_t (with_low l1 b) (room_tested p.locals f.context x n false b.low le) tables final2)
         (unpaid p b2.low end (marks_lead means p frame n b2.low final))
         (nothing_is_lowered p y e end)
         (λ o k at. came_itself p o end k at)
 
     -- the second way stands behind a label
-    two_are_lowered : (m n : ℕ) (b : Body) → p.locals ≤ length b.low.slots → IsFinal p (two_ways f x (λ b1. low_s f z t b1) (λ b1. low_s f z u b1) m n b).low
+    two_are_lowered : (m n : ℕ) (b : Body) → p.locals ≤ length b.low.slots → HasTables p f (two_ways f x (λ b1. low_s f z t b1) (λ b1. low_s f z u b1) m n b)
+        → IsFinal p (two_ways f x (λ b1. low_s f z t b1) (λ b1. low_s f z u b1) m n b).low
         → LoweredStmt p y e (stmt.If x t u) b.low (two_ways f x (λ b1. low_s f z t b1) (λ b1. low_s f z u b1) m n b).low
-    two_are_lowered m n b le final =
+    two_are_lowered m n b le tables final =
         let l1 = low_test f.context x m false b.low in
         let b2 = low_s f z t (with_low l1 b) in
         let l3 = jumped n b2.low in
@@ -138,25 +140,26 @@ module _ (chars : CharsAreNarrow) (shorts : ShortsAreNarrow) (means : TurnsMean)
         let le2 = room_stated p.locals f z t (with_low l1 b) le1 in
         choice_is_lowered p y e x t u b.low l1 b2.low b4.low b5.low end
         (test_is_lowered x v m false b.low le final1 (label_here p.scene m l3 final4))
-        (first z y breaks continues ways within_t (with_low l1 b) le1 final2)
+        (first z y breaks continues ways within_t (with_low l1 b) le1 (statement_has p f z u b4 tables) final2)
         (unpaid p b2.low end (jump_leads n b2.low end le2 final3 (behind_mark p.scene n b5.low final)))
-        (second z y breaks continues ways within_u b4 (room_marked p.locals m l3 (room_jumped p.locals n b2.low le2)) final5)
+        (second z y breaks continues ways within_u b4 (room_marked p.locals m l3 (room_jumped p.locals n b2.low le2)) tables final5)
         (unpaid p b5.low end (marks_lead means p frame n b5.low final))
 
-    choice_by_agrees : (is : Bool) → is_nothing u ≡ is → (b : Body) → p.locals ≤ length b.low.slots → IsFinal p (choice_by is f x (λ b1. low_s f z t b1) (λ b1. low_s f z u b1) b).low
+    choice_by_agrees : (is : Bool) → is_nothing u ≡ is → (b : Body) → p.locals ≤ length b.low.slots → HasTables p f (choice_by is f x (λ b1. low_s f z t b1) (λ b1. low_s f z u b1) b)
+        → IsFinal p (choice_by is f x (λ b1. low_s f z t b1) (λ b1. low_s f z u b1) b).low
         → LoweredStmt p y e (stmt.If x t u) b.low (choice_by is f x (λ b1. low_s f z t b1) (λ b1. low_s f z u b1) b).low
-    choice_by_agrees true is b le final =
+    choice_by_agrees true is b le tables final =
         let b1 = on_low (λ l. with_label l) b in
         let low = (one_way f x (λ b2. low_s f z t b2) b.low.labels b1).low in
         subst (λ (w : StmtTree). LoweredStmt p y e (stmt.If x t w) b.low low) (sym (nothing_is u is))
-        (enters p y e (stmt.If x t stmt.Nothing) b.low b1.low low (relabels p b.low (suc b.low.labels)) (one_is_lowered b.low.labels b1 le final))
-    choice_by_agrees false is b le final =
+        (enters p y e (stmt.If x t stmt.Nothing) b.low b1.low low (relabels p b.low (suc b.low.labels)) (one_is_lowered b.low.labels b1 le tables final))
+    choice_by_agrees false is b le tables final =
         let b1 = on_low (λ l. with_label (with_label l)) b in
         let low = (two_ways f x (λ b2. low_s f z t b2) (λ b2. low_s f z u b2) b.low.labels (suc b.low.labels) b1).low in
-        enters p y e (stmt.If x t u) b.low b1.low low (relabels p b.low (suc (suc b.low.labels))) (two_are_lowered b.low.labels (suc b.low.labels) b1 le final)
+        enters p y e (stmt.If x t u) b.low b1.low low (relabels p b.low (suc (suc b.low.labels))) (two_are_lowered b.low.labels (suc b.low.labels) b1 le tables final)
 
-    pub choice_agrees : (b : Body) → p.locals ≤ length b.low.slots → IsFinal p (low_s f z (stmt.If x t u) b).low → LoweredStmt p y e (stmt.If x t u) b.low (low_s f z (stmt.If x t u) b).low
-    choice_agrees b le final = choice_by_agrees (is_nothing u) refl b le final
+    pub choice_agrees : (b : Body) → p.locals ≤ length b.low.slots → HasTables p f (low_s f z (stmt.If x t u) b) → IsFinal p (low_s f z (stmt.If x t u) b).low → LoweredStmt p y e (stmt.If x t u) b.low (low_s f z (stmt.If x t u) b).low
+    choice_agrees b le tables final = choice_by_agrees (is_nothing u) refl b le tables final
 
   -- ---- loops
 
@@ -181,7 +184,7 @@ module _ (chars : CharsAreNarrow) (shorts : ShortsAreNarrow) (means : TurnsMean)
     abbrev pub end : Low
     end = marked (suc (suc n)) last
 
-    module _ (final : IsFinal p end) where
+    module _ (tables : HasTables p f behind) (final : IsFinal p end) where
       last_final : IsFinal p last
       last_final = mark_back p.scene.body.pieces (suc (suc n)) last final
 
@@ -211,7 +214,7 @@ module _ (chars : CharsAreNarrow) (shorts : ShortsAreNarrow) (means : TurnsMean)
       pub looped : Looped p y e t top.low behind.low next end
       looped = record {
         begins = refl;
-        body = body exits (record { breaks = end; continues = next; labels = y.labels }) true true inner within top top_room behind_final;
+        body = body exits (record { breaks = end; continues = next; labels = y.labels }) true true inner within top top_room tables behind_final;
         leads = marks_lead means p frame (suc n) behind.low next_final;
       }
 
@@ -238,8 +241,8 @@ module _ (chars : CharsAreNarrow) (shorts : ShortsAreNarrow) (means : TurnsMean)
     abbrev row : ℕ → Low → Low
     row n l = low_test f.context x n true l
 
-    pub while_agrees : IsFinal p (low_s f z (stmt.While x t) b).low → LoweredStmt p y e (stmt.While x t) b.low (low_s f z (stmt.While x t) b).low
-    while_agrees final =
+    pub while_agrees : HasTables p f (low_s f z (stmt.While x t) b) → IsFinal p (low_s f z (stmt.While x t) b).low → LoweredStmt p y e (stmt.While x t) b.low (low_s f z (stmt.While x t) b).low
+    while_agrees tables final =
         let n = b.low.labels in
         let b1 = on_low (λ l. with_label (with_label (with_label l))) b in
         let b2 = on_low (λ l. jumped (suc n) l) b1 in
@@ -250,16 +253,16 @@ module _ (chars : CharsAreNarrow) (shorts : ShortsAreNarrow) (means : TurnsMean)
         let at_next = next (λ k w. asks k w) (λ m l. row m l) between t body z y breaks continues ways within n b2 le2 in
         let at_last = last (λ k w. asks k w) (λ m l. row m l) between t body z y breaks continues ways within n b2 le2 in
         let at_end = end (λ k w. asks k w) (λ m l. row m l) between t body z y breaks continues ways within n b2 le2 in
-        let begin = mark_back p.scene.body.pieces n b2.low (top_final (λ k w. asks k w) (λ m l. row m l) between t body z y breaks continues ways within n b2 le2 final) in
+        let begin = mark_back p.scene.body.pieces n b2.low (top_final (λ k w. asks k w) (λ m l. row m l) between t body z y breaks continues ways within n b2 le2 tables final) in
         enters p y e (stmt.While x t) b.low b1.low at_end (relabels p b.low (suc (suc (suc n))))
         (while_is_lowered p y e x t b1.low at_top.low after.low at_next at_last at_end
-        (looped (λ k w. asks k w) (λ m l. row m l) between t body z y breaks continues ways within n b2 le2 final)
-        (jump_leads (suc n) b1.low at_next le begin (next_is_behind (λ k w. asks k w) (λ m l. row m l) between t body z y breaks continues ways within n b2 le2 final))
-        (tested (λ k w. asks k w) (λ m l. row m l) between t body z y breaks continues ways within n b2 le2 final)
-        (ends (λ k w. asks k w) (λ m l. row m l) between t body z y breaks continues ways within n b2 le2 final))
+        (looped (λ k w. asks k w) (λ m l. row m l) between t body z y breaks continues ways within n b2 le2 tables final)
+        (jump_leads (suc n) b1.low at_next le begin (next_is_behind (λ k w. asks k w) (λ m l. row m l) between t body z y breaks continues ways within n b2 le2 tables final))
+        (tested (λ k w. asks k w) (λ m l. row m l) between t body z y breaks continues ways within n b2 le2 tables final)
+        (ends (λ k w. asks k w) (λ m l. row m l) between t body z y breaks continues ways within n b2 le2 tables final))
 
-    pub do_agrees : IsFinal p (low_s f z (stmt.Do t x) b).low → LoweredStmt p y e (stmt.Do t x) b.low (low_s f z (stmt.Do t x) b).low
-    do_agrees final =
+    pub do_agrees : HasTables p f (low_s f z (stmt.Do t x) b) → IsFinal p (low_s f z (stmt.Do t x) b).low → LoweredStmt p y e (stmt.Do t x) b.low (low_s f z (stmt.Do t x) b).low
+    do_agrees tables final =
         let n = b.low.labels in
         let b1 = on_low (λ l. with_label (with_label (with_label l))) b in
         let between = tested_between x v in
@@ -270,10 +273,10 @@ module _ (chars : CharsAreNarrow) (shorts : ShortsAreNarrow) (means : TurnsMean)
         let at_end = end (λ k w. asks k w) (λ m l. row m l) between t body z y breaks continues ways within n b1 le in
         enters p y e (stmt.Do t x) b.low b1.low at_end (relabels p b.low (suc (suc (suc n))))
         (do_is_lowered p y e x t b1.low at_top.low after.low at_next at_last at_end
-        (looped (λ k w. asks k w) (λ m l. row m l) between t body z y breaks continues ways within n b1 le final)
-        (marks_lead means p frame n b1.low (top_final (λ k w. asks k w) (λ m l. row m l) between t body z y breaks continues ways within n b1 le final))
-        (tested (λ k w. asks k w) (λ m l. row m l) between t body z y breaks continues ways within n b1 le final)
-        (ends (λ k w. asks k w) (λ m l. row m l) between t body z y breaks continues ways within n b1 le final))
+        (looped (λ k w. asks k w) (λ m l. row m l) between t body z y breaks continues ways within n b1 le tables final)
+        (marks_lead means p frame n b1.low (top_final (λ k w. asks k w) (λ m l. row m l) between t body z y breaks continues ways within n b1 le tables final))
+        (tested (λ k w. asks k w) (λ m l. row m l) between t body z y breaks continues ways within n b1 le tables final)
+        (ends (λ k w. asks k w) (λ m l. row m l) between t body z y breaks continues ways within n b1 le tables final))
 
   -- ---- for
 
@@ -303,8 +306,8 @@ module _ (chars : CharsAreNarrow) (shorts : ShortsAreNarrow) (means : TurnsMean)
     abbrev goes : ℕ → c.World → Result
     goes k w = last_and_test (context p.scene.unit p.scene.lowered.order) last x k w
 
-    pub for_agrees : IsFinal p (low_s f z (stmt.For first x last t) b).low → LoweredStmt p y e (stmt.For first x last t) b.low (low_s f z (stmt.For first x last t) b).low
-    for_agrees final =
+    pub for_agrees : HasTables p f (low_s f z (stmt.For first x last t) b) → IsFinal p (low_s f z (stmt.For first x last t) b).low → LoweredStmt p y e (stmt.For first x last t) b.low (low_s f z (stmt.For first x last t) b).low
+    for_agrees tables final =
         let l0 = maybe_dropped f first b.low in
         let n = l0.labels in
         let b1 = with_low (with_label (with_label (with_label (with_label l0)))) b in
@@ -322,14 +325,14 @@ module _ (chars : CharsAreNarrow) (shorts : ShortsAreNarrow) (means : TurnsMean)
         let at_end = marked (suc (suc n)) at_last in
         let final_last = mark_back p.scene.body.pieces (suc (suc n)) at_last final in
         let final_here = maybe_test_back x n at_here final_last in
-        let final_top = top_final (λ k w. goes k w) (λ m l. lowered_last f x last here m l) between t body z y breaks continues ways within n b2 le2 final in
+        let final_top = top_final (λ k w. goes k w) (λ m l. lowered_last f x last here m l) between t body z y breaks continues ways within n b2 le2 tables final in
         let begin = mark_back p.scene.body.pieces n b2.low final_top in
         let final0 = label_back p.scene.body.pieces l0 b1.low.labels (jump_back p.scene.body.pieces here b1.low begin) in
-        let le3 = maybe_drop_room last at_next (next_room (λ k w. goes k w) (λ m l. lowered_last f x last here m l) between t body z y breaks continues ways within n b2 le2 final) in
+        let le3 = maybe_drop_room last at_next (next_room (λ k w. goes k w) (λ m l. lowered_last f x last here m l) between t body z y breaks continues ways within n b2 le2 tables final) in
         for_is_lowered p y e first x last t b.low l0 at_here at_top.low after.low at_next at_last at_end
         (maybe_is_dropped first v1 y b.low le final0)
         (leads_from p l0 b1.low at_here (relabels p l0 b1.low.labels) (jump_leads here b1.low at_here le0 begin (behind_mark p.scene here l3 final_here)))
         (maybe_is_tested x v n at_here (room_marked p.locals here l3 le3) final_last (label_here p.scene n b2.low final_top))
-        (looped (λ k w. goes k w) (λ m l. lowered_last f x last here m l) between t body z y breaks continues ways within n b2 le2 final)
-        (tested (λ k w. goes k w) (λ m l. lowered_last f x last here m l) between t body z y breaks continues ways within n b2 le2 final)
-        (ends (λ k w. goes k w) (λ m l. lowered_last f x last here m l) between t body z y breaks continues ways within n b2 le2 final)
+        (looped (λ k w. goes k w) (λ m l. lowered_last f x last here m l) between t body z y breaks continues ways within n b2 le2 tables final)
+        (tested (λ k w. goes k w) (λ m l. lowered_last f x last here m l) between t body z y breaks continues ways within n b2 le2 tables final)
+        (ends (λ k w. goes k w) (λ m l. lowered_last f x last here m l) between t body z y breaks continues ways within n b2 le2 tables final)

@@ -1,6 +1,6 @@
 -- Places in an object that C writes.
-use Rattle.std.specs.Prelude.{◌≡◌, ◌≤◌, ℕ, ◌+◌, nat_lt, ℤ, pos, int_le, not, ◌&&◌, Bool, true, false, Some, None, Ok, List, [], ◌∷◌, slice_get, if◌then◌else◌}
-use Rattle.std.proofs.Common.{refl, sym, subst, arith}
+use Rattle.std.specs.Prelude.{◌≡◌, ◌≤◌, ℕ, ◌+◌, nat_lt, ℤ, pos, int_le, not, ◌&&◌, Bool, true, false, None, Ok, List, [], ◌∷◌, if◌then◌else◌}
+use Rattle.std.proofs.Common.{refl, arith}
 use Rattle.std.proofs.lemmas.Int.{ints}
 use Rattle.lcc_base.specs.declared.cause.Cause.TheVariants.{Outside, Misaligned, Dead, ReadOnly, PointerRange, PointerNumber}
 use Rattle.lcc_base.specs.declared.order.Order.{Order}
@@ -14,27 +14,24 @@ use Rattle.objects.specs.Causes.{first_cause, unless, is_no_number, is_narrowed,
 use Rattle.objects.specs.Objects.{Object as Old}
 use Rattle.objects.specs.Pointers.{place_after, moved}
 use Rattle.forests.specs.Objects.{Object}
-use Rattle.forests.specs.Words.{Word, Plain}
+use Rattle.forests.specs.Words.{Word}
 use Rattle.objects.specs.Values.{bytes_in}
 use Rattle.c_meaning.specs.Scalars.{scalar_of}
 use Rattle.c_runs.specs.Places.{Spot, is_field, field_of, stored, assigned, size_of, align_of}
 use Rattle.c_match.specs.Held.{IsOpenTo}
-use Rattle.c_match.specs.Ranges.{Map, Range}
+use Rattle.c_match.specs.Ranges.{Map}
 use Rattle.c_match.specs.Values.{IsValue}
+use Rattle.c_straight_agree.specs.Layouts.{IsOpenAt}
+use Rattle.c_straight_agree.proofs.lemmas.Copying.{target_written}
+use Rattle.c_straight_agree.proofs.lemmas.Opens.{open_by}
 use Rattle.c_straight_agree.proofs.lemmas.Reading.{if_none_is}
 use Rattle.c_types.specs.CType.{CType}
 use Rattle.c_types.specs.Layout.{Tag}
-use Rattle.c_stmt_agreement.specs.Comings.{IsOpenAt}
-use Rattle.c_stores_agree.proofs.lemmas.Copying.{target_written}
 
 -- a place in an object may be initialised where the object may be written
 pub open_place : (map : Map) (objects : List Object) (v : Value) (u : Word) (by : ℤ) → IsValue map v u → IsOpenAt objects u → IsOpenTo Initialisation map objects (place_after v by)
 open_place map objects (Number n) u by is opens = tt
-open_place map objects (Pointer object offset) u by is opens =
-    λ r home made at.
-    let same : is.0 ≡ r = (let a = is.1 in cc) in
-    let here : IsOpenAt objects (Plain (Pointer is.0.object (is.0.start + offset))) = subst (λ (x : Word). IsOpenAt objects x) is.2 opens in
-    here home (subst (λ (q : Range). slice_get objects q.object.place ≡ Some home) (sym same) at)
+open_place map objects (Pointer object offset) u by is opens = open_by map objects (Pointer object offset) u is opens
 open_place map objects (Function f) u by is opens = tt
 
 -- what is written there is in the object

@@ -43,6 +43,7 @@ use Rattle.c_straight_agree.specs.Agreement as expression
 use Rattle.c_straight_agree.specs.Narrow.{CharsAreNarrow, ShortsAreNarrow}
 use Rattle.c_straight_agree.proofs.lemmas.At.{at_of}
 use Rattle.c_straight_agree.proofs.lemmas.Coming.{fewer_taken}
+use Rattle.c_straight_agree.proofs.lemmas.Copying.{copied_came}
 use Rattle.c_straight_agree.proofs.lemmas.Finals.{back_steps, fewer_entries}
 use Rattle.c_straight_agree.proofs.lemmas.Parts.{sound_result}
 use Rattle.c_stmt_agreement.specs.Comings.{Activation, HasFrame, Origin, Ways, Ending, HoldsPlace, Came, Returned, IsAnything, ReturnedCopy, ReturnedValue, CameFrom}
@@ -56,7 +57,6 @@ use Rattle.c_stmts_agree.proofs.lemmas.Backing.{room_lowered}
 use Rattle.c_stmts_agree.proofs.lemmas.Returning.{finished}
 use Rattle.c_stores_agree.specs.Returns.{CopiesResult}
 use Rattle.c_stores_agree.proofs.lemmas.Hidden.{address, hidden_holds, hidden_settled}
-use Rattle.c_stores_agree.proofs.lemmas.Copying.{copied_came}
 
 -- ---- the copy, and the end of the call
 
@@ -73,8 +73,8 @@ module _ (chars : CharsAreNarrow) (shorts : ShortsAreNarrow) (means : TurnsMean)
 
     result_copied : (h : Front p.scene.body.pieces behind.pieces behind.entries) → expression.Came p.scene o.start o.turns l behind h b o.map o.old at.values o.world (Some v) (c.with_objects o.old new) k
     result_copied h =
-        copied_came p.scene p.locals frame.body tags of chars shorts l le hidden b tt within to v o.start o.turns at.front o.map o.old at.values o.world k at.stands held.opens (hidden_holds p frame to result o.map at.values o.world held)
-        (hidden_settled p frame to result l at.front at.stands.slots o.map at.values o.world) has new is h
+        copied_came p.scene p.locals frame.body tags of chars shorts l le hidden b tt within to v o.start o.turns at.front o.map o.old at.values o.world k at.stands Initialisation held.opens (hidden_holds p frame to result o.map at.values o.world held)
+        (hidden_settled p frame to result l at.front at.stands.slots o.map at.values o.world) has new is b v within has h
 
     pub copy_returned : IsFinal p (returned behind) → Returned p o IsAnything (c.with_objects o.old new) k
     copy_returned final =

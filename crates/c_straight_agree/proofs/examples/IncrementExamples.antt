@@ -87,7 +87,7 @@ scene = record {
   own = 0;
   lowered = target;
   body = record { program = program; setting = setting; pieces = pieces };
-  frame = record { addresses = Plain (Pointer (record { place = 0; made = 0; size = 4 }) 0) ∷ []; others = [] };
+  frame = record { types = int ∷ []; addresses = Plain (Pointer (record { place = 0; made = 0; size = 4 }) 0) ∷ []; others = [] };
 }
 
 abbrev pub start : Low
@@ -167,6 +167,7 @@ same_word e = cc
 is_laid_out : IsLaidOut scene layout
 is_laid_out = record {
   frame = one_slot;
+  types = refl;
   places = λ n of e. places n of e;
   addresses = λ n of z w e whole f g. addresses n of z w f g;
   wholes = λ n of z e whole f. wholes n of z e whole;

@@ -61,7 +61,7 @@ abbrev body : BodyRun
 body = record { program = program; setting = setting; pieces = OfBlock [] [] ∷ [] }
 
 abbrev scene : Scene
-scene = record { unit = source; own = 0; lowered = target; body = body; frame = record { addresses = []; others = [] } }
+scene = record { unit = source; own = 0; lowered = target; body = body; frame = record { types = []; addresses = []; others = [] } }
 
 abbrev first : Low
 first = record { pieces = []; entries = []; slots = []; labels = 0 }
@@ -107,6 +107,7 @@ stands_first = record {
 sound_first : IsSoundIn scene before
 sound_first = record {
   sound = record { own = omega arith; others = []; live = refl; objects = tt; locals = tt; input = tt; trace = tt };
+  locals = tt;
   short = λ p x e. absurd (let never : ⊥ = cc in never);
 }
 
@@ -114,7 +115,7 @@ sound_first = record {
 
 other_operand : IsLowered scene layout (number 1 3) first (with_value (integer.number true 4) first) → ⊥
 other_operand h =
-    let came = h run 0 nothing_yet nothing_yet no_ranges before (λ m. unknown) world 0 (front_itself []) stands_first sound_first (λ n of z a u e. absurd (let never : ⊥ = cc in never)) in
+    let came = h run 0 nothing_yet nothing_yet no_ranges before (λ m. unknown) world 0 (front_itself []) stands_first sound_first (record { words = λ n of z a u e. absurd (let never : ⊥ = cc in never); opens = tt }) in
     let same = same_number (given came.has.holds.gives ∙ came.has.holds.is) in
     let never : ⊥ = omega (arith, same) in
     never

@@ -133,7 +133,7 @@ module _ (s : Scene) (locals : ℕ) (body : IsBody s locals) (chars : CharsAreNa
         let one = placed_came s locals body chars shorts start turns m le f map old values w k st (place.kept x v) kept in_kept (kept_by_set keeps here (is_field x) x b (operand_settled keeps s b map values w v hb))
         (kept_holds s map values w s.lowered.order x unit b v p (c.objects old) new is hb.holds) h1 in
         let la = lasts start turns m one_low.low x1 f h1 one_low.value map old values w k st (Some (place.kept x v)) old k one a p in_a ha in
-        let two = written_came s locals body chars shorts x unit true one_low.low (slots_on le (extends_slots m one_low.low x1)) a b (in_later m one_low.low x1 a in_a) (in_later m one_low.low x1 b in_b) p v start turns h1 one.later old one.others one.world k one.stands
+        let two = written_came s locals body chars shorts x unit true one_low.low (slots_on le (extends_slots m one_low.low x1)) a b (in_later m one_low.low x1 a in_a) (in_later m one_low.low x1 b in_b) p v start turns h1 one.later old one.others one.world k one.stands Assignment tt
         la.holds (lasting_settled s locals body one_low.low h1 one.stands.slots (length one_low.low.slots) (omega arith) one.later one.others one.world a p la)
         (still start turns m one_low.low x1 h1 one_low.value map old values w (Some (place.kept x v)) old k one b v in_b hb)
         new is one_low.value (place.kept x v) (placed_in kept m start turns s f map old values w k st in_kept) one.has h in

@@ -146,7 +146,7 @@ module _ (s : Scene) (locals : ℕ) (body : IsBody s locals) (chars : CharsAreNa
   old_goes : GivesBehind (λ a o b l. low_change.old_given s.lowered.order x a o b l) (λ v z. does.old_value x v z)
   old_goes m le a o b in_a in_o in_b p v u start turns f h map old values w k slots st sound sp ha ho hb =
       fine_came (place.stored Assignment s.lowered.order x u (c.objects old) p) s start turns m (low.written false s.lowered.order x a b m) h o map old values w line old (λ os. Gives v k (c.with_objects old os))
-      (λ new is. written_came s locals body chars shorts x unit false m le a b in_a in_b p u start turns f map old values w k st ha.holds (lasting_settled s locals body m f st.slots (length m.slots) (omega arith) map values w a p ha) hb new is o v in_o ho h)
+      (λ new is. written_came s locals body chars shorts x unit false m le a b in_a in_b p u start turns f map old values w k st Assignment tt ha.holds (lasting_settled s locals body m f st.slots (length m.slots) (omega arith) map values w a p ha) hb new is o v in_o ho h)
 
   pub changes_are_given : (by : Change) → IsSmallChange by → (t : CType)
       → GoesTwo s locals body (λ a b l. low_change.changed_at s.lowered.order by x low_change.new_given a b l)

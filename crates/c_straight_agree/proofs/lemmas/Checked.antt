@@ -45,7 +45,7 @@ kinds_whole (Enumeration n) (Structure m) e = absurd (true≢false (sym e))
 kinds_whole (Enumeration n) (Union m) e = absurd (true≢false (sym e))
 kinds_whole (Enumeration n) b e = refl
 
-types_whole : (a b : CType) → compatible a b ≡ true → is_record a ≡ is_record b
+pub types_whole : (a b : CType) → compatible a b ≡ true → is_record a ≡ is_record b
 types_whole (Plain p a) (Plain q b) e = kinds_whole a b (both_so (nat_eq p q) (kinds_compatible a b) e).1
 types_whole (Array a n) (Array b m) e = refl
 types_whole (Plain p a) (Array b m) e = absurd (true≢false (sym e))
@@ -58,7 +58,7 @@ kinds_room tags (Structure n) b w e = absurd (true≢false (sym e))
 kinds_room tags (Union n) b w e = absurd (true≢false (sym e))
 kinds_room tags a b w e = absurd (true≢false (sym w))
 
-types_room : (tags : List Tag) (a b : CType) → is_record a ≡ true → compatible a b ≡ true → size_of tags a ≡ size_of tags b
+pub types_room : (tags : List Tag) (a b : CType) → is_record a ≡ true → compatible a b ≡ true → size_of tags a ≡ size_of tags b
 types_room tags (Plain p a) (Plain q b) w e = kinds_room tags a b w (both_so (nat_eq p q) (kinds_compatible a b) e).1
 types_room tags (Array a n) b w e = absurd (true≢false (sym w))
 types_room tags (Plain p a) (Array b m) w e = absurd (true≢false (sym e))

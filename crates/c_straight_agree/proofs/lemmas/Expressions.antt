@@ -1,5 +1,5 @@
 -- Expressions that are neither tests nor conditionals nor calls are lowered where their parts are; and so straight ones are.
-use Rattle.std.specs.Prelude.{◌≡◌, ◌≤◌, ℕ, ◌-◌, pos, nat_lt, ◌&&◌, ◌||◌, ℤ, Bool, true, false, Option, Some, Ok, length, slice_get, if◌then◌else◌}
+use Rattle.std.specs.Prelude.{◌≡◌, ◌≤◌, ℕ, ◌-◌, pos, nat_lt, ◌&&◌, ◌||◌, ℤ, Bool, true, false, Option, Some, None, Ok, length, slice_get, if◌then◌else◌}
 use Rattle.std.proofs.Common.{true≢false, refl, sym, ap, subst, arith}
 use Rattle.objects.specs.declared.value.Value.TheVariants.{Number, Function}
 use Rattle.objects.specs.Pointers.{moved, subtracted}
@@ -43,11 +43,11 @@ use Rattle.lowered_forms.specs.Values.{Lowered, with_value, nothing, placed}
 use Rattle.lowered_forms.proofs.lemmas.Adding.{lowering_adds}
 use Rattle.lowered_forms.proofs.lemmas.Fronts.{front_itself}
 use Rattle.lowered_forms.proofs.lemmas.WithinTemplates.{as_p_in, converted_in, unary_in, binary_in, among_in, difference_in, further_in, local_in, read_in}
-use Rattle.c_straight_agree.specs.Agreement.{IsLowered, ArePartsOf, CallsAreLowered}
+use Rattle.c_straight_agree.specs.Agreement.{CameTo, IsLowered, ArePartsOf, CallsAreLowered}
 use Rattle.c_straight_agree.specs.Extends.{Extends}
 use Rattle.c_straight_agree.specs.Layouts.{FrameLayout, context_in, IsLaidOut, IsFair, AreFair, is_call, has_call, have_calls}
 use Rattle.c_straight_agree.specs.Narrow.{CharsAreNarrow, ShortsAreNarrow}
-use Rattle.c_straight_agree.specs.Parts.{is_plain, IsLoweredPart, EachTree, AreLoweredParts}
+use Rattle.c_straight_agree.specs.Parts.{IsPerformedPart, is_plain, IsLoweredPart, EachTree, AreLoweredParts}
 use Rattle.c_straight_agree.specs.Settled.{seen}
 use Rattle.c_straight_agree.specs.Standing.{IsBody}
 use Rattle.c_straight_agree.proofs.lemmas.Assigning.{scalars_are_assigned}
@@ -60,6 +60,7 @@ use Rattle.c_straight_agree.proofs.lemmas.Kept.{front_length}
 use Rattle.c_straight_agree.proofs.lemmas.Leaves.{place_came, number_has, nothing_has, function_has, object_has, text_has, address_has, whole_holds, whole_settled, local_is, whole_is}
 use Rattle.c_straight_agree.proofs.lemmas.Members.{fewer_at, HasRoom, member_holds, further_room, placed_room, address_room, none_room, never_local}
 use Rattle.c_straight_agree.proofs.lemmas.Parts.{result, part, gives_came, GoesOne, GoesOneOf, GoesTwo, Results, TwoCome, lowered_part, one_of_comes, one_comes, two_come, computes_one, computes_two, sound_result, drops_sound, slots_later}
+use Rattle.c_straight_agree.proofs.lemmas.Performing.{performed_part}
 use Rattle.c_straight_agree.proofs.lemmas.Placing.{value_came, placed_came}
 use Rattle.c_straight_agree.proofs.lemmas.Reading.{IsInUnit, reads_compute}
 use Rattle.c_straight_agree.proofs.lemmas.Rows.{unary_computes, conversion_computes, pointer_computes, binary_computes, move_computes, difference_computes}
@@ -137,37 +138,49 @@ module _ (chars : CharsAreNarrow) (shorts : ShortsAreNarrow) (evals : EvalStaysS
       (member_holds s y laid map values w (c.objects old) short offset p v u hv.holds is (member_agrees here (c.objects old) offset p v u short (operand_sound old.storage.made v sv).0 hv.holds is) (room_of x a) known) h)
 
   -- a part whose value isn't used
-  dropped : (a : CoreTree) → IsLoweredPart s locals y a → (l : Low) → locals ≤ length l.slots → Results s locals body y l (nothing (low_e x a l).low) (λ k old. then_drop (result s a k old) (λ k1 w1. GivesNone 0 k1 w1))
+  pub dropped : (a : CoreTree) → IsPerformedPart s locals y a → (l : Low) → locals ≤ length l.slots → Results s locals body y l (nothing (low_e x a l).low) (λ k old. then_drop (result s a k old) (λ k1 w1. GivesNone 0 k1 w1))
   dropped a pa l le start turns f h map before values first k slots st sound wholes =
       let l1 = (low_e x a l).low in
       let p = (low_e x a l).value in
       drops_sound s start turns l l1 l1 h h p (number true 0) map before values first sound (result s a k before) (λ k1 w1. GivesNone 0 k1 w1) (sound_result s locals body evals a pa.tame k before sound)
-      (pa.lowered l le start turns f h map before values first k slots st sound wholes)
-      (λ v k1 old1 so one. record { later = one.later; grown = one.grown; others = one.others; world = one.world; stands = one.stands; alike = one.alike; left = one.left; private = one.private; kept = one.kept; has = nothing_has s locals body y laid start turns l1 h one.later old1 one.others one.world k1 one.stands so })
+      (pa.performed l le start turns f h map before values first k slots st sound wholes)
+      (λ k1 old1 so one. record { later = one.later; grown = one.grown; others = one.others; world = one.world; stands = one.stands; alike = one.alike; left = one.left; private = one.private; kept = one.kept; has = nothing_has s locals body y laid start turns l1 h one.later old1 one.others one.world k1 one.stands so })
 
   -- ---- the comma
 
   abbrev comma : CoreTree → CoreTrees → CoreTree
   comma a cs = Core kind.Comma (type_of a) 0 (Cores a cs)
 
-  comma_comes : (a : CoreTree) (cs : CoreTrees) → IsLoweredPart s locals y a → AreLoweredParts s locals y cs → (l : Low) → locals ≤ length l.slots
-      → Results s locals body y l (comma_from (part x a) (parts_of x cs) l) (λ k old. does.comma_from (record { tree = a; does = λ k1 w1. result s a k1 w1 }) (does.parts_of (context s.unit s.lowered.order) cs) k old)
-  comma_comes a NoCore pa ps l le start turns f h map before values first k slots st sound wholes = pa.lowered l le start turns f h map before values first k slots st sound wholes
-  comma_comes a (Cores b cs) pa ps l le start turns f h map before values first k slots st sound wholes =
-      let l1 = (low_e x a l).low in
-      let p = (low_e x a l).value in
-      let r = comma_from (part x b) (parts_of x cs) l1 in
-      let x1 = lowering_adds x a l in
-      let x2 = lowering_adds x (comma b cs) l1 in
-      let last = finals_go_back s.body.pieces x (comma b cs) l1 (record { front = h; slots = slots }) in
-      let rest : ℕ → c.World → Result = λ k1 w1. does.comma_from (record { tree = b; does = λ k2 w2. result s b k2 w2 }) (does.parts_of (context s.unit s.lowered.order) cs) k1 w1 in
-      drops_sound s start turns l l1 r.low last.front h p r.value map before values first sound (result s a k before) rest (sound_result s locals body evals a pa.tame k before sound)
-      (pa.lowered l le start turns f last.front map before values first k last.slots st sound wholes)
-      (λ v k1 old1 so one.
-      joins s start turns l l1 r.low last.front h p r.value map before values first v old1 k1 (front_length l.slots l1.slots x1.slots)
-      (grows_later l l1 r.low x1 x2.pieces (λ e. later_extends l1 r.low r.low.pieces x2 (front_itself r.low.pieces) e)) one (rest k1 old1)
-      (comma_comes b cs ps.0 ps.1 l1 (slots_later s locals body l l1 x1.slots le) start turns last.front h one.later old1 one.others one.world k1 slots one.stands so
-      (wholes_stay s y laid start turns l l1 f last.front p map before values first k st v old1 k1 one wholes)))
+  -- what becomes of its value, which is the last one's
+  module _ (view : Result → Result) (through : (r : Result) (go : ℕ → c.World → Result) → view (then_drop r go) ≡ then_drop r (λ k w. view (go k w))) where
+    abbrev pub AreInComma : CoreTree → CoreTrees → Type 0
+    AreInComma a NoCore = (l : Low) → locals ≤ length l.slots → Results s locals body y l (low_e x a l) (λ k old. view (result s a k old))
+    AreInComma a (Cores b cs) = IsPerformedPart s locals y a × AreInComma b cs
+
+    pub comma_comes : (a : CoreTree) (cs : CoreTrees) → AreInComma a cs → (l : Low) → locals ≤ length l.slots
+        → Results s locals body y l (comma_from (part x a) (parts_of x cs) l) (λ k old. view (does.comma_from (record { tree = a; does = λ k1 w1. result s a k1 w1 }) (does.parts_of (context s.unit s.lowered.order) cs) k old))
+    comma_comes a NoCore ps l le start turns f h map before values first k slots st sound wholes = ps l le start turns f h map before values first k slots st sound wholes
+    comma_comes a (Cores b cs) ps l le start turns f h map before values first k slots st sound wholes =
+        let l1 = (low_e x a l).low in
+        let p = (low_e x a l).value in
+        let r = comma_from (part x b) (parts_of x cs) l1 in
+        let x1 = lowering_adds x a l in
+        let x2 = lowering_adds x (comma b cs) l1 in
+        let last = finals_go_back s.body.pieces x (comma b cs) l1 (record { front = h; slots = slots }) in
+        let rest : ℕ → c.World → Result = λ k1 w1. does.comma_from (record { tree = b; does = λ k2 w2. result s b k2 w2 }) (does.parts_of (context s.unit s.lowered.order) cs) k1 w1 in
+        subst (λ (z : Result). CameTo s start turns l r.low h r.value map before values first z) (sym (through (result s a k before) rest))
+        (drops_sound s start turns l l1 r.low last.front h p r.value map before values first sound (result s a k before) (λ k1 w1. view (rest k1 w1)) (sound_result s locals body evals a ps.0.tame k before sound)
+        (ps.0.performed l le start turns f last.front map before values first k last.slots st sound wholes)
+        (λ k1 old1 so one.
+        joins s start turns l l1 r.low last.front h p r.value map before values first None old1 k1 (front_length l.slots l1.slots x1.slots)
+        (grows_later l l1 r.low x1 x2.pieces (λ e. later_extends l1 r.low r.low.pieces x2 (front_itself r.low.pieces) e)) one (view (rest k1 old1))
+        (comma_comes b cs ps.1 l1 (slots_later s locals body l l1 x1.slots le) start turns last.front h one.later old1 one.others one.world k1 slots one.stands so
+        (wholes_stay s y laid start turns l l1 f last.front p map before values first k st None old1 k1 one wholes))))
+
+  -- it is given where all are lowered
+  all_in_comma : (a : CoreTree) (cs : CoreTrees) → IsLoweredPart s locals y a → AreLoweredParts s locals y cs → AreInComma (λ r. r) (λ r go. refl) a cs
+  all_in_comma a NoCore pa ps = pa.lowered
+  all_in_comma a (Cores b cs) pa ps = (performed_part s locals y a pa, all_in_comma b cs ps.0 ps.1)
 
   -- ---- assignments and changes
 
@@ -257,7 +270,7 @@ module _ (chars : CharsAreNarrow) (shorts : ShortsAreNarrow) (evals : EvalStaysS
     plain_lowered kind.Read of line (Cores a NoCore) plain tame fair ps is l le =
         one_comes s locals body evals y laid a ps.0 (λ p l1. placed (read s.lowered.order (spot_of a) p) l1) (λ p l1. placed_extends (read s.lowered.order (spot_of a) p) l1) _
         (computes_one s locals body chars shorts (λ p. read s.lowered.order (spot_of a) p) (λ os p. place.held s.lowered.order (spot_of a) os p) line (λ n p g. read_in n s.lowered.order (spot_of a) p g) (reads_compute s locals body (spot_of a) (spot_is_in_unit a tame.1.0))) l le
-    plain_lowered (kind.Convert to.Void) of line (Cores a NoCore) plain tame fair ps is l le = dropped a ps.0 l le
+    plain_lowered (kind.Convert to.Void) of line (Cores a NoCore) plain tame fair ps is l le = dropped a (performed_part s locals y a ps.0) l le
     plain_lowered (kind.Convert to.Pointer) of line (Cores a NoCore) plain tame fair ps is l le =
         one_comes s locals body evals y laid a ps.0 (λ p l1. placed (as_pointer p) l1) (λ p l1. placed_extends (as_pointer p) l1) _
         (computes_one s locals body chars shorts as_pointer (λ os v. Ok v) line (λ n p g. as_p_in n p.suffix p.tree g) (pointer_computes s locals body)) l le
@@ -276,7 +289,7 @@ module _ (chars : CharsAreNarrow) (shorts : ShortsAreNarrow) (evals : EvalStaysS
     plain_lowered (kind.Difference size) of line (Cores a (Cores b NoCore)) plain tame fair ps is l le =
         two a b ps.0 ps.1.0 is.1.0 (λ p q l1. placed (difference size p q) l1) (λ p q l1. placed_extends (difference size p q) l1) _
         (computes_two s locals body chars shorts (λ p q. difference size p q) (λ os v u. subtracted os size v u) line (λ n p q g i. difference_in n size p q g i) (difference_computes s locals body size fair.0)) l le
-    plain_lowered kind.Comma of line (Cores a cs) plain tame fair ps is l le = comma_comes a cs ps.0 ps.1 l le
+    plain_lowered kind.Comma of line (Cores a cs) plain tame fair ps is l le = comma_comes (λ r. r) (λ r go. refl) a cs (all_in_comma a cs ps.0 ps.1) l le
     plain_lowered kind.Assign of line (Cores a (Cores b NoCore)) plain tame fair ps is l le =
         two a b ps.0 ps.1.0 is.1.0 (λ p q l1. low_change.assigned_by (is_record of) x of (spot_of a) p q l1) (λ p q l1. assigned_extends (is_record of) of a p q l1) _
         (assigned_goes of a tame.1.0 (line_of b) line (is_record of)) l le

@@ -16,8 +16,9 @@ use Rattle.c_runs.specs.Expressions.{place}
 use Rattle.c_runs.specs.Places.{static_place, place_of_object, place_of_text, size_of}
 use Rattle.c_runs.specs.Worlds as c
 use Rattle.c_agreement.specs.Called.{AreValues}
-use Rattle.c_match.specs.Ranges.{Map}
+use Rattle.c_match.specs.Ranges.{Map, Grown}
 use Rattle.c_match.specs.Values.{IsValue, StaysInside}
+use Rattle.c_match.proofs.lemmas.Growing.{value_grows}
 use Rattle.c_match_worlds.proofs.lemmas.Keeping.{own_stands}
 use Rattle.c_rows_agree.specs.Integers.{number}
 use Rattle.c_rows_agree.specs.Templates.{Scene as Seen, Gives as GivesWord}
@@ -131,6 +132,24 @@ module _ (s : Scene) (locals : ℕ) (body : IsBody s locals) (y : FrameLayout) (
       has_by (address_at z) p (address_set (λ m. None) here z) (address_waits z)
       (record { word = u.0; gives = address_is s map values w z u.0 (laid.addresses n of z u.0 typed whole placed_at u.1); is = u.2 })
 
+  -- whatever follows, its address has a word, and its value where further objects have ranges
+  module _ (n : ℕ) (of : CType) (z : ℤ) (p : Value) (typed : slice_get y.types n ≡ Some of) (whole : is_passed_whole (context_in s y) n of ≡ false) (placed_at : slice_get y.places n ≡ Some z) (e : slice_get old.locals n ≡ Some p) where
+    pub address_word : (later : Map) (others : ℕ → Word) (world : World) → HasWord s (address_at z) later others world
+    address_word later others world =
+        let u = value_at map old.locals s.frame.addresses n p st.stands.frame.locals e in
+        let is = laid.addresses n of z u.0 typed whole placed_at u.1 in
+        record { word = u.0; gives = address_is s later others world z u.0 is; is = word_given (address_at z) u.0 (address_set (λ m. None) here z) (address_is s map values w z u.0 is); waits = address_waits z }
+
+    pub address_later : (later : Map) → Grown map later → (others : ℕ → Word) (world : World) → HasValue s (address_at z) later others world p
+    address_later later grown others world =
+        let u = value_at map old.locals s.frame.addresses n p st.stands.frame.locals e in
+        let is = laid.addresses n of z u.0 typed whole placed_at u.1 in
+        record {
+          holds = record { word = u.0; gives = address_is s later others world z u.0 is; is = value_grows map later p u.0 grown u.2 };
+          word = word_given (address_at z) u.0 (address_set (λ m. None) here z) (address_is s map values w z u.0 is);
+          waits = address_waits z;
+        }
+
   -- a structure that was passed: its address is read
   module _ (n : ℕ) (of : CType) (z : ℤ) (p : Value) (typed : slice_get y.types n ≡ Some of) (whole : is_passed_whole (context_in s y) n of ≡ true) (placed_at : slice_get y.places n ≡ Some z) (wholes : HoldsWholes s y w) where
     pub whole_holds : slice_get old.locals n ≡ Some p → Holds here (loaded_pointer (address_at z)) p
@@ -138,7 +157,7 @@ module _ (s : Scene) (locals : ℕ) (body : IsBody s locals) (y : FrameLayout) (
         let q = laid.wholes n of z typed whole placed_at in
         let a = Plain (Pointer q.name q.offset) in
         let u = value_at map old.locals s.frame.addresses n p st.stands.frame.locals e in
-        let read = wholes n of z a u.0 typed whole placed_at q.is u.1 in
+        let read = wholes.words n of z a u.0 typed whole placed_at q.is u.1 in
         record { word = u.0; gives = (a, p_gives here (address_at z).suffix (address_at z).tree a (address_is s map values w z a q.is), ap gave read); is = u.2 }
 
     whole_apart : IsApart (keeps_at s.body l.pieces l.entries f) (let q = laid.wholes n of z typed whole placed_at in Plain (Pointer q.name q.offset))

@@ -12,7 +12,7 @@ use Rattle.c_meaning.specs.Values.{CoreTree}
 use Rattle.c_runs.specs.Expressions.{eval}
 use Rattle.c_runs.specs.Outcomes.{Result, Gives, GivesNone, Ends, then_give, then_drop, gives}
 use Rattle.c_runs.specs.Run.{context}
-use Rattle.c_runs.specs.Soundness.{IsTame, IsSoundValue, IsSoundResult, EvalStaysSound}
+use Rattle.c_runs.specs.Soundness.{Outline, outlines, IsTame, IsSoundValue, IsSound, Keeps, AreObjectsOf, IsSoundResult, EvalStaysSound}
 use Rattle.c_runs.specs.Worlds as c
 use Rattle.c_match.specs.Ranges.{Map}
 use Rattle.c_rows_agree.specs.Typed.{Typed, Holds}
@@ -31,7 +31,7 @@ use Rattle.lowered_forms.proofs.lemmas.Adding.{lowering_adds}
 use Rattle.lowered_forms.proofs.lemmas.Blocks.{within_more}
 use Rattle.lowered_forms.proofs.lemmas.NodesOf.{values_have_nodes}
 use Rattle.lowered_forms.proofs.lemmas.WithinTemplates.{HasIn}
-use Rattle.c_straight_agree.specs.Agreement.{HasValue, Came, CameTo, IsPart}
+use Rattle.c_straight_agree.specs.Agreement.{HasValue, Came, CameTo, without_value, IsPart}
 use Rattle.c_straight_agree.specs.Layouts.{FrameLayout, context_in, IsLaidOut, HoldsWholes}
 use Rattle.c_straight_agree.specs.Extends.{Extends}
 use Rattle.c_straight_agree.specs.Lasting.{LastingValue}
@@ -56,19 +56,27 @@ value_later made more (Function f) le h = h
 abbrev pub result : Scene → CoreTree → ℕ → c.World → Result
 result s e k old = eval (context s.unit s.lowered.order) e k old
 
+-- where the same objects live and the running call has the same locals
+pub sound_on : (s : Scene) (before old : c.World) → IsSoundIn s before → IsSound s.unit old → Keeps before old → IsSoundIn s old
+sound_on s before old h sound keeps = record {
+  sound = sound;
+  locals = subst (λ (vs : List Value). AreObjectsOf s.unit.tags (outlines (c.objects old)) s.frame.types vs) (sym keeps.locals) (subst (λ (xs : List Outline). AreObjectsOf s.unit.tags xs s.frame.types before.locals) (sym keeps.lives) h.locals);
+  short = short_kept (c.objects before) (c.objects old) keeps.lives h.short;
+}
+
 -- behind an expression that gives a value
 pub record IsSoundBehind (s : Scene) (v : Value) (before old : c.World) : Type 0 where
   pub world : IsSoundIn s old
   pub value : IsSoundValue old.storage.made v
-  pub made : before.storage.made ≤ old.storage.made
+  pub keeps : Keeps before old
 
 pub sound_behind : (s : Scene) (locals : ℕ) → IsBody s locals → EvalStaysSound → (e : CoreTree) → IsTame e → (k j : ℕ) (v : Value) (before old : c.World) → IsSoundIn s before → result s e k before ≡ Gives v j old → IsSoundBehind s v before old
 sound_behind s locals body evals e tame k j v before old h is =
     let r = subst (IsSoundResult s.unit before) is (evals s.unit s.lowered.order e k before body.tame tame h.sound) in
     record {
-      world = record { sound = r.1.0; short = short_kept (c.objects before) (c.objects old) r.1.1.lives h.short };
+      world = sound_on s before old h r.1.0 r.1.1;
       value = r.0;
-      made = r.1.1.made;
+      keeps = r.1.1;
     }
 
 -- and behind any expression
@@ -77,11 +85,11 @@ sound_result s locals body evals e tame k before h = evals s.unit s.lowered.orde
 
 -- what isn't used
 pub drops_sound : (s : Scene) (start : ℕ → Outcome) (turns : ℕ) (l m p : Low) (h : Front s.body.pieces m.pieces m.entries) (q : Front s.body.pieces p.pieces p.entries) (a b : Typed) (map : Map) (before : c.World) (values : ℕ → Word) (first : World) → IsSoundIn s before
-    → (r : Result) (go : ℕ → c.World → Result) → IsSoundResult s.unit before r → CameTo s start turns l m h a map before values first r
-    → ((v : Option Value) (k : ℕ) (old : c.World) → IsSoundIn s old → Came s start turns l m h a map before values first v old k → CameTo s start turns l p q b map before values first (go k old))
+    → (r : Result) (go : ℕ → c.World → Result) → IsSoundResult s.unit before r → CameTo s start turns l m h a map before values first (without_value r)
+    → ((k : ℕ) (old : c.World) → IsSoundIn s old → Came s start turns l m h a map before values first None old k → CameTo s start turns l p q b map before values first (go k old))
     → CameTo s start turns l p q b map before values first (then_drop r go)
-drops_sound s start turns l m p h q a b map before values first so (Gives v k old) go sound one next = next (Some v) k old (record { sound = sound.1.0; short = short_kept (c.objects before) (c.objects old) sound.1.1.lives so.short }) one
-drops_sound s start turns l m p h q a b map before values first so (GivesNone line k old) go sound one next = next None k old (record { sound = sound.0; short = short_kept (c.objects before) (c.objects old) sound.1.lives so.short }) one
+drops_sound s start turns l m p h q a b map before values first so (Gives v k old) go sound one next = next k old (sound_on s before old so sound.1.0 sound.1.1) one
+drops_sound s start turns l m p h q a b map before values first so (GivesNone line k old) go sound one next = next k old (sound_on s before old so sound.0 sound.1) one
 drops_sound s start turns l m p h q a b map before values first so (Ends how old) go sound one next = ends_so s start turns l m p h q a b map before values first how old one
 
 -- ---- parts
@@ -188,7 +196,7 @@ module _ (s : Scene) (locals : ℕ) (body : IsBody s locals) where
         let within = (values_have_nodes x a l st.block).value in
         joins s start turns l1 l2 r.low h2 h q r.value one.later old1 one.others one.world (Some u) old2 k2 (extends_slots l1 l2 x2) (grows_by l1 l2 r.low x2 x3) two (act v u k2 old2)
         (goes l2 (slots_later l1 l2 x2.slots le1) p q (within_more (node_count l1.entries) (node_count l2.entries) p.tree (extends_nodes l1 l2 x2) within) (values_have_nodes x b l1 one.stands.block).value v u start turns h2 h two.later old2 two.others two.world k2 slots two.stands so2.world
-        (value_later old1.storage.made old2.storage.made v so2.made so.value) so2.value
+        (value_later old1.storage.made old2.storage.made v so2.keeps.made so.value) so2.value
         (lasting_value s locals (length l2.slots) p two.later two.others two.world v (value_stays s one.later two.later two.grown one.others two.others one.world two.world two.alike (node_count l1.entries) (two.kept (extends_grows l1 l2 x2)) p v within one.has))
         two.has))))
 

@@ -16,8 +16,9 @@ use Rattle.piece_runs.specs.Pieces.{Front}
 use Rattle.c_expr_agreement.specs.Scenes.{Scene}
 use Rattle.lowered_forms.specs.Lows.{Low}
 use Rattle.c_straight_agree.specs.Agreement.{IsTaken, IsLeftBut, Came}
-use Rattle.c_straight_agree.specs.Layouts.{FrameLayout, IsWordPlace, IsLaidOut, HoldsWholes}
+use Rattle.c_straight_agree.specs.Layouts.{FrameLayout, IsWordPlace, IsLaidOut, HoldAddresses, HoldsWholes}
 use Rattle.c_straight_agree.specs.Standing.{Standing}
+use Rattle.c_straight_agree.proofs.lemmas.Opens.{opens_stay}
 use Rattle.c_straight_agree.proofs.lemmas.Putting.{each_at}
 
 pub same_address : (a b : Word) → Some a ≡ Some b → a ≡ b
@@ -28,9 +29,9 @@ pub words_not_taken : (s : Scene) (z : ℤ) (p : IsWordPlace s z) (from : ℕ) �
 words_not_taken s z p from taken = (let a = taken.1 in let b = p.behind in omega (arith, a, b))
 
 -- where they hold nothing of C, and what holds nothing of C is left but for slots that the lowering takes
-pub wholes_left : (s : Scene) (y : FrameLayout) → IsLaidOut s y → (map : Map) (before : c.World) (first world : World) → EachIs (λ place. (place < length first.objects) × IsPrivate map (c.objects before) place) s.frame.others → AreAlike first.objects world.objects
-    → (from : ℕ) → IsLeftBut s from map (c.objects before) first.objects world.objects → HoldsWholes s y first → HoldsWholes s y world
-wholes_left s y laid map before first world others alike from left wholes n of z b u typed whole at is address =
+addresses_left : (s : Scene) (y : FrameLayout) → IsLaidOut s y → (map : Map) (before : c.World) (first world : World) → EachIs (λ place. (place < length first.objects) × IsPrivate map (c.objects before) place) s.frame.others → AreAlike first.objects world.objects
+    → (from : ℕ) → IsLeftBut s from map (c.objects before) first.objects world.objects → HoldAddresses s y first → HoldAddresses s y world
+addresses_left s y laid map before first world others alike from left wholes n of z b u typed whole at is address =
     let p = laid.wholes n of z typed whole at in
     let there = each_at (λ place. (place < length first.objects) × IsPrivate map (c.objects before) place) s.frame.others p.among.0 p.name.place others p.among.1 in
     let same = left p.name.place there.0 there.1 (words_not_taken s z p from) in
@@ -40,6 +41,13 @@ wholes_left s y laid map before first world others alike from left wholes n of z
     ∙ sym (word_read_alike order first.objects world.objects p.name p.offset alike (sym same))
     ∙ ap (λ (w : Word). word_read order first.objects w) (sym here)
     ∙ wholes n of z b u typed whole at is address
+
+pub wholes_left : (s : Scene) (y : FrameLayout) → IsLaidOut s y → (map : Map) (before : c.World) (first world : World) → EachIs (λ place. (place < length first.objects) × IsPrivate map (c.objects before) place) s.frame.others → AreAlike first.objects world.objects
+    → (from : ℕ) → IsLeftBut s from map (c.objects before) first.objects world.objects → HoldsWholes s y first → HoldsWholes s y world
+wholes_left s y laid map before first world others alike from left wholes = record {
+  words = addresses_left s y laid map before first world others alike from left wholes.words;
+  opens = opens_stay s.frame.addresses first.objects world.objects alike wholes.opens;
+}
 
 pub wholes_stay : (s : Scene) (y : FrameLayout) → IsLaidOut s y → (start : ℕ → Outcome) (turns : ℕ) (l m : Low) (f : Front s.body.pieces l.pieces l.entries) (h : Front s.body.pieces m.pieces m.entries) (a : Typed) (map : Map) (before : c.World) (values : ℕ → Word) (first : World) (k : ℕ) → Standing s start turns l f map before values first k
     → (v : Option Value) (old : c.World) (j : ℕ) → (one : Came s start turns l m h a map before values first v old j) → HoldsWholes s y first → HoldsWholes s y one.world

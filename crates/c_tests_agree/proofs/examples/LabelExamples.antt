@@ -36,7 +36,7 @@ scene = record {
   own = 0;
   lowered = record { functions = []; objects = []; names = []; order = Little };
   body = body;
-  frame = record { addresses = []; others = [] };
+  frame = record { types = []; addresses = []; others = [] };
 }
 
 -- ---- the label stands once

@@ -1,0 +1,2 @@
+mod MoveExamples
+mod CheckedExamples

@@ -1,0 +1,10 @@
+pub mod Targets
+pub mod Moving
+pub mod Places
+pub mod Wholes
+pub mod BuiltIns
+pub mod Naming
+pub mod Functions
+pub mod Units
+pub mod Modest
+pub mod Texts

@@ -1,0 +1,4 @@
+pub mod Moves
+pub mod Checked
+pub mod Laws
+pub mod Modest

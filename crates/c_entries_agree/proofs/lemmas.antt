@@ -1,0 +1,17 @@
+pub mod Places
+pub mod Addresses
+pub mod Others
+pub mod Above
+pub mod Frames
+pub mod Counting
+pub mod Stored
+pub mod Beginnings
+pub mod Given
+pub mod Holding
+pub mod Kinds
+pub mod Clear
+pub mod Homes
+pub mod Opening
+pub mod Storing
+pub mod Filling
+pub mod Entering

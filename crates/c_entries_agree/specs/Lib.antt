@@ -1,0 +1,4 @@
+pub mod Standpoints
+pub mod Lowered
+pub mod Activations
+pub mod Laws

@@ -1,0 +1,3 @@
+pub mod Bodies
+pub mod Returning
+pub mod Knot
