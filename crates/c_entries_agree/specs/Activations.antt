@@ -29,11 +29,11 @@ use Rattle.c_straight_agree.specs.Layouts.{FrameLayout}
 use Rattle.c_stmt_agreement.specs.Comings.{Activation, Origin, Ending}
 use Rattle.c_stmt_agreement.specs.LoweredStmt.{StandsAt}
 use Rattle.c_entries_agree.specs.Standpoints.{frame_of}
-use Rattle.c_entries_agree.specs.Lowered.{IsLoweredFunction}
+use Rattle.c_entries_agree.specs.Lowered.{IsFunctionLowering}
 
 -- ---- a call of the function of a number, from a world of forests
 
-module _ (u : UnitTree) (l : LoweredUnit) (number : ℕ) (f : FunctionTree) (x : IsLoweredFunction u l number f) where
+module _ (u : UnitTree) (l : LoweredUnit) (number : ℕ) (f : FunctionTree) (x : IsFunctionLowering u l number f) where
   abbrev pub lowering : Function
   lowering = function_in u l.order number x.tables f
 

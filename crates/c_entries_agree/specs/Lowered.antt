@@ -23,7 +23,7 @@ use Rattle.lowered_statements.specs.Layouts.{words_of}
 
 -- The function of this number: it has the name of this number, its lowering's slots and roots, wherever it is at home, and a word for each parameter and for a
 -- structure result; and its blocks are split.
-pub record IsLoweredFunction (u : UnitTree) (l : LoweredUnit) (number : ℕ) (f : FunctionTree) : Type 0 where
+pub record IsFunctionLowering (u : UnitTree) (l : LoweredUnit) (number : ℕ) (f : FunctionTree) : Type 0 where
   pub tables : ℕ
   pub function : LoweredFunction
   pub named : function_of l number ≡ Some function
@@ -33,8 +33,8 @@ pub record IsLoweredFunction (u : UnitTree) (l : LoweredUnit) (number : ℕ) (f 
   pub split : (done rest : List Piece) (before : List Slot) (es : List Entry) → (low_f u l.order number tables f).low.pieces ≡ done ++ OfBlock before es ∷ rest → Split before es
 
 -- its functions are so; and its objects and texts, in order, are the first objects
-pub record IsLoweredUnit (u : UnitTree) (l : LoweredUnit) : Type 0 where
-  pub functions : (number : ℕ) (f : FunctionTree) → slice_get u.functions number ≡ Some f → IsLoweredFunction u l number f
+pub record IsLoweringOf (u : UnitTree) (l : LoweredUnit) : Type 0 where
+  pub functions : (number : ℕ) (f : FunctionTree) → slice_get u.functions number ≡ Some f → IsFunctionLowering u l number f
   pub own : own_count u ≤ length l.objects
   pub objects : (n : ℕ) → n < length u.objects → value_of l (object_name u n) ≡ Some (pointer_to l n)
   pub texts : (n : ℕ) → n < length u.texts → value_of l (text_name u n) ≡ Some (pointer_to l (length u.objects + n))

@@ -23,14 +23,14 @@ use Rattle.c_stmts_agree.specs.Parts.{PartsAgree}
 use Rattle.c_stmts_agree.specs.Tables.{HasTables}
 use Rattle.c_entries_agree.specs.Activations.{lowering, activation, ending, start_of, first_body, Enters}
 use Rattle.c_entries_agree.specs.Laws.{IsCallOf}
-use Rattle.c_entries_agree.specs.Lowered.{IsLoweredFunction, IsLoweredUnit, HasLocalsWithRoom}
+use Rattle.c_entries_agree.specs.Lowered.{IsFunctionLowering, IsLoweringOf, HasLocalsWithRoom}
 
 -- ---- calls return
 
 -- What the body comes to from where it begins, the call comes to: its result is given, and its objects end.
 abbrev pub CallsReturn : Type 0
 CallsReturn =
-    (u : UnitTree) (l : LoweredUnit) (f : FunctionTree) (a : Call) (map : Map) (w : World) → IsCallOf u l f a map w → (x : IsLoweredFunction u l a.function f) → (k : ℕ) (old : c.World) (e : Enters u l a.function f x a map w k old)
+    (u : UnitTree) (l : LoweredUnit) (f : FunctionTree) (a : Call) (map : Map) (w : World) → IsCallOf u l f a map w → (x : IsFunctionLowering u l a.function f) → (k : ℕ) (old : c.World) (e : Enters u l a.function f x a map w k old)
     → (r : Out) → IsSoundOut u old r
     → CameBack (activation u l a.function f x a w) (ending u l a.function f x a) (record { start = start_of u l a.function f x w; turns = k; map = e.later; old = old; world = e.world }) r
     → CameTo (pair_of u l a map w) k (returned u.tags a r)
@@ -40,7 +40,7 @@ CallsReturn =
 -- the parts of the statements of each function agree, wherever a call of it has a frame, and the tables of its switches are objects of the unit
 abbrev pub BodiesAgree : UnitTree → LoweredUnit → Type 0
 BodiesAgree u l =
-    (f : FunctionTree) (a : Call) (map : Map) (w : World) → IsCallOf u l f a map w → (x : IsLoweredFunction u l a.function f)
+    (f : FunctionTree) (a : Call) (map : Map) (w : World) → IsCallOf u l f a map w → (x : IsFunctionLowering u l a.function f)
     → HasFrame (activation u l a.function f x a w) → AreMarkedOnce (activation u l a.function f x a w).scene.body
     → PartsAgree (activation u l a.function f x a w) (lowering u l a.function f x) (ending u l a.function f x a) f.body
     × HasTables (activation u l a.function f x a w) (lowering u l a.function f x) (low_s (lowering u l a.function f x) no_exits f.body (first_body u l a.function f x))
@@ -52,4 +52,4 @@ pub record IsFairFunction (u : UnitTree) (f : FunctionTree) : Type 0 where
 
 -- Each function of a checked unit agrees with that of its lowering.
 abbrev pub UnitsAgree : Type 0
-UnitsAgree = (u : UnitTree) (l : LoweredUnit) → IsUnit u → EachIs (IsFairFunction u) u.functions → IsLoweredUnit u l → BodiesAgree u l → UnitAgrees u l
+UnitsAgree = (u : UnitTree) (l : LoweredUnit) → IsUnit u → EachIs (IsFairFunction u) u.functions → IsLoweringOf u l → BodiesAgree u l → UnitAgrees u l

@@ -16,7 +16,7 @@ use Rattle.c_agreement.specs.Called.{AreValues, behind_hidden, passed_values}
 use Rattle.lowered_statements.specs.Layouts.{first_word, hidden_words, words_of}
 use Rattle.c_straight_agree.proofs.lemmas.Putting.{each_at}
 use Rattle.c_entries_agree.specs.Laws.{IsCallOf}
-use Rattle.c_entries_agree.specs.Lowered.{IsLoweredFunction}
+use Rattle.c_entries_agree.specs.Lowered.{IsFunctionLowering}
 use Rattle.c_entries_agree.proofs.lemmas.Frames.{fit, result_is_whole, result_whole}
 
 values_count : (map : Map) (vs : List Value) (ws : List Word) → AreValues map vs ws → length ws ≡ length vs
@@ -40,7 +40,7 @@ taken_count zero xs le = refl
 taken_count (suc n) [] le = absurd (let never : ⊥ = omega (arith, le) in never)
 taken_count (suc n) (x ∷ xs) le = ap suc (taken_count n xs (omega (arith, le)))
 
-module _ (u : UnitTree) (l : LoweredUnit) (f : FunctionTree) (a : Call) (map : Map) (w : World) (is : IsCallOf u l f a map w) (x : IsLoweredFunction u l a.function f) where
+module _ (u : UnitTree) (l : LoweredUnit) (f : FunctionTree) (a : Call) (map : Map) (w : World) (is : IsCallOf u l f a map w) (x : IsFunctionLowering u l a.function f) where
   pub is_function : IsFunction u f
   is_function = each_at (IsFunction u) u.functions a.function f is.checked.functions is.defined
 

@@ -84,7 +84,7 @@ use Rattle.c_stmt_agreement.specs.LoweredStmt.{StandsAt}
 use Rattle.c_stmts_agree.proofs.lemmas.Backing.{statement_back}
 use Rattle.c_entries_agree.specs.Activations.{lowering, scene_of, frame_layout, activation, opened_world, first_body, start_of, Enters}
 use Rattle.c_entries_agree.specs.Laws.{IsCallOf, CallsEnter}
-use Rattle.c_entries_agree.specs.Lowered.{IsLoweredFunction, HasRoom}
+use Rattle.c_entries_agree.specs.Lowered.{IsFunctionLowering, HasRoom}
 use Rattle.c_entries_agree.specs.Standpoints.{Standpoint, InSlot, InWord, AsPassed, slot_behind_all, standpoints, local_address, local_addresses, is_home}
 use Rattle.c_entries_agree.proofs.lemmas.Above.{one_there, objects_live}
 use Rattle.c_entries_agree.proofs.lemmas.Addresses.{word_address, one_address, is_passed, standpoint_passed}
@@ -231,7 +231,7 @@ open_so P o i old e h = subst (λ (r : Out). IfOpen r P) e h
 -- ---- the call
 
 module _ (chars : CharsAreNarrow) (shorts : ShortsAreNarrow) (frames : FunctionsHaveFrames) (adds : FunctionsAdd) (tame : UnitsAreTame) (begins_so : CheckedCallsHaveLocals) (fitting : FittingIsPassed)
-    (u : UnitTree) (l : LoweredUnit) (f : FunctionTree) (a : Call) (map : Map) (w : World) (is : IsCallOf u l f a map w) (x : IsLoweredFunction u l a.function f)
+    (u : UnitTree) (l : LoweredUnit) (f : FunctionTree) (a : Call) (map : Map) (w : World) (is : IsCallOf u l f a map w) (x : IsFunctionLowering u l a.function f)
     (k : ℕ) (callees : (j : ℕ) → j < k → (callee : ℕ) → callee < length u.functions → ComesWith u l callee j) (i : ℕ) (old : c.World) (starts : body_start u l.order f a.function a.arguments k a.world ≡ Next i old) where
   abbrev s : Scene
   s = scene_of u l a.function f x w

@@ -60,7 +60,7 @@ use Rattle.c_straight_agree.proofs.lemmas.Finals.{back_steps}
 use Rattle.c_straight_agree.proofs.lemmas.Putting.{each_at, alike_length}
 use Rattle.c_entries_agree.specs.Activations.{lowering, scene_of, frame_layout, opened_world, start_of}
 use Rattle.c_entries_agree.specs.Laws.{IsCallOf}
-use Rattle.c_entries_agree.specs.Lowered.{IsLoweredFunction}
+use Rattle.c_entries_agree.specs.Lowered.{IsFunctionLowering}
 use Rattle.c_entries_agree.specs.Standpoints.{standpoints}
 use Rattle.c_entries_agree.proofs.lemmas.Beginnings.{Beginning, Made, begin_all, filled, fills, its_name, its_local, its_outline}
 use Rattle.c_entries_agree.proofs.lemmas.Frames.{OwnAt, is_body, is_laid, one, own_address, address_there}
@@ -70,7 +70,7 @@ use Rattle.c_entries_agree.proofs.lemmas.Kinds.{narrow_is_scalar, narrow_width}
 use Rattle.c_entries_agree.proofs.lemmas.Places.{StandsOne}
 use Rattle.c_entries_agree.proofs.lemmas.Storing.{still_open, word_at, parameter_came}
 
-module _ (u : UnitTree) (l : LoweredUnit) (f : FunctionTree) (a : Call) (map : Map) (w : World) (is : IsCallOf u l f a map w) (x : IsLoweredFunction u l a.function f) (frames : FunctionsHaveFrames) (adds : FunctionsAdd) (tame : UnitsAreTame) where
+module _ (u : UnitTree) (l : LoweredUnit) (f : FunctionTree) (a : Call) (map : Map) (w : World) (is : IsCallOf u l f a map w) (x : IsFunctionLowering u l a.function f) (frames : FunctionsHaveFrames) (adds : FunctionsAdd) (tame : UnitsAreTame) where
   abbrev s : Scene
   s = scene_of u l a.function f x w
 

@@ -47,7 +47,7 @@ use Rattle.c_straight_agree.proofs.lemmas.Checked.{types_whole}
 use Rattle.c_straight_agree.proofs.lemmas.Kept.{front_length}
 use Rattle.c_stmt_agreement.specs.Comings.{HasFrame}
 use Rattle.c_entries_agree.specs.Standpoints.{Standpoint, InSlot, InWord, AsPassed, standpoints, local_address, local_addresses, others_of}
-use Rattle.c_entries_agree.specs.Lowered.{IsLoweredFunction, IsLoweredUnit}
+use Rattle.c_entries_agree.specs.Lowered.{IsFunctionLowering, IsLoweringOf}
 use Rattle.c_entries_agree.specs.Activations.{scene_of, frame_layout, activation}
 use Rattle.c_entries_agree.specs.Laws.{IsCallOf}
 use Rattle.c_entries_agree.proofs.lemmas.Above.{one_there, objects_live}
@@ -71,7 +71,7 @@ one_hidden : (whole : Bool) → whole ≡ true → 0 < hidden_words whole
 one_hidden true e = omega arith
 one_hidden false e = absurd (true≢false (sym e))
 
-module _ (u : UnitTree) (l : LoweredUnit) (f : FunctionTree) (a : Call) (map : Map) (w : World) (is : IsCallOf u l f a map w) (x : IsLoweredFunction u l a.function f) where
+module _ (u : UnitTree) (l : LoweredUnit) (f : FunctionTree) (a : Call) (map : Map) (w : World) (is : IsCallOf u l f a map w) (x : IsFunctionLowering u l a.function f) where
   abbrev pub home : Home
   home = home_in a.function (body_of x.function) w
 

@@ -27,10 +27,10 @@ use Rattle.lowered_statements.specs.Layouts.{first_word, hidden_words, words_of}
 use Rattle.c_straight_agree.proofs.lemmas.Putting.{each_at}
 use Rattle.c_entries_agree.specs.Activations.{body_run, opened_world, start_of}
 use Rattle.c_entries_agree.specs.Laws.{IsCallOf}
-use Rattle.c_entries_agree.specs.Lowered.{IsLoweredFunction}
+use Rattle.c_entries_agree.specs.Lowered.{IsFunctionLowering}
 use Rattle.c_entries_agree.proofs.lemmas.Counting.{words_there}
 
-module _ (u : UnitTree) (l : LoweredUnit) (f : FunctionTree) (a : Call) (map : Map) (w : World) (is : IsCallOf u l f a map w) (x : IsLoweredFunction u l a.function f) where
+module _ (u : UnitTree) (l : LoweredUnit) (f : FunctionTree) (a : Call) (map : Map) (w : World) (is : IsCallOf u l f a map w) (x : IsFunctionLowering u l a.function f) where
   -- ---- so the call runs the body
 
   if_there : {A : Type 0} (b : Bool) (y z : A) → b ≡ true → (if b then y else z) ≡ y

@@ -40,7 +40,7 @@ use Rattle.c_stmts_agree.specs.Labels.{FunctionsMarkOnce}
 use Rattle.c_stmts_agree.specs.Ways.{IsEnding}
 use Rattle.c_entries_agree.specs.Activations.{lowering, activation, ending, first_body, start_of}
 use Rattle.c_entries_agree.specs.Laws.{IsCallOf, CallsHaveFrames, CallsEnter}
-use Rattle.c_entries_agree.specs.Lowered.{IsLoweredFunction, IsLoweredUnit}
+use Rattle.c_entries_agree.specs.Lowered.{IsFunctionLowering, IsLoweringOf}
 use Rattle.c_entries_agree.proofs.lemmas.Above.{one_there}
 use Rattle.c_entries_agree.proofs.lemmas.Frames.{result_whole}
 use Rattle.c_entries_agree.proofs.lemmas.Stored.{stored_slots}
@@ -76,7 +76,7 @@ parameters_begin tags order (t ∷ ts) (x ∷ xs) go h k w =
 
 module _ (sound : ExecStaysSound) (tame : UnitsAreTame) (starts : BodiesStart) (calls : CallIs) (marks : FunctionsMarkOnce) (labelled : FunctionsHaveLabels) (jumps : CheckedJumpsStay) (agree : FunctionBodiesAgree) (frames : CallsHaveFrames) (enter : CallsEnter) (return : CallsReturn)
     (u : UnitTree) (l : LoweredUnit) (bodies : BodiesAgree u l) (k : ℕ) (callees : (j : ℕ) → j < k → (callee : ℕ) → callee < length u.functions → ComesWith u l callee j) where
-  module _ (f : FunctionTree) (a : Call) (map : Map) (w : World) (is : IsCallOf u l f a map w) (fair : IsFairFunction u f) (x : IsLoweredFunction u l a.function f) where
+  module _ (f : FunctionTree) (a : Call) (map : Map) (w : World) (is : IsCallOf u l f a map w) (fair : IsFairFunction u f) (x : IsFunctionLowering u l a.function f) where
     abbrev p : Activation
     p = activation u l a.function f x a w
 
@@ -134,7 +134,7 @@ module _ (sound : ExecStaysSound) (tame : UnitsAreTame) (starts : BodiesStart) (
 
   -- ---- each call of a function
 
-  module _ (checked : IsUnit u) (fair : EachIs (IsFairFunction u) u.functions) (lowered : IsLoweredUnit u l) where
+  module _ (checked : IsUnit u) (fair : EachIs (IsFairFunction u) u.functions) (lowered : IsLoweringOf u l) where
     pub function_comes : (function : ℕ) → function < length u.functions → ComesWith u l function k
     function_comes function lt a map w same called =
         let f = one_there u.functions function lt in

@@ -41,7 +41,7 @@ use Rattle.c_stmt_agreement.specs.Comings as came
 use Rattle.c_stmts_agree.specs.FunctionBodies.{CameBack}
 use Rattle.c_entries_agree.specs.Activations.{activation, ending, scene_of, start_of, Enters}
 use Rattle.c_entries_agree.specs.Laws.{IsCallOf}
-use Rattle.c_entries_agree.specs.Lowered.{IsLoweredFunction}
+use Rattle.c_entries_agree.specs.Lowered.{IsFunctionLowering}
 use Rattle.c_entries_agree.proofs.lemmas.Above.{one_there}
 use Rattle.c_entries_agree.proofs.lemmas.Frames.{fit, result_is_whole}
 use Rattle.c_functions_agree.proofs.lemmas.Bodies.{body_runs}
@@ -89,7 +89,7 @@ keeps_join a b d x y = record { made = (let p = x.made in let q = y.made in omeg
 
 -- ---- what the call comes to
 
-module _ (u : UnitTree) (l : LoweredUnit) (f : FunctionTree) (a : Call) (map : Map) (w : World) (is : IsCallOf u l f a map w) (x : IsLoweredFunction u l a.function f) (k : ℕ) (old : c.World) (e : Enters u l a.function f x a map w k old) where
+module _ (u : UnitTree) (l : LoweredUnit) (f : FunctionTree) (a : Call) (map : Map) (w : World) (is : IsCallOf u l f a map w) (x : IsFunctionLowering u l a.function f) (k : ℕ) (old : c.World) (e : Enters u l a.function f x a map w k old) where
   abbrev pair : CallPair
   pair = pair_of u l a map w
 
