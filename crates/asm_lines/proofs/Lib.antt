@@ -1,3 +1,4 @@
+pub mod lemmas
 pub mod AddressReads
 pub mod Blanks
 pub mod Commas

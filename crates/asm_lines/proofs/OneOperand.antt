@@ -2,7 +2,7 @@
 use Rattle.std.proofs.Common.{◌≡◌, ◌%◌, ◌^◌, ℕ, Bool, true, false, Option, Some, None, List, [], ◌∷◌, refl, sym, ap, subst, ◌∙◌, arith, decimal, codes, inl, inr}
 use Rattle.std.specs.Prelude.{◌<◌}
 use Rattle.lcc_text.specs.Decimal.{value_of}
-use Rattle.asm_lines.specs.Numerals.{value_decimal}
+use Rattle.asm_lines.proofs.lemmas.Numerals.{value_decimal}
 use Rattle.asm_lines.specs.Tokens.{Tok, Word, Dollar, Spaced}
 use Rattle.asm_lines.specs.declared.instruction.Address.{Address}
 use Rattle.asm_lines.specs.declared.instruction.Target.{Target}

@@ -12,7 +12,7 @@ use Rattle.asm_lines.specs.declared.token.Token.{Token}
 use Rattle.asm_lines.specs.Tokens.{Tok, Dollar, Spaced, tok_of, views}
 use Rattle.asm_lines.specs.Numbers.{IsNumber}
 use Rattle.asm_lines.specs.Operands.{IsRegister, RegisterThen, NameThen, ValueThen, IsTarget}
-use Rattle.asm_lines.specs.Numerals.{value_decimal}
+use Rattle.asm_lines.proofs.lemmas.Numerals.{value_decimal}
 
 -- a fact serves whether there is a value or not
 pub if_none : {A P : Type 0} (r : Option A) → P → IfNone r P

@@ -25,7 +25,7 @@ use Rattle.asm_lines.specs.Printed.{printed_label, operands_text, item_text, mor
 use Rattle.asm_lines.specs.Within.{IsWithin}
 use Rattle.asm_lines.specs.Printable.{IsNamed, IsPrintable}
 use Rattle.asm_lines.specs.ReadBack.{NoFeed, ReadsBack}
-use Rattle.asm_lines.specs.Written.{spaced, written, Fits, tab_spelled, word_spelled, label_spelled, feed_append, name_feed, no_feed, line_break}
+use Rattle.asm_lines.proofs.lemmas.Written.{spaced, written, Fits, tab_spelled, word_spelled, label_spelled, feed_append, name_feed, no_feed, line_break}
 use Rattle.asm_lines.proofs.PrintedTokens.{number_token, place_tokens, operand_tokens, place_written, operands_written, number_token_is, place_fits, operands_fit, is_count, is_sum, is_place, are_operands}
 
 -- ---- words are names

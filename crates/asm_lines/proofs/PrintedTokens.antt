@@ -21,8 +21,8 @@ use Rattle.asm_lines.specs.Operands.{IsRegister, ValueThen, IsTarget, IsBase, Pl
 use Rattle.asm_lines.specs.Printed.{register_text, value_text, target_text, place_text, based_text, operands_text}
 use Rattle.asm_lines.specs.Within.{IsValueWithin, IsTargetWithin, IsBaseWithin, IsInstructionWithin}
 use Rattle.asm_lines.specs.Printable.{IsNamed, IsTargetNamed, AreInstructionNames}
-use Rattle.asm_lines.specs.Numerals.{value_decimal, digits_decimal}
-use Rattle.asm_lines.specs.Written.{spaced, written, Fits, starts_symbol, digits_symbols}
+use Rattle.asm_lines.proofs.lemmas.Numerals.{value_decimal, digits_decimal}
+use Rattle.asm_lines.proofs.lemmas.Written.{spaced, written, Fits, starts_symbol, digits_symbols}
 
 abbrev pub register_token : ℕ → Tok
 register_token r = Dollar (decimal r)

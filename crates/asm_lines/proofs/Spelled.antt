@@ -6,7 +6,7 @@ use Rattle.lcc_text.specs.Classes.{in_class, AllIn}
 use Rattle.asm_lines.specs.Classes.{in_asm}
 use Rattle.asm_lines.specs.Tokens.{Tok, Word, Decimal, Hexadecimal, Dollar, Colon, Comma, Open, Close, Plus, Minus, Wrong, Spaced, text_of, IsToken}
 use Rattle.asm_lines.specs.Spelling.{IsNext, IsRemark, Starts, Spells, some_gap}
-use Rattle.asm_lines.specs.Next.{kind_of, same_kind}
+use Rattle.asm_lines.proofs.lemmas.Next.{kind_of, same_kind}
 
 -- ---- blanks and comments
 

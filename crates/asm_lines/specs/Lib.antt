@@ -1,9 +1,6 @@
 pub mod Classes
 pub mod Tokens
 pub mod Spelling
-pub mod Numerals
-pub mod Next
-pub mod Written
 pub mod Numbers
 pub mod Words
 pub mod Operands
@@ -15,4 +12,3 @@ pub mod Printed
 pub mod Within
 pub mod Printable
 pub mod ReadBack
-pub mod LabelBack

@@ -22,7 +22,7 @@ struct Next<'a> {
 }
 
 /// The kind of the sign that is this byte.
-#[tactic(auto, using(crate::specs::Next::no_sign))]
+#[tactic(auto, using(crate::proofs::lemmas::Next::no_sign))]
 fn sign_of(byte: u8) -> Option<Kind>
     ensures some { IfSome result (λ k. IsToken (tok_of k []) × (text_of (tok_of k []) ≡ byte ∷ [])) }
     ensures none { IfNone result ((k : Kinds) → IsToken (tok_of k []) → text_of (tok_of k []) ≢ byte ∷ []) }
@@ -39,7 +39,7 @@ fn sign_of(byte: u8) -> Option<Kind>
 }
 
 /// The name at the front.
-#[tactic(auto, using(crate::specs::Next::word_next, lcc_text::proofs::lemmas::Runs::run_pos))]
+#[tactic(auto, using(crate::proofs::lemmas::Next::word_next, lcc_text::proofs::lemmas::Runs::run_pos))]
 fn word<'a>(bytes: &'a [u8]) -> Next<'a>
     requires symbol { StartsIn (in_asm Symbol) bytes.now }
     requires no_digit { StopsIn (in_class Digit) bytes.now }
@@ -55,7 +55,7 @@ fn word<'a>(bytes: &'a [u8]) -> Next<'a>
 }
 
 /// The hexadecimal digits behind `0x` at the front.
-#[tactic(auto, using(crate::specs::Next::hex_behind, crate::specs::Next::no_hex))]
+#[tactic(auto, using(crate::proofs::lemmas::Next::hex_behind, crate::proofs::lemmas::Next::no_hex))]
 fn hexadecimal<'a>(bytes: &'a [u8]) -> Option<Next<'a>>
     ensures some { IfSome result (λ x. IsNext bytes.now (tok_of x.kind x.text.now) x.rest.now) }
     ensures shorter { IfSome result (λ x. length x.rest.now < length bytes.now) }
@@ -78,7 +78,7 @@ fn hexadecimal<'a>(bytes: &'a [u8]) -> Option<Next<'a>>
 }
 
 /// The number at the front.
-#[tactic(auto, using(crate::specs::Next::decimal_next, lcc_text::proofs::lemmas::Runs::run_pos))]
+#[tactic(auto, using(crate::proofs::lemmas::Next::decimal_next, lcc_text::proofs::lemmas::Runs::run_pos))]
 fn number<'a>(bytes: &'a [u8]) -> Next<'a>
     requires { StartsIn (in_class Digit) bytes.now }
     ensures next { IsNext bytes.now (tok_of result.kind result.text.now) result.rest.now }
@@ -98,7 +98,7 @@ fn number<'a>(bytes: &'a [u8]) -> Next<'a>
 }
 
 /// The name of a register, whose dollar sign is gone.
-#[tactic(auto, using(crate::specs::Next::dollar_next, crate::specs::Next::no_dollar))]
+#[tactic(auto, using(crate::proofs::lemmas::Next::dollar_next, crate::proofs::lemmas::Next::no_dollar))]
 fn dollar<'a>(bytes: &'a [u8]) -> Option<Next<'a>>
     ensures some { IfSome result (λ x. IsNext (36 ∷ bytes.now) (tok_of x.kind x.text.now) x.rest.now) }
     ensures shorter { IfSome result (λ x. length x.rest.now ≤ length bytes.now) }
@@ -116,7 +116,7 @@ fn dollar<'a>(bytes: &'a [u8]) -> Option<Next<'a>>
 }
 
 /// The longest token at the front, and the bytes behind it. None where no token begins.
-#[tactic(auto, using(crate::specs::Next::sign_next, crate::specs::Next::none_next, crate::specs::Next::none_empty))]
+#[tactic(auto, using(crate::proofs::lemmas::Next::sign_next, crate::proofs::lemmas::Next::none_next, crate::proofs::lemmas::Next::none_empty))]
 fn next_token<'a>(bytes: &'a [u8]) -> Option<Next<'a>>
     ensures some { IfSome result (λ x. IsNext bytes.now (tok_of x.kind x.text.now) x.rest.now) }
     ensures shorter { IfSome result (λ x. length x.rest.now < length bytes.now) }

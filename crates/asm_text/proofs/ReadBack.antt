@@ -3,7 +3,7 @@ use Rattle.std.proofs.Common.{◌≡◌, ◌+◌, ℕ, List, [], ◌∷◌, ◌+
 use Rattle.std.proofs.lemmas.List.Elements.{All-head, All-tail}
 use Rattle.std.specs.Prelude.{All}
 use Rattle.lcc_text.specs.Lines.{lines_of}
-use Rattle.asm_lines.specs.LabelBack.{labelled_back}
+use Rattle.asm_lines.proofs.lemmas.LabelBack.{labelled_back}
 use Rattle.asm_lines.specs.Printed.{printed_label, printed_statement}
 use Rattle.asm_lines.specs.ReadBack.{ReadsBack}
 use Rattle.asm_lines.specs.Statements.{IsStatement, IsLabelled}

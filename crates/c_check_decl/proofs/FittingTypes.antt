@@ -5,7 +5,7 @@ use Rattle.std.specs.Int.{bit_at}
 use Rattle.std.proofs.lemmas.Nat.Bits.{bit_at_or, bit_at-zero, same_from_bits}
 use Rattle.c_types.specs.CType.{CType, Plain, Array, Pointer, Function, Parameters, qualify}
 use Rattle.c_types.specs.Compatible.{compatible, lengths_fit, parameters_compatible}
-use Rattle.c_types.specs.Qualifying.{qualify_none}
+use Rattle.c_types.proofs.lemmas.Qualifying.{qualify_none}
 use Rattle.c_types.specs.Table.{Table}
 use Rattle.c_types.specs.declared.qualifiers.Qualifiers.{Qualifiers}
 use Rattle.c_check_decl.specs.Fitting.{Fits, FitsNone, under}

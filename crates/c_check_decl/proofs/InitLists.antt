@@ -22,7 +22,7 @@ use Rattle.c_check_expr.specs.Walks.{Walks}
 use Rattle.c_check_decl.specs.declared.declares.Declares.{Declares}
 use Rattle.c_check_decl.specs.Declares.{AreDeclaredIn, declares_in}
 use Rattle.c_check_decl.specs.DeclaredIn.{init_in, inits_in}
-use Rattle.c_check_decl.specs.DeclaresStay.{declares_later, declares_stay, together_assoc, together_nothing}
+use Rattle.c_check_decl.proofs.lemmas.DeclaresStay.{declares_later, declares_stay, together_assoc, together_nothing}
 
 -- ---- a list by steps
 

@@ -1,3 +1,4 @@
+pub mod lemmas
 mod DeclNodes
 mod DeclSpecifiers
 mod DeclarationWalks

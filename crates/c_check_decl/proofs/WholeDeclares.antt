@@ -16,7 +16,7 @@ use Rattle.c_meaning.specs.Types.{is_function}
 use Rattle.c_initialisers.specs.declared.filled.Filled.{Filled}
 use Rattle.c_initialisers.specs.FilledPlaces.{ArePlacesIn, filled_place_in}
 use Rattle.c_check_decl.specs.Declares.{AreFillsIn, IsMaybeFilledIn, maybe_filled_in, places_in, stmt_in}
-use Rattle.c_check_decl.specs.FillStmts.{fill_seen, fill_within}
+use Rattle.c_check_decl.proofs.lemmas.FillStmts.{fill_seen, fill_within}
 
 pub is_some_filled : (t : Table) (f : Option Filled) → is_some (maybe_filled_in t f) ≡ is_some f
 is_some_filled t None = refl

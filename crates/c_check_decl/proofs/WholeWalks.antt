@@ -18,7 +18,7 @@ use Rattle.c_initialisers.specs.declared.filled.Filled.{Filled}
 use Rattle.c_check_decl.specs.declared.declares.Declares.{Declares}
 use Rattle.c_check_decl.specs.declared.naming.Naming.{Naming}
 use Rattle.c_check_decl.specs.Declares.{AreDeclaredIn, declares_in, maybe_filled_in}
-use Rattle.c_check_decl.specs.DeclaresStay.{declares_later, declares_stay}
+use Rattle.c_check_decl.proofs.lemmas.DeclaresStay.{declares_later, declares_stay}
 use Rattle.c_check_decl.specs.Named.{naming_in}
 use Rattle.c_check_decl.proofs.DeclNodes.{decl_breaks, decl_fine}
 use Rattle.c_check_decl.proofs.WholeDeclares.{is_some_filled}

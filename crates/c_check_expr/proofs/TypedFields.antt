@@ -6,7 +6,7 @@ use Rattle.c_ast.specs.Trees.{Field, FieldTree, FieldTrees, Fields, Members, Mem
 use Rattle.c_symbols.specs.Scoping.{Scoping}
 use Rattle.c_types.specs.BitFields.{are_fields, is_field, is_field_type, is_field_width}
 use Rattle.c_types.specs.CType.{CType}
-use Rattle.c_types.specs.Extending.{fields_push}
+use Rattle.c_types.proofs.lemmas.Extending.{fields_push}
 use Rattle.c_types.specs.Layout.{MemberType}
 use Rattle.c_types.specs.declared.type_form.Member.{Member}
 use Rattle.c_types.specs.Table.{AreMembersBelow, Table}

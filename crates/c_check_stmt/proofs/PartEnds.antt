@@ -17,7 +17,7 @@ use Rattle.c_check_expr.specs.Known.{AreSymbolsIn}
 use Rattle.c_check_expr.specs.TypedIn.{expr_in}
 use Rattle.c_check_expr.specs.Walks.{Walks, core}
 use Rattle.c_check_decl.specs.Declares.{stmt_in}
-use Rattle.c_check_decl.specs.StmtsStay.{stmt_stays}
+use Rattle.c_check_decl.proofs.lemmas.StmtsStay.{stmt_stays}
 use Rattle.c_units.specs.Bodies.{Typed, at_stmt, done, in_loop, on_code}
 use Rattle.c_units.specs.Statements.{Around as AroundTrees, StmtNode}
 use Rattle.c_units.specs.Statements as node

@@ -9,8 +9,8 @@ use Rattle.c_check_decl.specs.declared.declares.Declares.{Declares}
 use Rattle.c_check_decl.specs.declared.declares.DefinedObject.{DefinedObject}
 use Rattle.c_check_decl.specs.declared.declares.LinkedName.{LinkedName}
 use Rattle.c_check_decl.specs.Declares.{AreDeclaredIn, AreLinkedIn, AreLocalsIn, AreObjectsIn, declares_in, defined_in, linked_in}
-use Rattle.c_check_decl.specs.DeclaresStay.{declares_later, declares_stay}
-use Rattle.c_check_decl.specs.StmtsStay.{stmt_later, stmt_stays}
+use Rattle.c_check_decl.proofs.lemmas.DeclaresStay.{declares_later, declares_stay}
+use Rattle.c_check_decl.proofs.lemmas.StmtsStay.{stmt_later, stmt_stays}
 use Rattle.c_check_function.specs.declared.function_definitions.Defines.{Defines}
 use Rattle.c_check_function.specs.Defined.{AreDefinedIn, defines_in}
 use Rattle.c_units.specs.Externals.{with_declared}

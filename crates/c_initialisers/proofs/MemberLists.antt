@@ -7,7 +7,7 @@ use Rattle.c_types.specs.CType.{CType, Plain, Array, Simple, Pointer, Function, 
 use Rattle.c_types.specs.Definitions.{AreComplete}
 use Rattle.c_types.specs.Layout.{Tag, extent}
 use Rattle.c_types.specs.Members.{MemberAt}
-use Rattle.c_types.specs.Qualifying.{qualify_none}
+use Rattle.c_types.proofs.lemmas.Qualifying.{qualify_none}
 use Rattle.c_types.specs.Table.{Table, member_seen, tags, type_at, types}
 use Rattle.c_meaning.specs.Filling.{Whole, found, moved_to, next, parts}
 use Rattle.c_meaning.specs.Types.{is_array}

@@ -13,7 +13,7 @@ use Rattle.objects.specs.declared.value.Value.TheVariants.{Number, Pointer, Func
 use Rattle.objects.specs.declared.width.Scalar.{Scalar}
 use Rattle.objects.specs.declared.width.Width.{Width}
 use Rattle.objects.specs.declared.width.Width.TheVariants.{One, Two, Four}
-use Rattle.objects.specs.AccessLaws.{bytes_count}
+use Rattle.objects.proofs.lemmas.AccessLaws.{bytes_count}
 use Rattle.objects.specs.Bytes.{unknown_byte}
 use Rattle.objects.specs.Causes.{first_cause, unless, is_narrowed}
 use Rattle.objects.specs.Conversions.{as_type, converted}

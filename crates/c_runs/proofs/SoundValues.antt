@@ -23,7 +23,7 @@ use Rattle.objects.specs.declared.width.Width.TheVariants.{One, Two, Four}
 use Rattle.objects.specs.Bytes.{low_bytes, number_bytes, known_bytes, part_bytes, by_weight, whole_of, are_rest_of, number_of_bytes}
 use Rattle.objects.specs.Values.{bytes_in, same_whole}
 use Rattle.objects.specs.Objects.{Object, is_named, if_named, object_of, contents, with_bytes, stored}
-use Rattle.objects.specs.ByteLaws.{length-overwritten}
+use Rattle.objects.proofs.lemmas.ByteLaws.{length-overwritten}
 use Rattle.lcc_base.specs.declared.cause.Cause.TheVariants.{PointerNumber}
 use Rattle.objects.specs.Causes.{first_cause, unless, is_dead, is_narrowed, is_no_number, bits_from}
 use Rattle.objects.specs.Conversions.{as_scalar, as_type, converted, extended}

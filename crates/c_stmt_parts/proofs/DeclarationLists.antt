@@ -18,7 +18,7 @@ use Rattle.c_units.specs.Bodies.{typed_declarations}
 use Rattle.c_check_decl.specs.declared.declares.Declares.{Declares}
 use Rattle.c_check_decl.specs.Declares.{AreDeclaredIn, declares_in}
 use Rattle.c_check_decl.specs.DeclaredIn.{declaration_in}
-use Rattle.c_check_decl.specs.DeclaresStay.{declares_later, declares_stay, together_assoc, together_nothing}
+use Rattle.c_check_decl.proofs.lemmas.DeclaresStay.{declares_later, declares_stay, together_assoc, together_nothing}
 use Rattle.c_stmt_parts.specs.StatementsIn.{declarations_in}
 
 -- ---- a list by steps

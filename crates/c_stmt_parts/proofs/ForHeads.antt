@@ -6,7 +6,7 @@ use Rattle.c_types.specs.Table.{Table, Extends, Grows, tags}
 use Rattle.c_meaning.specs.CoreTrees.{CoreOf}
 use Rattle.c_meaning.specs.StmtTrees.{IsSomeIn}
 use Rattle.c_values.specs.Stays.{in_later}
-use Rattle.c_check_decl.specs.StmtsStay.{maybe_stays}
+use Rattle.c_check_decl.proofs.lemmas.StmtsStay.{maybe_stays}
 use Rattle.c_units.specs.Statements.{value_fault}
 use Rattle.c_stmt_parts.specs.Asked.{maybe_core}
 

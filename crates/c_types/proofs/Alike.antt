@@ -13,7 +13,7 @@ use Rattle.c_types.specs.Readings.{is_array}
 use Rattle.c_types.specs.Table.{formed, is_qualified, is_tagged, type_in, types_in}
 use Rattle.c_types.specs.Keeps.{is_formed}
 use Rattle.c_types.proofs.Bare.{IsBare}
-use Rattle.c_types.specs.Qualifying.{qualify_none}
+use Rattle.c_types.proofs.lemmas.Qualifying.{qualify_none}
 
 none_or : (a : ℕ) → bit_or 0 a ≡ a
 none_or a = same_from_bits (bit_or 0 a) a (λ i. (let e : bit_at (bit_or 0 a) i ≡ max (bit_at 0 i) (bit_at a i) = bit_at_or 0 a i in let z : bit_at 0 i ≡ 0 = bit_at-zero i in omega (arith, e, z)))

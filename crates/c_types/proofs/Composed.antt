@@ -14,9 +14,9 @@ use Rattle.c_types.specs.Composite.{composite, kinds_composite, parameters_compo
 use Rattle.c_types.specs.Layout.{Tag}
 use Rattle.c_types.specs.Readings.{is_array, is_enumeration, is_function, is_pointer}
 use Rattle.c_types.specs.Table.{Table, Completed, Adds, AreBelow, AreSomeBelow, Extends, Grows, counted, formed, is_qualified, is_tagged, parameters_in, tag_of, tagged, tags, tags_of, type_at, type_in, types, types_in}
-use Rattle.c_types.specs.Extending.{extends_longer}
+use Rattle.c_types.proofs.lemmas.Extending.{extends_longer}
 use Rattle.c_types.specs.Facts.{AreMade, IsMade, first_composite}
-use Rattle.c_types.specs.Qualifying.{qualify_none}
+use Rattle.c_types.proofs.lemmas.Qualifying.{qualify_none}
 use Rattle.c_types.proofs.Alike.{and_true}
 use Rattle.c_types.proofs.Bare.{IsBare, is_int_type}
 use Rattle.c_types.proofs.Below.{below_more, some_below_more}

@@ -1,3 +1,4 @@
+pub mod lemmas
 pub mod Alike
 pub mod Bare
 pub mod Below

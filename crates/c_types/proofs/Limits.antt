@@ -23,7 +23,7 @@ use Rattle.c_types.specs.Layout.{Tag, array_extent, basic_extent, extent, extent
 use Rattle.c_types.specs.Readings.{is_array}
 use Rattle.c_types.specs.Table.{AreSomeBelow, Grows, Table, excess, extent_at, form_at, form_refusal, formed, is_above, is_open_form, is_qualified, members_among, parameters_in, tagged, tags, type_at, type_in, types, types_in}
 use Rattle.c_types.proofs.Bare.{basic_at}
-use Rattle.c_types.specs.Qualifying.{depth_qualify, qualify_none}
+use Rattle.c_types.proofs.lemmas.Qualifying.{depth_qualify, qualify_none}
 use Rattle.c_types.proofs.Composed.{same_types}
 use Rattle.c_types.proofs.Defined.{AreOpen, defined_extent, eq_of, found, members_found, open_all, own_extent}
 use Rattle.c_types.proofs.Insides.{basic_type_at, length-forms, table_of, type_by_form}

@@ -22,7 +22,7 @@ use Rattle.c_types.specs.Definitions.{AreComplete}
 use Rattle.c_types.specs.BitFields.{have_fields}
 use Rattle.c_types.specs.Keeps.{Keeps, IsFact, IsKeyOf, IsSettled, forms_in, completed_in, is_formed}
 use Rattle.c_types.specs.Facts.{IsFactOf, type_of}
-use Rattle.c_types.specs.Qualifying.{qualify_none}
+use Rattle.c_types.proofs.lemmas.Qualifying.{qualify_none}
 use Rattle.c_types.proofs.Growing.{types_push, length-types}
 use Rattle.c_types.proofs.Insides.{before, behind, form_of_entry, table_of, type_by_form, length-forms}
 use Rattle.c_types.proofs.Known.{settled_extent, settled_stays}

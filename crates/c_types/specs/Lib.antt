@@ -12,5 +12,3 @@ pub mod Keeps
 pub mod Facts
 pub mod Members
 pub mod Constness
-pub mod Qualifying
-pub mod Extending

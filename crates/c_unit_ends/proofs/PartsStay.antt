@@ -7,8 +7,8 @@ use Rattle.c_values.specs.Stays.{longer}
 use Rattle.c_check_decl.specs.declared.declares.Declares.{Declares}
 use Rattle.c_check_decl.specs.declared.declares.LinkedName.{LinkedName}
 use Rattle.c_check_decl.specs.Declares.{AreDeclaredIn, AreLinkedIn, AreLocalsIn, AreObjectsIn, defined_in, linked_in}
-use Rattle.c_check_decl.specs.DeclaresStay.{declares_later, declares_stay}
-use Rattle.c_check_decl.specs.StmtsStay.{stmt_later, stmt_stays}
+use Rattle.c_check_decl.proofs.lemmas.DeclaresStay.{declares_later, declares_stay}
+use Rattle.c_check_decl.proofs.lemmas.StmtsStay.{stmt_later, stmt_stays}
 use Rattle.c_unit_parts.specs.declared.DefinedFunction.{DefinedFunction}
 use Rattle.c_unit_parts.specs.declared.UnitParts.{UnitParts}
 use Rattle.c_unit_parts.specs.PartsIn.{AreFunctionsIn, ArePartsIn, function_in, parts_in}

@@ -17,7 +17,7 @@ use Rattle.c_meaning.specs.Declarations.{Declares as DeclaresTrees}
 use Rattle.c_check_decl.specs.declared.declares.Declares.{Declares}
 use Rattle.c_check_decl.specs.declared.declares.DefinedObject.{DefinedObject}
 use Rattle.c_check_decl.specs.Declares.{AreDeclaredIn, AreObjectsIn, IsObjectIn, defined_in}
-use Rattle.c_check_decl.specs.DeclaresStay.{declares_later, declares_stay}
+use Rattle.c_check_decl.proofs.lemmas.DeclaresStay.{declares_later, declares_stay}
 use Rattle.c_units.specs.Ends.{closed, is_tentative, open_fault, tentative, tentative_object, tentative_objects}
 use Rattle.c_unit_ends.specs.TentativeObjects.{IsIncomplete, object_by}
 use Rattle.c_unit_ends.proofs.AtPlaces.{at_entry, known_in, symbol_in}

@@ -21,7 +21,8 @@ use Rattle.forests.specs.Addresses.{Home}
 use Rattle.forests.specs.Rows.{acts}
 use Rattle.forests.specs.Bodies.{Setting, does}
 use Rattle.forests.specs.Budgets.{with_left}
-use Rattle.forests.specs.Alike.{AreAlike, touches_memory, acts_alike, word_read_alike}
+use Rattle.forests.specs.Alike.{AreAlike, touches_memory}
+use Rattle.forests.proofs.lemmas.Alike.{acts_alike, word_read_alike}
 use Rattle.dag_forest.specs.declared.entry.Entry.{Entry}
 use Rattle.dag_forest.specs.declared.kids.Kids.TheVariants.{One, Two}
 use Rattle.dag_forest.specs.declared.kind.Kind.TheVariants.{Signed}

@@ -12,9 +12,9 @@ use Rattle.objects.specs.declared.value.Value.TheVariants.{Pointer}
 use Rattle.objects.specs.declared.width.Width.{Width}
 use Rattle.objects.specs.declared.width.Width.TheVariants as width
 use Rattle.objects.specs.Values.{bytes_in, bits_in}
-use Rattle.objects.specs.BitLaws.{low_below}
+use Rattle.objects.proofs.lemmas.BitLaws.{low_below}
 use Rattle.objects.specs.Accesses.{write_cause}
-use Rattle.objects.specs.AccessLaws.{first_not, first_rest, not_less}
+use Rattle.objects.proofs.lemmas.AccessLaws.{first_not, first_rest, not_less}
 use Rattle.objects.specs.Causes.{first_cause, unless, is_dead, is_refused}
 use Rattle.op_forest.specs.declared.op.Op.TheVariants as op
 use Rattle.op_forest.specs.declared.suffix.Suffix.{Suffix}
@@ -23,10 +23,10 @@ use Rattle.op_forest.specs.Nodes.{Node as Tree}
 use Rattle.op_forest.specs.Nodes.{One as OneTree, Two as TwoTree}
 use Rattle.forests.specs.Words.{Word, Plain, Partly, IsWord, narrow, low_number}
 use Rattle.forests.specs.WordBytes.{word_bytes}
-use Rattle.forests.specs.WordLaws.{stored_elsewhere, word_is_read, number_is_read}
+use Rattle.forests.proofs.lemmas.WordLaws.{stored_elsewhere, word_is_read, number_is_read}
 use Rattle.forests.specs.Objects.{Object, shapes, shape_of, stored_through}
 use Rattle.forests.specs.Alike.{AreAlike}
-use Rattle.forests.specs.Kept.{shapes-stored_through}
+use Rattle.forests.proofs.lemmas.Kept.{shapes-stored_through}
 use Rattle.forests.specs.Accesses.{defined, word_read, word_written, number_read, number_written, number_written_by}
 use Rattle.forests.specs.Addresses.{local}
 use Rattle.forests.specs.Worlds.{World, Point, at_world, with_objects, Next, Effect, Went, then_do}

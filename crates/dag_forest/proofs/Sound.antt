@@ -10,7 +10,8 @@ use Rattle.forests.specs.Bodies.{Setting, does}
 use Rattle.forests.specs.Bodies.{evaluate, follow, act}
 use Rattle.forests.specs.Budgets.{with_left}
 use Rattle.forests.specs.Alike.{AreAlike}
-use Rattle.forests.specs.Kept.{Kept, CallsKeep, does_kept}
+use Rattle.forests.specs.Kept.{Kept, CallsKeep}
+use Rattle.forests.proofs.lemmas.Kept.{does_kept}
 use Rattle.dag_forest.specs.declared.kids.Kids.{Kids}
 use Rattle.dag_forest.specs.declared.kids.Kids.TheVariants.{Zero, One, Two}
 use Rattle.dag_forest.specs.declared.parts.Parts.{Parts}

@@ -1,3 +1,4 @@
+pub mod lemmas
 mod Samples
 mod AddressExamples
 mod MemoryExamples

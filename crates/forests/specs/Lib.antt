@@ -16,7 +16,6 @@ pub mod Units
 pub mod Begun
 pub mod Further
 pub mod OneRoot
-pub mod Effects
 pub mod Nested
 pub mod Reached
 pub mod EachRow
@@ -27,7 +26,6 @@ pub mod WordLaws
 pub mod BitLaws
 pub mod MayBe
 pub mod Sound
-pub mod SoundBytes
 pub mod SoundRows
 pub mod SoundRuns
 pub mod SoundUnits

@@ -10,7 +10,7 @@ use Rattle.lcc_text.specs.Lines.{lines_of}
 use Rattle.lburg_lines.specs.declared.token.Sign.TheVariants.{Open, Close, Comma, Colon, Equals, OpenBracket, CloseBracket}
 use Rattle.lburg_lines.specs.Tokens.{Tok, Word, Number, Negative, Template, Keyword, Mark, Bound, Wrong, text_of, IsToken, is_quoted}
 use Rattle.lburg_lines.specs.Spelling.{IsNext, Starts, Spells}
-use Rattle.lburg_lines.specs.LongestTokens.{word_next, number_next, negative_next, keyword_next, text_next, sign_next}
+use Rattle.lburg_lines.proofs.lemmas.LongestTokens.{word_next, number_next, negative_next, keyword_next, text_next, sign_next}
 
 -- ---- the longest token
 

@@ -1,3 +1,4 @@
+pub mod lemmas
 pub mod Blanks
 pub mod Once
 pub mod Places

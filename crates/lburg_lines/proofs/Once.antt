@@ -4,7 +4,7 @@ use Rattle.lcc_text.specs.declared.class.Class.TheVariants.{Blank}
 use Rattle.lcc_text.specs.Classes.{in_class, AllIn}
 use Rattle.lburg_lines.specs.Tokens.{Tok, Word, Number, Negative, Template, Keyword, Mark, Bound, Wrong, text_of, IsToken}
 use Rattle.lburg_lines.specs.Spelling.{IsNext, Starts, Spells}
-use Rattle.lburg_lines.specs.FirstBytes.{kind_of, same_kind, same_sign}
+use Rattle.lburg_lines.proofs.lemmas.FirstBytes.{kind_of, same_kind, same_sign}
 
 same_behind : (g h b c : List ℕ) → AllIn (in_class Blank) g → AllIn (in_class Blank) h → Starts b → Starts c → g ++ b ≡ h ++ c → b ≡ c
 same_behind [] [] b c p q s t e = e

@@ -1,7 +1,5 @@
 pub mod Tokens
 pub mod Spelling
-pub mod FirstBytes
-pub mod LongestTokens
 pub mod Sections
 pub mod Numbers
 pub mod NamedTree

@@ -27,7 +27,7 @@ fn sign_of(byte: u8) -> Option<Sign>
     }
 }
 
-#[tactic(auto, using(crate::specs::LongestTokens::word_next, crate::specs::LongestTokens::name_pos))]
+#[tactic(auto, using(crate::proofs::lemmas::LongestTokens::word_next, crate::proofs::lemmas::LongestTokens::name_pos))]
 fn word<'a>(bytes: &'a [u8]) -> (Token<'a>, &'a [u8])
     requires { StartsIn (in_class Letter) bytes.now }
     ensures next { IsNext bytes.now (view result.0) result.1.now }
@@ -37,7 +37,7 @@ fn word<'a>(bytes: &'a [u8]) -> (Token<'a>, &'a [u8])
     (Token::Name(name), rest)
 }
 
-#[tactic(auto, using(crate::specs::LongestTokens::number_next, lcc_text::proofs::lemmas::Runs::run_pos))]
+#[tactic(auto, using(crate::proofs::lemmas::LongestTokens::number_next, lcc_text::proofs::lemmas::Runs::run_pos))]
 fn number<'a>(bytes: &'a [u8]) -> (Token<'a>, &'a [u8])
     requires { StartsIn (in_class Digit) bytes.now }
     ensures next { IsNext bytes.now (view result.0) result.1.now }
@@ -48,7 +48,7 @@ fn number<'a>(bytes: &'a [u8]) -> (Token<'a>, &'a [u8])
 }
 
 /// The number, whose minus sign is gone.
-#[tactic(auto, using(crate::specs::LongestTokens::negative_next, crate::specs::LongestTokens::no_negative))]
+#[tactic(auto, using(crate::proofs::lemmas::LongestTokens::negative_next, crate::proofs::lemmas::LongestTokens::no_negative))]
 fn negative<'a>(bytes: &'a [u8]) -> Option<(Token<'a>, &'a [u8])>
     ensures some { IfSome result (λ x. IsNext (45 ∷ bytes.now) (view x.0) x.1.now) }
     ensures shorter { IfSome result (λ x. length x.1.now ≤ length bytes.now) }
@@ -62,7 +62,7 @@ fn negative<'a>(bytes: &'a [u8]) -> Option<(Token<'a>, &'a [u8])>
 }
 
 /// The keyword, whose percent sign is gone.
-#[tactic(auto, using(crate::specs::LongestTokens::keyword_next, crate::specs::LongestTokens::no_keyword))]
+#[tactic(auto, using(crate::proofs::lemmas::LongestTokens::keyword_next, crate::proofs::lemmas::LongestTokens::no_keyword))]
 fn keyword<'a>(bytes: &'a [u8]) -> Option<(Token<'a>, &'a [u8])>
     ensures some { IfSome result (λ x. IsNext (37 ∷ bytes.now) (view x.0) x.1.now) }
     ensures shorter { IfSome result (λ x. length x.1.now ≤ length bytes.now) }
@@ -105,7 +105,7 @@ fn escapes_well(bytes: &[u8]) -> bool
 }
 
 /// The template, whose first quote is gone.
-#[tactic(auto, using(crate::specs::LongestTokens::text_next, crate::specs::LongestTokens::no_text))]
+#[tactic(auto, using(crate::proofs::lemmas::LongestTokens::text_next, crate::proofs::lemmas::LongestTokens::no_text))]
 fn text<'a>(bytes: &'a [u8]) -> Option<(Token<'a>, &'a [u8])>
     ensures some { IfSome result (λ x. IsNext (34 ∷ bytes.now) (view x.0) x.1.now) }
     ensures shorter { IfSome result (λ x. length x.1.now ≤ length bytes.now) }
@@ -119,7 +119,7 @@ fn text<'a>(bytes: &'a [u8]) -> Option<(Token<'a>, &'a [u8])>
 }
 
 /// The longest token at the front, and the bytes behind it. None where no token begins.
-#[tactic(auto, using(crate::specs::LongestTokens::sign_next, crate::specs::LongestTokens::none_next, crate::specs::LongestTokens::none_empty))]
+#[tactic(auto, using(crate::proofs::lemmas::LongestTokens::sign_next, crate::proofs::lemmas::LongestTokens::none_next, crate::proofs::lemmas::LongestTokens::none_empty))]
 fn next_token<'a>(bytes: &'a [u8]) -> Option<(Token<'a>, &'a [u8])>
     ensures some { IfSome result (λ x. IsNext bytes.now (view x.0) x.1.now) }
     ensures shorter { IfSome result (λ x. length x.1.now < length bytes.now) }

@@ -3,7 +3,8 @@ use Rattle.std.proofs.Common.{◌≡◌, ℕ, ◌+◌, ◌<◌, ◌≤◌, List,
 use Rattle.std.proofs.lemmas.List.{append-nil, take_more, take_all, map_push}
 use Rattle.lburg_model.specs.declared.derivation.Derivation.{Derivation, out-Derivation}
 use Rattle.lburg_model.specs.Derivation.{MDerivation, numbers, numbers_in}
-use Rattle.lburg_model.specs.DerivationOf.{parts_of, derivation_of, derivation_out}
+use Rattle.lburg_model.specs.DerivationOf.{parts_of, derivation_of}
+use Rattle.lburg_model.proofs.lemmas.DerivationOf.{derivation_out}
 
 joined_more : (xs : List MDerivation) (x : MDerivation) → numbers_in (parts_of (xs ++ x ∷ [])) ≡ numbers_in (parts_of xs) ++ numbers x
 joined_more [] x = append-nil (numbers x)

@@ -8,7 +8,7 @@ use Rattle.lcc_text.specs.Lines.{lines_of, with_byte}
 use Rattle.lburg_lines.specs.declared.token.Sign.TheVariants.{Open, Close, Comma}
 use Rattle.lburg_lines.specs.Tokens.{Tok, Word, Mark, IsToken}
 use Rattle.lburg_lines.specs.Spelling.{IsNext, Spells, Starts}
-use Rattle.lburg_lines.specs.LongestTokens.{word_next, sign_next}
+use Rattle.lburg_lines.proofs.lemmas.LongestTokens.{word_next, sign_next}
 use Rattle.lburg_model.specs.Tree.{MTree, TLeaf, TOne, TTwo}
 use Rattle.lburg_model.specs.Description.{MDescription, IsDescription}
 use Rattle.lburg_trees.specs.Setting.{nothing}

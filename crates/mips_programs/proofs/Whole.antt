@@ -12,10 +12,11 @@ use Rattle.forests.specs.Worlds.{World, Point, at_world, Effect, Stuck, Outcome,
 use Rattle.forests.specs.Bodies.{Setting, body_run}
 use Rattle.op_forest.specs.Callees.{Body, BuiltIn, Putchar, Getchar, Exit, Callee, Defined, Provided, Missing}
 use Rattle.forests.specs.Functions.{Program as Meaning, entered, left_behind, value_or, answered, setting_of, call_by}
-use Rattle.forests.specs.Begun.{BeginsIn, body_begins, starts_trans}
+use Rattle.forests.specs.Begun.{BeginsIn, starts_trans}
+use Rattle.forests.proofs.lemmas.Begun.{body_begins}
 use Rattle.lcc_base.specs.Prefixes.{output_append}
 use Rattle.forests.specs.Nested.{calls_at}
-use Rattle.forests.specs.Reached.{nested_begins}
+use Rattle.forests.proofs.lemmas.Reached.{nested_begins}
 use Rattle.vcode.specs.Maps.{Map, IsWord}
 use Rattle.asm_text.specs.Addresses.{code_start, floor_of}
 use Rattle.mips_machine.specs.StepTable.{register}

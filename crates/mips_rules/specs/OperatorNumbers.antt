@@ -6,7 +6,8 @@ use Rattle.op_forest.specs.declared.op.Op.TheVariants.{Cnst, Addrg, Arg, Call, R
 use Rattle.op_forest.specs.declared.suffix.Suffix.{Suffix}
 use Rattle.op_forest.specs.declared.suffix.Suffix.TheVariants.{I, P}
 use Rattle.op_forest.specs.Nodes.{Head}
-use Rattle.op_forest.specs.NumberedOperators.{HasNumber, is_numbered}
+use Rattle.op_forest.specs.NumberedOperators.{HasNumber}
+use Rattle.op_forest.proofs.lemmas.NumberedOperators.{is_numbered}
 use Rattle.forests.specs.Words.{Word}
 use Rattle.forests.specs.Objects.{Object}
 use Rattle.forests.specs.Worlds.{Point}

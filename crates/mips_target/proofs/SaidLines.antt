@@ -19,8 +19,8 @@ use Rattle.asm_lines.specs.Words.{word_of, head_of}
 use Rattle.asm_lines.specs.Operands.{IsRegister, AreOperands}
 use Rattle.asm_lines.specs.Statements.{Does}
 use Rattle.asm_lines.specs.ReadBack.{NoFeed}
-use Rattle.asm_lines.specs.Numerals.{value_decimal, digits_decimal}
-use Rattle.asm_lines.specs.Written.{AreSymbols, Fits, spaced, written, starts_symbol, digits_symbols, starts_of, next_of, spelled, feed_append, name_feed, no_feed, line_break}
+use Rattle.asm_lines.proofs.lemmas.Numerals.{value_decimal, digits_decimal}
+use Rattle.asm_lines.proofs.lemmas.Written.{AreSymbols, Fits, spaced, written, starts_symbol, digits_symbols, starts_of, next_of, spelled, feed_append, name_feed, no_feed, line_break}
 use Rattle.asm_text.specs.Lines.{IsLine}
 use Rattle.asm_text.specs.Program.{MInstruction}
 use Rattle.op_forest.specs.Lowered.{IsUnitName, is_symbol}

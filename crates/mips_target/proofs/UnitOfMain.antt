@@ -10,8 +10,8 @@ use Rattle.op_forest.specs.declared.lowered.LoweredObject.{LoweredObject}
 use Rattle.op_forest.specs.Nodes.{Node, Leaf, One, Two, head_of}
 use Rattle.op_forest.specs.EachNode.{AtEachNode}
 use Rattle.op_forest.specs.Lowered.{LoweredUnit, IsKnown, IsFunctionOf, IsLowered}
-use Rattle.op_forest.specs.UnitOfMain.{unit_of_main}
-use Rattle.op_forest.specs.UnitOfMain as main
+use Rattle.op_forest.proofs.lemmas.UnitOfMain.{unit_of_main}
+use Rattle.op_forest.proofs.lemmas.UnitOfMain as main
 use Rattle.mips_target.specs.NamedBelow.{IsBelow, IsNamedBelow}
 
 symbol_known : (u : LoweredUnit) (roots : List Node) (s : Sym) → 2 ≤ length u.names → IsBelow 2 s → IsKnown u roots s

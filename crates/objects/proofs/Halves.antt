@@ -9,7 +9,7 @@ use Rattle.objects.specs.declared.byte.Byte.TheVariants.{Bits}
 use Rattle.objects.specs.declared.value.Value.{Value}
 use Rattle.objects.specs.declared.value.Value.TheVariants.{Number}
 use Rattle.objects.specs.declared.width.Scalar.{Scalar}
-use Rattle.objects.specs.ByteLaws.{length-overwritten}
+use Rattle.objects.proofs.lemmas.ByteLaws.{length-overwritten}
 use Rattle.objects.specs.Bytes.{known_bytes}
 use Rattle.objects.specs.Conversions.{as_scalar}
 use Rattle.objects.specs.Held.{shown}

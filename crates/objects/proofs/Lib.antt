@@ -1,3 +1,4 @@
+pub mod lemmas
 mod Examples
 pub mod Halves
 pub mod Holding

@@ -5,7 +5,7 @@ use Rattle.std.proofs.lemmas.Option.{slice_get-get_or, get_or_from_slice_get}
 use Rattle.std.proofs.Math.Seq.{take-suc}
 use Rattle.objects.specs.declared.byte.Byte.{Byte}
 use Rattle.objects.specs.declared.value.Value.{Value}
-use Rattle.objects.specs.ByteLaws.{written_twice, others_stay, length-overwritten}
+use Rattle.objects.proofs.lemmas.ByteLaws.{written_twice, others_stay, length-overwritten}
 use Rattle.objects.specs.Objects.{Object, contents, overwritten, with_bytes, stored, flagged}
 use Rattle.objects.proofs.Holding.{seen_as}
 

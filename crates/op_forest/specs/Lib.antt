@@ -2,7 +2,6 @@ pub mod Operators
 pub mod Signature
 pub mod Nodes
 pub mod NodeParts
-pub mod NodeCounts
 pub mod NumberedOperators
 pub mod Coding
 pub mod Shape
@@ -12,4 +11,3 @@ pub mod Labels
 pub mod Callees
 pub mod Lowered
 pub mod Units
-pub mod UnitOfMain

@@ -5,7 +5,7 @@ use Rattle.lburg_model.specs.declared.rule.Rule.{Rule}
 use Rattle.lburg_model.specs.Tree.{MTree}
 use Rattle.lburg_model.specs.Derivation.{MDerivation, Derives, cost, count, numbers}
 use Rattle.lburg_model.specs.Best.{Earlier}
-use Rattle.lburg_model.specs.Laws.{same_front}
+use Rattle.lburg_model.proofs.lemmas.Laws.{same_front}
 use Rattle.plain_cover.specs.Told.{told}
 use Rattle.plain_cover.specs.Less.{Less, ByCost, ByCount, ByNumbers, Upto}
 

@@ -17,7 +17,7 @@ use Rattle.plain_cover.specs.IsLeastOf.{IsLeastOf}
 use Rattle.plain_cover.specs.Within.{Within}
 use Rattle.plain_cover.proofs.Cutting.{trim}
 use Rattle.plain_cover.proofs.Order.{upto_trans}
-use Rattle.lburg_model.specs.Laws.{same_front}
+use Rattle.lburg_model.proofs.lemmas.Laws.{same_front}
 
 better : (rules : List Rule) (x y : MDerivation) → Less (told rules x) (told rules y) → Better rules x y
 better rules x y (ByCost a) = best.ByCost a

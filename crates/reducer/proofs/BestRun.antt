@@ -10,9 +10,9 @@ use Rattle.tree_labeller.specs.MCells.{MCells}
 use Rattle.tree_labeller.specs.Labelled.{Labelled}
 use Rattle.tree_labeller.specs.IsLabelled.{IsLabelled}
 use Rattle.tree_labeller.specs.Indexed.{erase}
-use Rattle.tree_labeller.specs.Cover.{is_best_of}
-use Rattle.tree_labeller.specs.Greatest.{follows_best}
-use Rattle.tree_labeller.specs.Erased.{applied_kept}
+use Rattle.tree_labeller.proofs.lemmas.Cover.{is_best_of}
+use Rattle.tree_labeller.proofs.lemmas.Greatest.{follows_best}
+use Rattle.tree_labeller.proofs.lemmas.Erased.{applied_kept}
 use Rattle.reducer.specs.Reduced.{Reduced}
 use Rattle.reducer.specs.Runs.{Runs}
 

@@ -11,7 +11,7 @@ use Rattle.tree_labeller.specs.MCells.{MCells}
 use Rattle.tree_labeller.specs.Labelled.{Labelled, cell}
 use Rattle.tree_labeller.specs.IsLabelled.{IsLabelled}
 use Rattle.tree_labeller.specs.Totals.{sound_of}
-use Rattle.tree_labeller.specs.Cover.{cell_is_best, no_cell}
+use Rattle.tree_labeller.proofs.lemmas.Cover.{cell_is_best, no_cell}
 
 -- the tree is labelled by the board and the rules
 pub labelled_in : (d : MDescription) (k board : MCells) (rules : List Rule) (t : MTree) → board ≡ k → rules ≡ d.rules → IsLabelled d k t → Labelled board.rows rules board.nonterminals 0 t

@@ -17,9 +17,9 @@ use Rattle.tree_labeller.specs.Indexed.{Parts, Uses, join, erase_in}
 use Rattle.tree_labeller.specs.Labelled.{cell, total, Labelled}
 use Rattle.tree_labeller.specs.Chosen.{Chosen}
 use Rattle.reducer.specs.Built.{GrownBy, Built, PartsAdded}
-use Rattle.tree_labeller.specs.Taken.{follower, taken_hole, taken_leaf, taken_one, taken_two}
-use Rattle.tree_labeller.specs.Greatest.{follows_best}
-use Rattle.tree_labeller.specs.Cover.{is_best_of}
+use Rattle.tree_labeller.proofs.lemmas.Taken.{follower, taken_hole, taken_leaf, taken_one, taken_two}
+use Rattle.tree_labeller.proofs.lemmas.Greatest.{follows_best}
+use Rattle.tree_labeller.proofs.lemmas.Cover.{is_best_of}
 
 -- the derivation of a value that is made of its parts
 value_made : (number : ℕ) (parts : List Value) → derivation_of (roll-Derivation (record { rule = number; parts = parts })) ≡ Apply number (parts_of (map derivation_of parts))

@@ -11,7 +11,7 @@ use Rattle.tree_labeller.specs.Chosen.{Chosen}
 use Rattle.tree_labeller.specs.Indexed.{visits_in}
 use Rattle.reducer.specs.Reduced.{Reduced, Walked}
 use Rattle.reducer.specs.Runs.{Runs}
-use Rattle.tree_labeller.specs.Taken.{follower, taken_hole, taken_leaf, taken_one, taken_two}
+use Rattle.tree_labeller.proofs.lemmas.Taken.{follower, taken_hole, taken_leaf, taken_one, taken_two}
 
 module _ {N V : Type 0} (tree : N → MTree) (step : V → ℕ → N → V → Type 0) where
   runs_append : (xs ys : List (ℕ × MTree)) (s m s' : V) → Runs tree step xs s m → Runs tree step ys m s' → Runs tree step (xs ++ ys) s s'

@@ -24,10 +24,10 @@ use Rattle.tree_labeller.specs.Labelled.{cell, total, base_total, Labelled, Star
 use Rattle.tree_labeller.specs.Tries.{row_tries, HasCell, ClosingTries, TriedRules, TriedChains}
 use Rattle.tree_labeller.specs.Trials.{IsTried, RuleTrials, NoRule, Tried, Untried, IsBase, ChainTrials, NoStart, Start, Pass, RootTrials, ByRules, ByChains, Trials, AtRoot, TrialsOfEach, NoTree, Tree}
 use Rattle.tree_labeller.specs.Indexed.{Derivation, Uses, erase, erase_in}
-use Rattle.tree_labeller.specs.Erased.{derives, indexed}
+use Rattle.tree_labeller.proofs.lemmas.Erased.{derives, indexed}
 use Rattle.tree_labeller.specs.Followed.{parted_of}
-use Rattle.tree_labeller.specs.Least.{least_total}
-use Rattle.tree_labeller.specs.Cover.{cell_is_best, no_cell}
+use Rattle.tree_labeller.proofs.lemmas.Least.{least_total}
+use Rattle.tree_labeller.proofs.lemmas.Cover.{cell_is_best, no_cell}
 use Rattle.tree_labeller.proofs.Finish.{Agree, base_agree, base_is_total}
 use Rattle.tree_labeller.proofs.Roots.{operator_of}
 

@@ -16,7 +16,8 @@ use Rattle.lburg_model.specs.Range.{IsMet}
 use Rattle.lburg_model.specs.Pattern.{MPattern, PHole, PLeaf, POne, PTwo, pattern_of}
 use Rattle.tree_labeller.specs.Labelled.{add, nothing_used, cells_of, end_of, cell, total, area, Sound, Labelled, KidsLabelled, base_total, IsRuleTotal, made_by, Started, Filled}
 use Rattle.lburg_tables.specs.RowOf.{key_of}
-use Rattle.tree_labeller.specs.Totals.{cell_of, fitted, added, nodes_pos, sound_of}
+use Rattle.tree_labeller.specs.Totals.{cell_of, fitted, added, sound_of}
+use Rattle.tree_labeller.proofs.lemmas.Totals.{nodes_pos}
 use Rattle.lburg_tables.proofs.lemmas.RowLaws.{Leq_cells, leq_trans, leq_refl, stored, write_lowers, cell_after, among_more, among_none, among_all}
 
 abbrev pub Agree : List Row → List Row → ℕ → ℕ → Type 0

@@ -1,3 +1,4 @@
+pub mod lemmas
 pub mod Finish
 pub mod Roots
 pub mod Counting

@@ -2,7 +2,7 @@
 use Rattle.std.proofs.Common.{◌≡◌, ℕ, ◌+◌, ◌-◌, ◌*◌, ◌<◌, ◌≤◌, ◌^◌, arith}
 use Rattle.lburg_model.specs.Tree.{MTree, TLeaf, TOne, TTwo, nodes}
 use Rattle.tree_labeller.specs.Labelled.{area}
-use Rattle.tree_labeller.specs.Totals.{nodes_pos}
+use Rattle.tree_labeller.proofs.lemmas.Totals.{nodes_pos}
 
 area_is : (w : ℕ) (t : MTree) → area w t ≡ w * nodes t
 area_is w (TLeaf op v) = omega arith

@@ -11,10 +11,5 @@ pub mod MCells
 pub mod IsLabelled
 pub mod IsCells
 pub mod Totals
-pub mod Taken
-pub mod Least
 pub mod Followed
-pub mod Greatest
-pub mod Erased
-pub mod Cover
 pub mod RowFilled

@@ -1,12 +1,12 @@
 -- What the rows say of a tree.
-use Rattle.std.proofs.Common.{◌≡◌, ℕ, ◌+◌, ◌*◌, ◌<◌, ◌≤◌, Option, Some, None, List, refl, sym, ap, arith}
+use Rattle.std.proofs.Common.{◌≡◌, ℕ, ◌+◌, ◌*◌, ◌≤◌, Option, Some, None, List, refl, sym, ap, arith}
 use Rattle.std.specs.Prelude.{◌==◌, true, false, Bool, if◌then◌else◌, IfSome}
 use Rattle.std.proofs.lemmas.Bool.{eqb-true}
 use Rattle.lburg_tables.specs.declared.cell.Cell.{Cell}
 use Rattle.place_queue.specs.declared.key.Key.{Key}
 use Rattle.tree_labeller.specs.Rows.{Row}
 use Rattle.lburg_model.specs.declared.rule.Rule.{Rule}
-use Rattle.lburg_model.specs.Tree.{MTree, TLeaf, TOne, TTwo, nodes}
+use Rattle.lburg_model.specs.Tree.{MTree, TLeaf, TOne, TTwo}
 use Rattle.lburg_model.specs.Pattern.{MPattern, PHole, PLeaf, POne, PTwo}
 use Rattle.tree_labeller.specs.Labelled.{add, cell, area, Sound, Labelled, KidsLabelled, Ready}
 use Rattle.lburg_tables.specs.RowOf.{key_of}
@@ -28,11 +28,6 @@ added (Some a) None k e = cc
 added (Some a) (Some b) k e =
     let f : record { cost = a.cost + b.cost; count = a.count + b.count } ≡ k = cc in
     (a, b, refl, refl, ap (λ (x : Key). x.cost) f, ap (λ (x : Key). x.count) f)
-
-pub nodes_pos : (t : MTree) → 0 < nodes t
-nodes_pos (TLeaf op v) = omega arith
-nodes_pos (TOne op v a) = omega arith
-nodes_pos (TTwo op v a b) = omega arith
 
 module _ (rows : List Row) (d : List Rule) (w : ℕ) where
   pub sound_of : (at : ℕ) (t : MTree) → Labelled rows d w at t → Sound rows d w at t

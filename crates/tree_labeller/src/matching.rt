@@ -23,7 +23,7 @@ fn key_at(labels: &Labels, at: usize, n: usize) -> Option<Key>
 /// The least cost and count of the parts that a pattern needs at a tree, none where it does not
 /// fit or a part has no derivation.
 #[cycle(total)]
-#[tactic(auto, using(crate::specs::Totals::ready_of, crate::specs::Totals::nodes_pos))]
+#[tactic(auto, using(crate::specs::Totals::ready_of, crate::proofs::lemmas::Totals::nodes_pos))]
 fn total_at<N: TreeNode>(labels: &Labels, pattern: &Pattern, tree: &N, at: usize) -> Option<Key>
     requires small { area labels.now.board.now.nonterminals (N.tree tree.now) < 2 ^ 32 - 1 }
     requires room { at + nodes (N.tree tree.now) ≤ length labels.now.board.now.rows }
@@ -49,7 +49,7 @@ fn total_at<N: TreeNode>(labels: &Labels, pattern: &Pattern, tree: &N, at: usize
 // The same for an operator with one operand.
 #[cycle(total)]
 #[inline(always)]
-#[tactic(auto, using(crate::specs::Totals::ready_of, crate::specs::Totals::nodes_pos))]
+#[tactic(auto, using(crate::specs::Totals::ready_of, crate::proofs::lemmas::Totals::nodes_pos))]
 fn unary_total_at<N: TreeNode>(
     labels: &Labels,
     op: u16,
@@ -74,7 +74,7 @@ fn unary_total_at<N: TreeNode>(
 // The same for an operator with two operands.
 #[cycle(total)]
 #[inline(always)]
-#[tactic(auto, using(crate::specs::Totals::ready_of, crate::specs::Totals::nodes_pos))]
+#[tactic(auto, using(crate::specs::Totals::ready_of, crate::proofs::lemmas::Totals::nodes_pos))]
 fn binary_total_at<N: TreeNode>(
     labels: &Labels,
     op: u16,

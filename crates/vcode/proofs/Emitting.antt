@@ -9,7 +9,8 @@ use Rattle.lburg_model.specs.declared.rule.Rule.{Rule}
 use Rattle.lburg_model.specs.declared.derivation.Derivation.{Derivation, out-Derivation}
 use Rattle.lburg_model.specs.Pattern.{MPattern, Goal, pattern_of}
 use Rattle.lburg_model.specs.Derivation.{MDerivation, Apply, Derives, DeriveEach, count, counts}
-use Rattle.lburg_model.specs.DerivationOf.{parts_of, derivation_of, derivation_out}
+use Rattle.lburg_model.specs.DerivationOf.{parts_of, derivation_of}
+use Rattle.lburg_model.proofs.lemmas.DerivationOf.{derivation_out}
 use Rattle.op_forest.specs.Nodes.{Node, head_of, gives, one_where, value_nodes, tree_of}
 use Rattle.vcode.specs.Machines.{Machine}
 use Rattle.vcode.specs.Patterns.{Meeting, leaves_at, is_chain}

@@ -8,8 +8,9 @@ use Rattle.forests.specs.Words.{Word}
 use Rattle.forests.specs.Worlds.{Point, Move, Next, To, End, Effect, Went, Exits, Unfinished, Stuck, then_do, Outcome}
 use Rattle.forests.specs.Bodies.{Setting}
 use Rattle.forests.specs.Bodies.{evaluate}
-use Rattle.forests.specs.Effects.{stuck_then}
-use Rattle.forests.specs.Moving.{IsNext, goes_to, evaluate_next}
+use Rattle.forests.proofs.lemmas.Effects.{stuck_then}
+use Rattle.forests.specs.Moving.{IsNext}
+use Rattle.forests.proofs.lemmas.Moving.{goes_to, evaluate_next}
 use Rattle.vcode.specs.Machines.{Machine}
 use Rattle.vcode.specs.Execution.{State, executed}
 use Rattle.vcode.specs.VirtualCode.{among}

@@ -9,7 +9,7 @@ use Rattle.forests.specs.Words.{Word}
 use Rattle.forests.specs.Worlds.{Point, Next, Effect, Went, Stuck, then_do}
 use Rattle.forests.specs.Bodies.{Setting, does}
 use Rattle.forests.specs.Bodies.{evaluate}
-use Rattle.forests.specs.Effects.{then_do_assoc, then_do_same, then_do_unless}
+use Rattle.forests.proofs.lemmas.Effects.{then_do_assoc, then_do_same, then_do_unless}
 use Rattle.vcode.specs.Patterns.{Meeting, both, leaves_at, inner, pattern_effect, each_of, is_chain, has_hole, is_steady, all_steady, is_ordered}
 use Rattle.vcode.proofs.Steady.{settled, does_steady}
 

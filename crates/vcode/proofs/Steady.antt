@@ -8,7 +8,8 @@ use Rattle.op_forest.specs.declared.op.Op.TheVariants as op
 use Rattle.op_forest.specs.declared.suffix.Suffix.{Suffix}
 use Rattle.op_forest.specs.declared.suffix.Suffix.TheVariants.{I}
 use Rattle.op_forest.specs.Nodes.{Head, number_of}
-use Rattle.op_forest.specs.NumberedOperators.{HasNumber, is_numbered}
+use Rattle.op_forest.specs.NumberedOperators.{HasNumber}
+use Rattle.op_forest.proofs.lemmas.NumberedOperators.{is_numbered}
 use Rattle.forests.specs.Words.{Word}
 use Rattle.forests.specs.Worlds.{Point, Next, Effect, Went, Stuck}
 use Rattle.forests.specs.Actions.{effect_of, gave}

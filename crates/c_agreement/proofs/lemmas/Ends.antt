@@ -3,7 +3,8 @@ use Rattle.std.specs.Prelude.{◌≡◌, ◌≤◌, ℕ, ◌+◌, ◌-◌, List,
 use Rattle.std.proofs.Common.{⊎_elim, sym, ap, ◌∙◌, subst, arith}
 use Rattle.std.proofs.lemmas.Bool.{cases_lt}
 use Rattle.forests.specs.Budgets.{with_left, with_more}
-use Rattle.forests.specs.Further.{Further, call_further}
+use Rattle.forests.specs.Further.{Further}
+use Rattle.forests.proofs.lemmas.Further.{call_further}
 use Rattle.forests.specs.Reached.{Reaches}
 use Rattle.forests.specs.Units.{program_of}
 use Rattle.forests.specs.Words.{Word}

@@ -10,7 +10,8 @@ use Rattle.forests.specs.Budgets.{with_left}
 use Rattle.forests.specs.Functions as forest
 use Rattle.forests.specs.Functions.{call_by}
 use Rattle.forests.specs.Meaning.{call_of}
-use Rattle.forests.specs.OneRoot.{runs, one_call}
+use Rattle.forests.specs.OneRoot.{runs}
+use Rattle.forests.proofs.lemmas.OneRoot.{one_call}
 use Rattle.forests.specs.Sound.{AreInput}
 use Rattle.forests.specs.Words.{Word, Plain}
 use Rattle.forests.specs.Worlds.{World, with_arguments, with_event, with_input}

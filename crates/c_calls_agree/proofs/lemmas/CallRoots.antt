@@ -11,9 +11,10 @@ use Rattle.forests.specs.Bodies.{does}
 use Rattle.forests.specs.Budgets.{with_left}
 use Rattle.forests.specs.Functions.{Program}
 use Rattle.forests.specs.Further.{Further}
-use Rattle.forests.specs.Kept.{Kept, does_kept, calls_kept}
+use Rattle.forests.specs.Kept.{Kept}
+use Rattle.forests.proofs.lemmas.Kept.{does_kept, calls_kept}
 use Rattle.forests.specs.Meaning.{call_of}
-use Rattle.forests.specs.OneRoot.{calls_further}
+use Rattle.forests.proofs.lemmas.OneRoot.{calls_further}
 use Rattle.forests.specs.Words.{Word, Plain}
 use Rattle.forests.specs.Worlds.{World, Effect, Outcome, Next, Went, then_do}
 use Rattle.dag_forest.specs.declared.act.Act.TheVariants.{Acts}

@@ -8,8 +8,8 @@ use Rattle.forests.specs.Budgets.{with_left}
 use Rattle.forests.specs.Functions.{Program}
 use Rattle.forests.specs.Meaning.{call_of}
 use Rattle.forests.specs.Sound.{IsSoundEffect}
-use Rattle.forests.specs.SoundRuns.{calls_sound}
-use Rattle.forests.specs.SoundUnits.{program_sound}
+use Rattle.forests.proofs.lemmas.SoundRuns.{calls_sound}
+use Rattle.forests.proofs.lemmas.SoundUnits.{program_sound}
 use Rattle.forests.specs.Units.{program_of}
 use Rattle.forests.specs.Words.{Word}
 use Rattle.forests.specs.Worlds.{World, Next}

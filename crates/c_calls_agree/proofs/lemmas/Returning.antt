@@ -11,7 +11,8 @@ use Rattle.forests.specs.Bodies.{Setting}
 use Rattle.forests.specs.Functions.{Program, entered, answered, put_character, get_character, exit_with, provided, setting_of, call_by}
 use Rattle.forests.specs.Meaning.{call_of}
 use Rattle.forests.specs.Objects.{Object}
-use Rattle.forests.specs.OneRoot.{runs, one_call}
+use Rattle.forests.specs.OneRoot.{runs}
+use Rattle.forests.proofs.lemmas.OneRoot.{one_call}
 use Rattle.forests.specs.Words.{Word, Plain}
 use Rattle.forests.specs.Worlds.{World, Point, at_world, Move, Effect, Went, Stuck, Outcome, Finished, Exited, Going, Failed}
 use Rattle.c_meaning.specs.Each.{EachIs}

@@ -7,7 +7,7 @@ use Rattle.forests.specs.Actions as action
 use Rattle.forests.specs.Actions.{Action, effect_of}
 use Rattle.forests.specs.Bodies.{does}
 use Rattle.forests.specs.Budgets.{with_left}
-use Rattle.forests.specs.Kept.{calls_kept}
+use Rattle.forests.proofs.lemmas.Kept.{calls_kept}
 use Rattle.forests.specs.Rows.{acts}
 use Rattle.forests.specs.Sound.{AreWords}
 use Rattle.forests.specs.Words.{Word, IsWord}

@@ -14,12 +14,13 @@ use Rattle.forests.specs.Actions.{Action, effect_of, changed, handed}
 use Rattle.forests.specs.Alike.{AreAlike}
 use Rattle.forests.specs.Bodies.{does}
 use Rattle.forests.specs.Budgets.{with_left}
-use Rattle.forests.specs.Kept.{Kept, calls_kept}
+use Rattle.forests.specs.Kept.{Kept}
+use Rattle.forests.proofs.lemmas.Kept.{calls_kept}
 use Rattle.forests.specs.Meaning.{call_of}
 use Rattle.forests.specs.Objects.{stored_through}
 use Rattle.forests.specs.Rows.{acts}
 use Rattle.forests.specs.WordBytes.{word_bytes}
-use Rattle.forests.specs.WordLaws.{stored_elsewhere, word_is_read}
+use Rattle.forests.proofs.lemmas.WordLaws.{stored_elsewhere, word_is_read}
 use Rattle.forests.specs.Words.{Word, Plain}
 use Rattle.forests.specs.Worlds.{World, Effect, Outcome, Next, Went, then_do}
 use Rattle.dag_forest.specs.declared.act.Act.TheVariants.{Made, Acts}

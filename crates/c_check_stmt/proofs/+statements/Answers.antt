@@ -11,7 +11,7 @@ use Rattle.c_meaning.specs.Values.{promoted_value, value}
 use Rattle.c_meaning.specs.declared.core_stmt.CoreStmt.TheVariants as stmt
 use Rattle.c_values.specs.Stays.{extends_on, in_later, seen_stays}
 use Rattle.c_check_decl.specs.Declares.{stmt_in}
-use Rattle.c_check_decl.specs.StmtsStay.{stmt_later}
+use Rattle.c_check_decl.proofs.lemmas.StmtsStay.{stmt_later}
 use Rattle.c_check_expr.specs.Keeps.{Keeps}
 use Rattle.c_check_expr.specs.Kept.{keeps_itself, keeps_on}
 use Rattle.c_check_expr.specs.Walks.{core}

@@ -17,7 +17,8 @@ use Rattle.op_forest.specs.Lowered.{LoweredUnit}
 use Rattle.op_forest.specs.Units.{body_of}
 use Rattle.forests.specs.Accesses.{word_read}
 use Rattle.forests.specs.Addresses.{Home}
-use Rattle.forests.specs.Alike.{AreAlike, word_read_alike}
+use Rattle.forests.specs.Alike.{AreAlike}
+use Rattle.forests.proofs.lemmas.Alike.{word_read_alike}
 use Rattle.forests.specs.Objects.{Object}
 use Rattle.forests.specs.Words.{Word, Plain}
 use Rattle.forests.specs.Worlds.{World, Outcome}

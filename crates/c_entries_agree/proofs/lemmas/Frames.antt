@@ -14,7 +14,7 @@ use Rattle.op_forest.specs.Lowered.{LoweredUnit}
 use Rattle.op_forest.specs.Units.{body_of, function_of, object_place, built_in_named}
 use Rattle.forests.specs.Addresses.{Home}
 use Rattle.forests.specs.Functions.{value_or, home_in}
-use Rattle.forests.specs.SoundUnits.{program_sound}
+use Rattle.forests.proofs.lemmas.SoundUnits.{program_sound}
 use Rattle.forests.specs.Units.{value_by, value_of}
 use Rattle.forests.specs.Words.{Word, Plain}
 use Rattle.forests.specs.Worlds.{World}

@@ -26,7 +26,7 @@ use Rattle.forests.specs.Objects.{Object, objects_from, shape_of, shapes, conten
 use Rattle.c_match_objects.proofs.lemmas.StoredScalars.{word_count}
 use Rattle.forests.specs.Sound.{AreWords}
 use Rattle.forests.specs.WordBytes.{word_bytes, word_in}
-use Rattle.forests.specs.WordLaws.{word_back}
+use Rattle.forests.proofs.lemmas.WordLaws.{word_back}
 use Rattle.forests.specs.Words.{Word, Plain, Label, Partly, IsWord}
 use Rattle.forests.specs.Worlds.{World}
 use Rattle.dag_forest.specs.Split.{slot_name}

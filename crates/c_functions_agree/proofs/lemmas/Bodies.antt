@@ -11,7 +11,8 @@ use Rattle.op_forest.specs.Units.{body_of, callee_by, object_place, built_in_nam
 use Rattle.forests.specs.Budgets.{with_left}
 use Rattle.forests.specs.Functions.{answered, call_by, setting_of}
 use Rattle.forests.specs.Meaning.{call_of}
-use Rattle.forests.specs.OneRoot.{runs, one_call}
+use Rattle.forests.specs.OneRoot.{runs}
+use Rattle.forests.proofs.lemmas.OneRoot.{one_call}
 use Rattle.forests.specs.Units.{program_of}
 use Rattle.forests.specs.Words.{Word}
 use Rattle.forests.specs.Worlds.{World, Stuck}

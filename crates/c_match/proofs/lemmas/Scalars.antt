@@ -20,10 +20,10 @@ use Rattle.objects.specs.Bytes.{known_bytes, settled_of, is_part, has_unknown_bi
 use Rattle.objects.specs.Causes.{breaks_whole}
 use Rattle.objects.specs.Conversions.{sign_extended, extended, as_scalar, as_type}
 use Rattle.objects.specs.Scalars.{scalar_cause, scalar_value, whole_or}
-use Rattle.objects.specs.AccessLaws.{first_not, first_rest}
+use Rattle.objects.proofs.lemmas.AccessLaws.{first_not, first_rest}
 use Rattle.forests.specs.Sound.{IsSoundByte, AreSoundBytes}
 use Rattle.forests.specs.WordBytes.{word_in}
-use Rattle.forests.specs.WordLaws.{word_back}
+use Rattle.forests.proofs.lemmas.WordLaws.{word_back}
 use Rattle.forests.specs.Words.{Word, Plain}
 use Rattle.c_match.specs.Ranges.{Map}
 use Rattle.c_match.specs.Values.{IsValue}

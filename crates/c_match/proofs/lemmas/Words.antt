@@ -10,7 +10,7 @@ use Rattle.objects.specs.declared.width.Width.TheVariants.{One, Two, Four}
 use Rattle.objects.specs.Values.{bytes_in, bits_in}
 use Rattle.objects.specs.Bytes.{known_bytes, number_bytes, part_bytes}
 use Rattle.objects.specs.Scalars.{scalar_bytes}
-use Rattle.forests.specs.SoundBytes.{and_full_byte}
+use Rattle.forests.proofs.lemmas.SoundBytes.{and_full_byte}
 use Rattle.forests.specs.WordBytes.{word_bytes}
 use Rattle.forests.specs.Words.{Word, Plain}
 use Rattle.c_match.specs.Ranges.{Map}

@@ -6,7 +6,7 @@ use Rattle.std.proofs.Math.Nat.{mod-eq_of_lt}
 use Rattle.std.proofs.lemmas.Bool.{cases_lt}
 use Rattle.std.proofs.lemmas.Nat.{pow_pos, pow_below, shr-shr, shr_split, shl_below}
 use Rattle.std.proofs.lemmas.Nat.Bits.{bit_at_not, bit_at_ones, bit_at_ones_above, bit_at_cat_low, bit_at_cat_high, bit_at-zero, bit_at_above}
-use Rattle.objects.specs.BitLaws.{low_below, middle_below}
+use Rattle.objects.proofs.lemmas.BitLaws.{low_below, middle_below}
 use Rattle.objects.specs.Fields.{with_bits}
 
 -- ---- the bits of a number that is made of parts

@@ -11,20 +11,20 @@ use Rattle.objects.specs.declared.field.Field.{Field}
 use Rattle.objects.specs.declared.purpose.Purpose.{Purpose}
 use Rattle.objects.specs.declared.purpose.Purpose.TheVariants.{Assignment}
 use Rattle.objects.specs.declared.value.Value.{Value}
-use Rattle.objects.specs.AccessLaws.{unless_none, unless_same}
+use Rattle.objects.proofs.lemmas.AccessLaws.{unless_none, unless_same}
 use Rattle.objects.specs.Accesses.{write_cause, field_written, number_or_zero}
 use Rattle.objects.specs.Accesses as c
-use Rattle.objects.specs.BitLaws.{replaced_below}
+use Rattle.objects.proofs.lemmas.BitLaws.{replaced_below}
 use Rattle.objects.specs.Bytes.{known_of, value_of, number_bytes}
 use Rattle.objects.specs.Causes.{first_cause, unless, is_no_number}
-use Rattle.objects.specs.CopyLaws.{readable}
+use Rattle.objects.proofs.lemmas.CopyLaws.{readable}
 use Rattle.objects.specs.Fields.{shift_of, with_bits, with_field}
 use Rattle.objects.specs.Fields.{bits_of as bytes_of}
 use Rattle.objects.specs.Objects.{Object as Old}
 use Rattle.forests.specs.Accesses.{defined, bytes_written}
 use Rattle.forests.specs.Objects.{Object, shapes, bytes_through, stored_through}
 use Rattle.forests.specs.Sound.{AreSoundObjects}
-use Rattle.forests.specs.SoundBytes.{bytes_through_sound}
+use Rattle.forests.proofs.lemmas.SoundBytes.{bytes_through_sound}
 use Rattle.forests.specs.WordBytes.{word_bytes, word_in}
 use Rattle.forests.specs.Words.{Word, Plain, known_word}
 use Rattle.c_match.specs.Ranges.{Map}

@@ -14,7 +14,7 @@ use Rattle.objects.specs.declared.field.Field.{Field}
 use Rattle.objects.specs.declared.operators.Binary.TheVariants as binary
 use Rattle.objects.specs.declared.value.Value.{Value}
 use Rattle.objects.specs.declared.value.Value.TheVariants.{Number}
-use Rattle.objects.specs.AccessLaws.{first_not, first_rest, unless_none, unless_same}
+use Rattle.objects.proofs.lemmas.AccessLaws.{first_not, first_rest, unless_none, unless_same}
 use Rattle.objects.specs.Accesses.{read_cause, field_read}
 use Rattle.objects.specs.Accesses as c
 use Rattle.objects.specs.Arithmetic.{binary_word}
@@ -26,7 +26,7 @@ use Rattle.objects.specs.Objects.{Object as Old}
 use Rattle.forests.specs.Bits.{shifted}
 use Rattle.forests.specs.Objects.{Object, bytes_through}
 use Rattle.forests.specs.Sound.{AreSoundBytes, AreSoundObjects}
-use Rattle.forests.specs.SoundBytes.{bytes_through_sound}
+use Rattle.forests.proofs.lemmas.SoundBytes.{bytes_through_sound}
 use Rattle.forests.specs.WordBytes.{word_in}
 use Rattle.forests.specs.Words.{Word, Plain, known_word}
 use Rattle.c_match.specs.Ranges.{Map}

@@ -8,10 +8,10 @@ use Rattle.std.proofs.lemmas.Nat.{pow_pos, pow-add, pow_below, shr-shr, field_of
 use Rattle.objects.specs.declared.operators.Binary.TheVariants as binary
 use Rattle.objects.specs.declared.value.Value.TheVariants.{Number, Pointer, Function}
 use Rattle.objects.specs.Arithmetic.{signed_of, word_of, binary_word}
-use Rattle.objects.specs.BitLaws.{low_below}
+use Rattle.objects.proofs.lemmas.BitLaws.{low_below}
 use Rattle.objects.specs.Causes.{bits_from}
 use Rattle.objects.specs.Conversions.{sign_extended, extended}
-use Rattle.forests.specs.BitLaws.{signed_low, signed_high, word_low, word_high}
+use Rattle.forests.proofs.lemmas.BitLaws.{signed_low, signed_high, word_low, word_high}
 use Rattle.forests.specs.Bits.{KnownBits, bits_left, shifted}
 use Rattle.forests.specs.Words.{Word, Plain, Label, Partly, known_word}
 use Rattle.c_match_fields.specs.FieldReads.{right_bits}

@@ -10,13 +10,13 @@ use Rattle.lcc_base.specs.declared.order.Order.TheVariants.{Big, Little}
 use Rattle.objects.specs.declared.byte.Byte.TheVariants.{Bits}
 use Rattle.objects.specs.declared.operators.Binary.TheVariants as binary
 use Rattle.objects.specs.declared.value.Value.TheVariants.{Number, Pointer, Function}
-use Rattle.objects.specs.BitLaws.{replaced_below}
+use Rattle.objects.proofs.lemmas.BitLaws.{replaced_below}
 use Rattle.objects.specs.Bytes.{number_bytes, part_bytes}
 use Rattle.objects.specs.Fields.{with_bits}
 use Rattle.objects.specs.Fields.{bits_of as bytes_of}
 use Rattle.forests.specs.Bits.{KnownBits, bits_of, bits_and, bits_or, bitwise}
-use Rattle.forests.specs.MayBe.{and_ones}
-use Rattle.forests.specs.SoundBytes.{and_full_byte}
+use Rattle.forests.proofs.lemmas.MayBe.{and_ones}
+use Rattle.forests.proofs.lemmas.SoundBytes.{and_full_byte}
 use Rattle.forests.specs.WordBytes.{word_bytes}
 use Rattle.forests.specs.Words.{Word, Plain, Label, Partly, known_word}
 use Rattle.c_match.specs.Ranges.{Map}

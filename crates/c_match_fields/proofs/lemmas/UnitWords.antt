@@ -12,7 +12,7 @@ use Rattle.objects.specs.declared.byte.Byte.TheVariants.{Bits, Part}
 use Rattle.objects.specs.declared.value.Value.{Value}
 use Rattle.objects.specs.declared.value.Value.TheVariants.{Number, Pointer, Function}
 use Rattle.objects.specs.Bytes.{known_of, value_of, is_part_of, are_rest_of, whole_of}
-use Rattle.forests.specs.BitLaws.{and_parts}
+use Rattle.forests.proofs.lemmas.BitLaws.{and_parts}
 use Rattle.forests.specs.Bits.{KnownBits, bits_of}
 use Rattle.forests.specs.Sound.{IsSoundByte, AreSoundBytes}
 use Rattle.forests.specs.WordBytes.{whole_or, word_in}

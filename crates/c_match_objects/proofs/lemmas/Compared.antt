@@ -12,7 +12,7 @@ use Rattle.lcc_base.specs.declared.cause.Cause.TheVariants.{Dead, PointerOrder, 
 use Rattle.objects.specs.declared.value.ObjectName.{ObjectName}
 use Rattle.objects.specs.declared.value.Value.{Value}
 use Rattle.objects.specs.declared.value.Value.TheVariants.{Number, Pointer, Function}
-use Rattle.objects.specs.AccessLaws.{first_not, size_of, unless_none, unless_same}
+use Rattle.objects.proofs.lemmas.AccessLaws.{first_not, size_of, unless_none, unless_same}
 use Rattle.objects.specs.Causes.{first_cause, unless, is_dead, has_no_order, is_no_multiple, has_no_equality, is_one_past}
 use Rattle.objects.specs.Objects.{Object as Old}
 use Rattle.objects.specs.Pointers.{ordered, bytes_between, subtracted, same, compared, tested}

@@ -9,14 +9,14 @@ use Rattle.objects.specs.declared.purpose.Purpose.TheVariants.{Assignment}
 use Rattle.objects.specs.declared.value.ObjectName.{ObjectName}
 use Rattle.objects.specs.declared.value.Value.{Value}
 use Rattle.objects.specs.declared.value.Value.TheVariants.{Pointer}
-use Rattle.objects.specs.AccessLaws.{first_not, size_of, unless_none, unless_same}
+use Rattle.objects.proofs.lemmas.AccessLaws.{first_not, size_of, unless_none, unless_same}
 use Rattle.objects.specs.Accesses.{read_cause, write_cause}
 use Rattle.objects.specs.Accesses as c
 use Rattle.objects.specs.Causes.{first_cause, unless, overlaps_in_part}
-use Rattle.objects.specs.CopyLaws.{readable}
+use Rattle.objects.proofs.lemmas.CopyLaws.{readable}
 use Rattle.objects.specs.Copies.{or_cause, copy_cause, copied}
 use Rattle.objects.specs.Objects.{Object as Old}
-use Rattle.objects.specs.PlaceLaws.{apart}
+use Rattle.objects.proofs.lemmas.PlaceLaws.{apart}
 use Rattle.objects.specs.Places.{GoesTo}
 use Rattle.objects.specs.Values.{same_object}
 use Rattle.forests.specs.Accesses.{defined, block_copied}

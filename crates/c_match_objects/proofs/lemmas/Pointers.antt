@@ -9,7 +9,7 @@ use Rattle.lcc_base.specs.declared.cause.Cause.TheVariants.{Dead, PointerRange}
 use Rattle.objects.specs.declared.value.ObjectName.{ObjectName}
 use Rattle.objects.specs.declared.value.Value.{Value}
 use Rattle.objects.specs.declared.value.Value.TheVariants.{Number, Pointer, Function}
-use Rattle.objects.specs.AccessLaws.{first_not, first_rest, size_of, unless_none, unless_same}
+use Rattle.objects.proofs.lemmas.AccessLaws.{first_not, first_rest, size_of, unless_none, unless_same}
 use Rattle.objects.specs.Arithmetic.{signed_of}
 use Rattle.objects.specs.Causes.{first_cause, unless, is_dead, leaves_object}
 use Rattle.objects.specs.Objects.{Object as Old}

@@ -9,7 +9,7 @@ use Rattle.objects.specs.declared.byte.Byte.{Byte}
 use Rattle.objects.specs.declared.value.ObjectName.{ObjectName}
 use Rattle.objects.specs.declared.value.Value.{Value}
 use Rattle.objects.specs.declared.value.Value.TheVariants.{Number, Pointer, Function}
-use Rattle.objects.specs.AccessLaws.{first_not, first_rest, not_less, size_of, its_object}
+use Rattle.objects.proofs.lemmas.AccessLaws.{first_not, first_rest, not_less, size_of, its_object}
 use Rattle.objects.specs.Accesses.{read_cause}
 use Rattle.objects.specs.Accesses as c
 use Rattle.objects.specs.Bytes.{unknown_byte}

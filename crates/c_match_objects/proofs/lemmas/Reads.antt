@@ -19,7 +19,7 @@ use Rattle.objects.specs.Causes.{first_cause, unless, breaks_whole}
 use Rattle.objects.specs.Conversions.{sign_extended, extended, as_scalar, as_type}
 use Rattle.objects.specs.Copies.{or_cause}
 use Rattle.objects.specs.Scalars.{scalar_cause, scalar_value, scalar_of, whole_or}
-use Rattle.objects.specs.AccessLaws.{first_not, first_rest, unless_none, unless_same}
+use Rattle.objects.proofs.lemmas.AccessLaws.{first_not, first_rest, unless_none, unless_same}
 use Rattle.objects.specs.Accesses.{read_cause, if_none, read}
 use Rattle.objects.specs.Accesses as c
 use Rattle.objects.specs.Objects.{Object as Old}
@@ -27,7 +27,7 @@ use Rattle.forests.specs.Accesses.{defined, word_read, number_cause, number_read
 use Rattle.forests.specs.Numbers.{widened}
 use Rattle.forests.specs.Objects.{Object, bytes_through}
 use Rattle.forests.specs.Sound.{AreSoundObjects}
-use Rattle.forests.specs.SoundBytes.{bytes_through_sound}
+use Rattle.forests.proofs.lemmas.SoundBytes.{bytes_through_sound}
 use Rattle.forests.specs.WordBytes.{word_in}
 use Rattle.forests.specs.Words.{Word, Plain, narrow}
 use Rattle.c_match.specs.Ranges.{Map}

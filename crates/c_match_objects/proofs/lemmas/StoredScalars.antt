@@ -15,7 +15,7 @@ use Rattle.objects.specs.Values.{bytes_in, bits_in}
 use Rattle.objects.specs.Bytes.{known_bytes, number_bytes}
 use Rattle.objects.specs.Causes.{first_cause, unless, is_narrowed}
 use Rattle.objects.specs.Scalars.{scalar_bytes}
-use Rattle.objects.specs.AccessLaws.{first_not, unless_none, unless_same, bytes_count}
+use Rattle.objects.proofs.lemmas.AccessLaws.{first_not, unless_none, unless_same, bytes_count}
 use Rattle.objects.specs.Accesses.{write_cause, written}
 use Rattle.objects.specs.Accesses as c
 use Rattle.objects.specs.Objects.{Object as Old}

@@ -9,19 +9,19 @@ use Rattle.objects.specs.declared.purpose.Purpose.{Purpose}
 use Rattle.objects.specs.declared.purpose.Purpose.TheVariants.{Assignment, Initialisation}
 use Rattle.objects.specs.declared.value.ObjectName.{ObjectName}
 use Rattle.objects.specs.declared.value.Value.{Value}
-use Rattle.objects.specs.AccessLaws.{first_not, first_rest, size_of}
-use Rattle.objects.specs.AccessLaws.{stored_at as old_at, stored_elsewhere as old_elsewhere}
+use Rattle.objects.proofs.lemmas.AccessLaws.{first_not, first_rest, size_of}
+use Rattle.objects.proofs.lemmas.AccessLaws.{stored_at as old_at, stored_elsewhere as old_elsewhere}
 use Rattle.objects.specs.Accesses.{write_cause}
 use Rattle.objects.specs.Accesses as c
-use Rattle.objects.specs.ByteLaws.{length-overwritten}
+use Rattle.objects.proofs.lemmas.ByteLaws.{length-overwritten}
 use Rattle.objects.specs.Causes.{first_cause, is_outside, is_misaligned, is_dead, is_refused}
-use Rattle.objects.specs.CopyLaws.{readable}
+use Rattle.objects.proofs.lemmas.CopyLaws.{readable}
 use Rattle.objects.specs.Objects.{is_named, if_named, object_of, is_constant, stored, with_bytes}
 use Rattle.objects.specs.Objects.{Object as Old}
 use Rattle.forests.specs.Objects.{Object, shapes, stored_through}
 use Rattle.forests.specs.Objects.{stored as put, with_bytes as with_words}
 use Rattle.forests.specs.Words.{Word, Plain}
-use Rattle.forests.specs.WordLaws.{stored_at, stored_elsewhere}
+use Rattle.forests.proofs.lemmas.WordLaws.{stored_at, stored_elsewhere}
 use Rattle.c_match.specs.Ranges.{Range, Map, AreApart}
 use Rattle.c_match.specs.Values.{IsValue}
 use Rattle.c_match.specs.Bytes.{AreBytesOf}

@@ -20,7 +20,7 @@ use Rattle.op_forest.specs.Lowered.{LoweredUnit}
 use Rattle.forests.specs.Functions.{slot_bytes, entered, left_behind, own_bytes}
 use Rattle.forests.specs.Objects.{Object, objects_from}
 use Rattle.forests.specs.Sound.{AreSoundBytes, AreSoundObjects, AreWords, IsSound}
-use Rattle.forests.specs.SoundBytes.{bytes_replicate, objects_append, objects_take, word_bytes_sound}
+use Rattle.forests.proofs.lemmas.SoundBytes.{bytes_replicate, objects_append, objects_take, word_bytes_sound}
 use Rattle.forests.specs.WordBytes.{word_bytes}
 use Rattle.forests.specs.Words.{Word}
 use Rattle.forests.specs.Worlds.{World}

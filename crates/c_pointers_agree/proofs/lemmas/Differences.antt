@@ -22,7 +22,7 @@ use Rattle.op_forest.specs.declared.suffix.Suffix.TheVariants.{I, U}
 use Rattle.forests.specs.Accesses.{defined}
 use Rattle.forests.specs.Actions.{gave}
 use Rattle.forests.specs.Addresses.{plain}
-use Rattle.forests.specs.BitLaws.{signed_low}
+use Rattle.forests.proofs.lemmas.BitLaws.{signed_low}
 use Rattle.forests.specs.Numbers.{of_two}
 use Rattle.forests.specs.Objects.{shapes}
 use Rattle.forests.specs.Words.{Word, Plain}

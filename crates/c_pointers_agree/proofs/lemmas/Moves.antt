@@ -12,7 +12,7 @@ use Rattle.objects.specs.Pointers.{moved, place_after}
 use Rattle.op_forest.specs.declared.op.Op.TheVariants as op
 use Rattle.op_forest.specs.declared.suffix.Suffix.TheVariants.{P}
 use Rattle.forests.specs.Actions.{gave}
-use Rattle.forests.specs.BitLaws.{signed_low}
+use Rattle.forests.proofs.lemmas.BitLaws.{signed_low}
 use Rattle.forests.specs.Words.{Word, Plain, IsWord}
 use Rattle.c_types.specs.CType.{CType}
 use Rattle.c_meaning.specs.Scalars.{is_signed}

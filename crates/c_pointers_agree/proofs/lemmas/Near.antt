@@ -8,7 +8,7 @@ use Rattle.lcc_base.specs.declared.cause.Cause.TheVariants.{Dead, PointerRange}
 use Rattle.objects.specs.declared.value.ObjectName.{ObjectName}
 use Rattle.objects.specs.declared.value.Value.{Value}
 use Rattle.objects.specs.declared.value.Value.TheVariants.{Number, Pointer, Function}
-use Rattle.objects.specs.AccessLaws.{size_of, its_object}
+use Rattle.objects.proofs.lemmas.AccessLaws.{size_of, its_object}
 use Rattle.objects.specs.Causes.{is_dead, leaves_object}
 use Rattle.objects.specs.Objects.{Object as Old}
 use Rattle.objects.specs.Pointers.{moved, place_after}

@@ -7,7 +7,7 @@ use Rattle.std.proofs.lemmas.Bool.{cases_lt}
 use Rattle.std.proofs.lemmas.Int.{ints, int_wrap_fits, quot_fits}
 use Rattle.std.proofs.Math.Nat.{mul_comm, mul-add}
 use Rattle.objects.specs.Arithmetic.{signed_of, word_of}
-use Rattle.forests.specs.BitLaws.{signed_low, signed_high}
+use Rattle.forests.proofs.lemmas.BitLaws.{signed_low, signed_high}
 use Rattle.forests.specs.Words.{number_of}
 
 -- below 2^31 from 0, a number is its word's

@@ -8,8 +8,8 @@ use Rattle.objects.specs.declared.value.Value.TheVariants.{Number, Pointer, Func
 use Rattle.objects.specs.declared.width.Scalar.{Scalar}
 use Rattle.objects.specs.declared.width.Width.{Width}
 use Rattle.objects.specs.declared.width.Width.TheVariants as width
-use Rattle.objects.specs.AccessLaws.{first_not, unless_none, unless_same}
-use Rattle.objects.specs.BitLaws.{low_below}
+use Rattle.objects.proofs.lemmas.AccessLaws.{first_not, unless_none, unless_same}
+use Rattle.objects.proofs.lemmas.BitLaws.{low_below}
 use Rattle.objects.specs.Causes.{first_cause, is_no_number, is_narrowed}
 use Rattle.objects.specs.Conversions.{sign_extended, extended, as_type, converted}
 use Rattle.objects.specs.Values.{bits_in}

@@ -12,11 +12,11 @@ use Rattle.objects.specs.declared.operators.Binary.TheVariants as binary
 use Rattle.objects.specs.declared.purpose.Purpose.{Purpose}
 use Rattle.objects.specs.declared.value.Value.{Value}
 use Rattle.objects.specs.declared.value.Value.TheVariants.{Number}
-use Rattle.objects.specs.AccessLaws.{first_not, unless_same}
+use Rattle.objects.proofs.lemmas.AccessLaws.{first_not, unless_same}
 use Rattle.objects.specs.Accesses.{read_cause, write_cause, field_read, field_written, number_or_zero}
 use Rattle.objects.specs.Accesses as c
 use Rattle.objects.specs.Arithmetic.{binary_word}
-use Rattle.objects.specs.BitLaws.{low_below}
+use Rattle.objects.proofs.lemmas.BitLaws.{low_below}
 use Rattle.objects.specs.Bytes.{number_of_bytes}
 use Rattle.objects.specs.Causes.{first_cause, unless, bits_from, is_no_number}
 use Rattle.objects.specs.Conversions.{extended}

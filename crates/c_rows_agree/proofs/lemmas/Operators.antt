@@ -10,7 +10,7 @@ use Rattle.objects.specs.declared.operators.Binary.TheVariants as binary
 use Rattle.objects.specs.declared.value.Value.{Value}
 use Rattle.objects.specs.declared.value.Value.TheVariants.{Number}
 use Rattle.objects.specs.declared.width.Scalar.{Scalar}
-use Rattle.objects.specs.AccessLaws.{first_not, first_rest, unless_none, unless_same}
+use Rattle.objects.proofs.lemmas.AccessLaws.{first_not, first_rest, unless_none, unless_same}
 use Rattle.objects.specs.Accesses.{number_or_zero}
 use Rattle.objects.specs.Arithmetic.{unary_word, binary_word, is_division, is_shift, unary_value, binary_cause, binary_value}
 use Rattle.objects.specs.Conversions.{as_type}
@@ -22,7 +22,8 @@ use Rattle.forests.specs.Bits.{complemented}
 use Rattle.forests.specs.Numbers.{of_one}
 use Rattle.forests.specs.Rows.{acts}
 use Rattle.forests.specs.Sound.{IsSoundEnvironment}
-use Rattle.forests.specs.SoundRows.{IsSoundAction, acts_sound}
+use Rattle.forests.specs.SoundRows.{IsSoundAction}
+use Rattle.forests.proofs.lemmas.SoundRows.{acts_sound}
 use Rattle.forests.specs.Words.{Word, Plain, IsWord}
 use Rattle.c_match.specs.Values.{IsValue}
 use Rattle.c_rows_agree.specs.Templates.{Scene}

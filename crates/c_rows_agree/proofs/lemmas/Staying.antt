@@ -10,7 +10,8 @@ use Rattle.op_forest.specs.declared.suffix.Suffix.TheVariants.{C, S, I, U, P, B,
 use Rattle.op_forest.specs.Nodes.{Head}
 use Rattle.forests.specs.Actions.{Action, Gave, gave, effect_of}
 use Rattle.forests.specs.Addresses.{Environment}
-use Rattle.forests.specs.Alike.{AreAlike, touches_memory, acts_alike, word_read_alike, number_read_alike}
+use Rattle.forests.specs.Alike.{AreAlike, touches_memory}
+use Rattle.forests.proofs.lemmas.Alike.{acts_alike, word_read_alike, number_read_alike}
 use Rattle.forests.specs.Bodies.{Setting, does}
 use Rattle.forests.specs.Objects.{Object}
 use Rattle.forests.specs.Rows.{unary_row, acts}

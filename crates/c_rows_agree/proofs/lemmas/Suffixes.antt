@@ -10,7 +10,7 @@ use Rattle.objects.specs.Arithmetic.{signed_of}
 use Rattle.op_forest.specs.declared.suffix.Suffix.{Suffix}
 use Rattle.op_forest.specs.declared.suffix.Suffix.TheVariants.{C, S, I, U, P, B, V}
 use Rattle.forests.specs.Actions.{Gave}
-use Rattle.forests.specs.BitLaws.{signed_low, signed_high}
+use Rattle.forests.proofs.lemmas.BitLaws.{signed_low, signed_high}
 use Rattle.forests.specs.Words.{Word, Plain, number_of}
 use Rattle.c_rows_agree.specs.Templates.{Template, Scene, Gives}
 use Rattle.c_rows_agree.specs.Typed.{Typed, Holds, constant_i, constant_u, as_i_from, as_u_from, as_p_from, as_by}

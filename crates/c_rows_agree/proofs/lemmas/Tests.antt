@@ -6,7 +6,7 @@ use Rattle.objects.specs.declared.operators.Comparison.{Comparison}
 use Rattle.objects.specs.declared.operators.Comparison.TheVariants as comparison
 use Rattle.objects.specs.declared.value.Value.{Value}
 use Rattle.objects.specs.declared.value.Value.TheVariants.{Number}
-use Rattle.objects.specs.AccessLaws.{first_not, unless_none, unless_same}
+use Rattle.objects.proofs.lemmas.AccessLaws.{first_not, unless_none, unless_same}
 use Rattle.objects.specs.Accesses.{number_or_zero}
 use Rattle.objects.specs.Arithmetic.{is_less, holds, comparison_value, integer_tested}
 use Rattle.objects.specs.Causes.{first_cause, is_no_number}

@@ -13,7 +13,7 @@ use Rattle.objects.specs.declared.byte.Byte.{Byte}
 use Rattle.objects.specs.declared.value.ObjectName.{ObjectName}
 use Rattle.objects.specs.declared.value.Value.{Value}
 use Rattle.objects.specs.declared.value.Value.TheVariants.{Pointer}
-use Rattle.objects.specs.AccessLaws.{no_read_cause}
+use Rattle.objects.proofs.lemmas.AccessLaws.{no_read_cause}
 use Rattle.objects.specs.Accesses.{read_cause}
 use Rattle.objects.specs.Bytes.{unknown_byte}
 use Rattle.objects.specs.Causes.{unless, is_dead, leaves_object}
@@ -27,7 +27,7 @@ use Rattle.forests.specs.Accesses.{defined, word_read}
 use Rattle.forests.specs.Objects.{Object, contents, shape_of, shapes}
 use Rattle.forests.specs.Units.{bytes_in, label_word, size_by}
 use Rattle.forests.specs.WordBytes.{word_bytes, word_in}
-use Rattle.forests.specs.WordLaws.{word_back}
+use Rattle.forests.proofs.lemmas.WordLaws.{word_back}
 use Rattle.forests.specs.Words.{Word, Plain, Label}
 use Rattle.forests.specs.Worlds.{World}
 use Rattle.c_runs.specs.Worlds as c

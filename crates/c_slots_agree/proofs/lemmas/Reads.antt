@@ -12,7 +12,7 @@ use Rattle.op_forest.specs.declared.sym.Sym.TheVariants as sym_of
 use Rattle.op_forest.specs.Frames.{IsFrame}
 use Rattle.op_forest.specs.Nodes.{Head}
 use Rattle.forests.specs.Actions.{gave}
-use Rattle.forests.specs.Alike.{word_read_alike}
+use Rattle.forests.proofs.lemmas.Alike.{word_read_alike}
 use Rattle.forests.specs.Objects.{Object}
 use Rattle.forests.specs.Words.{Word, Plain, unknown}
 use Rattle.forests.specs.Worlds.{World}

@@ -21,7 +21,7 @@ use Rattle.forests.specs.Addresses.{Environment, Home}
 use Rattle.forests.specs.Objects.{Object, shapes, stored_through}
 use Rattle.forests.specs.Rows.{acts}
 use Rattle.forests.specs.WordBytes.{word_bytes}
-use Rattle.forests.specs.WordLaws.{stored_elsewhere, word_is_read}
+use Rattle.forests.proofs.lemmas.WordLaws.{stored_elsewhere, word_is_read}
 use Rattle.forests.specs.Words.{Word, Plain, IsWord}
 use Rattle.forests.specs.Worlds.{World, Outcome}
 use Rattle.dag_forest.specs.declared.entry.Entry.{Entry}

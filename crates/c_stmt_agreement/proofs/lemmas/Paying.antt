@@ -4,7 +4,7 @@ use Rattle.std.proofs.Common.{refl, ap, sym, ◌∙◌, subst, arith}
 use Rattle.lcc_base.specs.Traces.{Event}
 use Rattle.forests.specs.Budgets.{with_left, with_calls}
 use Rattle.forests.specs.Meaning.{call_of}
-use Rattle.forests.specs.OneRoot.{no_steps}
+use Rattle.forests.proofs.lemmas.OneRoot.{no_steps}
 use Rattle.forests.specs.Words.{Word, unknown}
 use Rattle.forests.specs.Worlds.{World, Point, Outcome}
 use Rattle.dag_forest.specs.declared.entry.Entry.{Entry}

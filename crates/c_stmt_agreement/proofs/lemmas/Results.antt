@@ -4,7 +4,8 @@ use Rattle.std.proofs.Common.{sym, ap, ◌∙◌}
 use Rattle.objects.specs.declared.purpose.Purpose.TheVariants.{Initialisation}
 use Rattle.objects.specs.declared.value.Value.TheVariants.{Pointer}
 use Rattle.forests.specs.Accesses.{word_read}
-use Rattle.forests.specs.Alike.{AreAlike, word_read_alike}
+use Rattle.forests.specs.Alike.{AreAlike}
+use Rattle.forests.proofs.lemmas.Alike.{word_read_alike}
 use Rattle.forests.specs.Words.{Word, Plain}
 use Rattle.forests.specs.Worlds.{World}
 use Rattle.c_meaning.specs.Each.{EachIs}

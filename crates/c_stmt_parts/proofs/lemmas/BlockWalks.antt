@@ -24,7 +24,7 @@ use Rattle.c_check_expr.proofs.lemmas.Walking.{first_stops, passed, tells_first,
 use Rattle.c_check_expr.specs.Walks.{Walks}
 use Rattle.c_check_decl.specs.declared.declares.Declares.{Declares}
 use Rattle.c_check_decl.specs.Declares.{AreDeclaredIn, AreFillsIn, declares_in, stmt_in}
-use Rattle.c_check_decl.specs.DeclaresStay.{declares_later, declares_stay}
+use Rattle.c_check_decl.proofs.lemmas.DeclaresStay.{declares_later, declares_stay}
 use Rattle.c_units.specs.Bodies.{Body as BodyTrees, Typed, Within as WithinTrees, all_typed_stmts, block_of, done, stmts_behind, typed_block, with_declared}
 use Rattle.c_units.specs.Statements.{Around as AroundTrees}
 use Rattle.c_stmt_parts.specs.declared.around.Within.{Within}

@@ -8,8 +8,8 @@ use Rattle.c_meaning.specs.StmtTrees.{stmt_of}
 use Rattle.c_units.specs.Bodies.{Body as BodyTrees}
 use Rattle.c_check_decl.specs.declared.declares.Declares.{Declares}
 use Rattle.c_check_decl.specs.Declares.{AreDeclaredIn}
-use Rattle.c_check_decl.specs.DeclaresStay.{declares_later, declares_stay}
-use Rattle.c_check_decl.specs.StmtsStay.{stmt_later, stmt_stays}
+use Rattle.c_check_decl.proofs.lemmas.DeclaresStay.{declares_later, declares_stay}
+use Rattle.c_check_decl.proofs.lemmas.StmtsStay.{stmt_later, stmt_stays}
 use Rattle.c_stmt_parts.specs.declared.around.Within.{Within}
 use Rattle.c_stmt_parts.specs.declared.body.Body.{Body}
 use Rattle.c_stmt_parts.specs.BodiesSeen.{IsBodyIn, body_in, within_in}

@@ -18,7 +18,7 @@ use Rattle.c_check_expr.specs.TypedIn.{maybe_expr_in}
 use Rattle.c_check_expr.proofs.lemmas.Walking.{first_stops, walk_as, walk_then}
 use Rattle.c_check_expr.proofs.lemmas.WalkLists.{then_same, then_then}
 use Rattle.c_check_expr.specs.Walks.{Walks}
-use Rattle.c_check_decl.specs.StmtsStay.{maybe_stays}
+use Rattle.c_check_decl.proofs.lemmas.StmtsStay.{maybe_stays}
 use Rattle.c_meaning.specs.declared.core_stmt.CoreForHead.{CoreForHead}
 use Rattle.c_stmt_parts.specs.Asked.{maybe_core}
 use Rattle.c_stmt_parts.specs.Heads.{Heads, IsHeadIn, head_in, head_typed_in}

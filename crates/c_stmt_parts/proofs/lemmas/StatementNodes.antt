@@ -16,7 +16,7 @@ use Rattle.c_check_expr.specs.Known.{state_of}
 use Rattle.c_check_expr.specs.TypedIn.{expr_in, maybe_expr_in}
 use Rattle.c_check_expr.specs.Walks.{core}
 use Rattle.c_check_decl.specs.Declares.{stmt_in}
-use Rattle.c_check_decl.specs.StmtsStay.{stmt_later, stmt_stays}
+use Rattle.c_check_decl.proofs.lemmas.StmtsStay.{stmt_later, stmt_stays}
 use Rattle.c_units.specs.Bodies.{Body as BodyTrees, Within as WithinTrees, at_stmt, done, goto, in_loop, in_switch, is_case_again, is_default_again, labelled, marked, maybe_value, on_code, returned, stands_again, switched, typed_stmt, with_case, with_cases, with_default}
 use Rattle.c_units.specs.Statements.{Around as AroundTrees}
 use Rattle.c_units.specs.Statements as node

@@ -6,7 +6,7 @@ use Rattle.op_forest.specs.declared.op.Op.TheVariants as op
 use Rattle.op_forest.specs.declared.suffix.Suffix.TheVariants.{I}
 use Rattle.forests.specs.Budgets.{with_left, with_calls}
 use Rattle.forests.specs.Meaning.{call_of}
-use Rattle.forests.specs.OneRoot.{end_of_roots}
+use Rattle.forests.proofs.lemmas.OneRoot.{end_of_roots}
 use Rattle.forests.specs.Words.{unknown}
 use Rattle.dag_forest.specs.Meaning.{Through, Runs}
 use Rattle.dag_forest.specs.Schedules.{in_turn}

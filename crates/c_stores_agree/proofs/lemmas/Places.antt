@@ -9,7 +9,7 @@ use Rattle.objects.specs.declared.purpose.Purpose.TheVariants.{Initialisation}
 use Rattle.objects.specs.declared.value.Value.{Value}
 use Rattle.objects.specs.declared.value.Value.TheVariants.{Number, Pointer, Function}
 use Rattle.objects.specs.Accesses.{write_cause, written, field_written}
-use Rattle.objects.specs.AccessLaws.{unless_none, first_not, first_rest}
+use Rattle.objects.proofs.lemmas.AccessLaws.{unless_none, first_not, first_rest}
 use Rattle.objects.specs.Causes.{first_cause, unless, is_no_number, is_narrowed, leaves_object, is_outside, is_misaligned, is_dead, is_refused}
 use Rattle.objects.specs.Objects.{Object as Old}
 use Rattle.objects.specs.Pointers.{place_after, moved}

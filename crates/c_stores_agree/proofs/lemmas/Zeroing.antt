@@ -12,14 +12,14 @@ use Rattle.objects.specs.declared.value.Value.TheVariants.{Number, Pointer, Func
 use Rattle.objects.specs.declared.width.Width.{Width}
 use Rattle.objects.specs.declared.width.Width.TheVariants as width
 use Rattle.objects.specs.Accesses.{written}
-use Rattle.objects.specs.AccessLaws.{not_less}
+use Rattle.objects.proofs.lemmas.AccessLaws.{not_less}
 use Rattle.objects.specs.Arithmetic.{signed_of, is_less, comparison_value, binary_value}
 use Rattle.objects.specs.Objects.{Object as Old}
 use Rattle.objects.specs.Pointers.{place_after, moved}
 use Rattle.objects.specs.Values.{bytes_in}
 use Rattle.op_forest.specs.declared.frame.Slot.{Slot}
 use Rattle.op_forest.specs.declared.suffix.Suffix.TheVariants.{I}
-use Rattle.forests.specs.BitLaws.{signed_low}
+use Rattle.forests.proofs.lemmas.BitLaws.{signed_low}
 use Rattle.forests.specs.Words.{Word, Plain, unknown}
 use Rattle.dag_forest.specs.Tally.{node_count}
 use Rattle.dag_seam.specs.SplitLaws.{TurnsMean}

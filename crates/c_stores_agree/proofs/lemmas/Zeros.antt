@@ -16,13 +16,13 @@ use Rattle.objects.specs.declared.value.Value.TheVariants.{Number, Pointer, Func
 use Rattle.objects.specs.declared.width.Width.{Width}
 use Rattle.objects.specs.declared.width.Width.TheVariants as width
 use Rattle.objects.specs.Accesses.{write_cause, stored_through, written, zeroed}
-use Rattle.objects.specs.AccessLaws.{unless_none, unless_same, first_not, first_rest, its_object, not_less}
-use Rattle.objects.specs.AccessLaws as access
-use Rattle.objects.specs.ByteLaws.{written_twice}
+use Rattle.objects.proofs.lemmas.AccessLaws.{unless_none, unless_same, first_not, first_rest, its_object, not_less}
+use Rattle.objects.proofs.lemmas.AccessLaws as access
+use Rattle.objects.proofs.lemmas.ByteLaws.{written_twice}
 use Rattle.objects.specs.Causes.{first_cause, is_outside, is_misaligned, is_dead, is_refused}
 use Rattle.objects.specs.Objects.{Object, object_of, overwritten, stored}
 use Rattle.objects.specs.Pointers.{place_after}
-use Rattle.objects.specs.StorageLaws.{lives_stay}
+use Rattle.objects.proofs.lemmas.StorageLaws.{lives_stay}
 use Rattle.objects.specs.Values.{bytes_in}
 
 abbrev pub zeros : ℕ → List (Byte Value)

@@ -10,7 +10,8 @@ use Rattle.forests.specs.Actions.{Action, effect_of}
 use Rattle.forests.specs.Alike.{AreAlike}
 use Rattle.forests.specs.Bodies.{does}
 use Rattle.forests.specs.Budgets.{with_left}
-use Rattle.forests.specs.Kept.{Kept, does_kept, calls_kept}
+use Rattle.forests.specs.Kept.{Kept}
+use Rattle.forests.proofs.lemmas.Kept.{does_kept, calls_kept}
 use Rattle.forests.specs.Objects.{Object}
 use Rattle.forests.specs.Rows.{acts}
 use Rattle.forests.specs.Words.{Word}

@@ -8,7 +8,7 @@ use Rattle.objects.specs.declared.purpose.Purpose.TheVariants.{Assignment}
 use Rattle.objects.specs.declared.value.Value.{Value}
 use Rattle.objects.specs.declared.value.Value.TheVariants.{Number, Pointer, Function}
 use Rattle.objects.specs.Accesses.{number_or_zero, written, field_written}
-use Rattle.objects.specs.AccessLaws.{first_not}
+use Rattle.objects.proofs.lemmas.AccessLaws.{first_not}
 use Rattle.objects.specs.Causes.{first_cause, is_no_number}
 use Rattle.objects.specs.Conversions.{extended}
 use Rattle.objects.specs.Objects.{Object as Old}

@@ -6,7 +6,7 @@ use Rattle.lcc_base.specs.declared.order.Order.{Order}
 use Rattle.objects.specs.declared.purpose.Purpose.TheVariants.{Assignment}
 use Rattle.objects.specs.declared.value.Value.{Value}
 use Rattle.objects.specs.Accesses.{read_cause, bytes_through, read, field_read}
-use Rattle.objects.specs.AccessLaws.{unless_same}
+use Rattle.objects.proofs.lemmas.AccessLaws.{unless_same}
 use Rattle.objects.specs.Arithmetic.{binary_value}
 use Rattle.objects.specs.Conversions.{as_type}
 use Rattle.objects.specs.Fields.{field_in}

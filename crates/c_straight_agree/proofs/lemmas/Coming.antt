@@ -2,7 +2,8 @@
 use Rattle.std.specs.Prelude.{◌≡◌, ◌≤◌, ◌<◌, ℕ, Option, Some, None, [], length}
 use Rattle.std.proofs.Common.{refl, sym, subst, ◌∙◌, arith}
 use Rattle.objects.specs.declared.value.Value.{Value}
-use Rattle.forests.specs.Alike.{AreAlike, acts_alike}
+use Rattle.forests.specs.Alike.{AreAlike}
+use Rattle.forests.proofs.lemmas.Alike.{acts_alike}
 use Rattle.forests.specs.Words.{Word, IsWord}
 use Rattle.forests.specs.Worlds.{World, Outcome}
 use Rattle.dag_forest.specs.Meaning.{Keeps}

@@ -6,7 +6,7 @@ use Rattle.objects.specs.declared.purpose.Purpose.{Purpose}
 use Rattle.objects.specs.declared.purpose.Purpose.TheVariants.{Assignment}
 use Rattle.objects.specs.declared.value.Value.{Value}
 use Rattle.objects.specs.Accesses.{read_cause, write_cause, bytes_through, stored_through}
-use Rattle.objects.specs.AccessLaws.{unless_none}
+use Rattle.objects.proofs.lemmas.AccessLaws.{unless_none}
 use Rattle.objects.specs.Copies.{or_cause, copy_cause}
 use Rattle.objects.specs.Copies as object
 use Rattle.objects.specs.Objects.{Object as Old}

@@ -7,7 +7,8 @@ use Rattle.objects.specs.declared.value.Value.TheVariants.{Pointer}
 use Rattle.op_forest.specs.declared.op.Op.{Op}
 use Rattle.op_forest.specs.declared.op.Op.TheVariants as op
 use Rattle.op_forest.specs.Nodes.{Head}
-use Rattle.forests.specs.Alike.{AreAlike, acts_alike}
+use Rattle.forests.specs.Alike.{AreAlike}
+use Rattle.forests.proofs.lemmas.Alike.{acts_alike}
 use Rattle.forests.specs.Words.{Word, Plain, IsWord}
 use Rattle.forests.specs.Worlds.{World}
 use Rattle.dag_forest.specs.Meaning.{Keeps, Temporary}

@@ -4,10 +4,11 @@ use Rattle.std.proofs.Common.{⊎_elim, refl, sym, subst, ◌∙◌, arith}
 use Rattle.objects.specs.declared.value.Value.{Value}
 use Rattle.op_forest.specs.Nodes.{Head}
 use Rattle.forests.specs.Actions.{Gave}
-use Rattle.forests.specs.Alike.{acts_alike}
+use Rattle.forests.proofs.lemmas.Alike.{acts_alike}
 use Rattle.forests.specs.Rows.{acts}
 use Rattle.forests.specs.Sound.{AreSoundObjects, IsSoundEnvironment}
-use Rattle.forests.specs.SoundRows.{IsSoundAction, acts_sound}
+use Rattle.forests.specs.SoundRows.{IsSoundAction}
+use Rattle.forests.proofs.lemmas.SoundRows.{acts_sound}
 use Rattle.forests.specs.Words.{Word, IsWord}
 use Rattle.forests.specs.Worlds.{World}
 use Rattle.dag_forest.specs.Meaning.{Keeps}

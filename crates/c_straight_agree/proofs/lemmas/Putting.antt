@@ -20,12 +20,12 @@ use Rattle.op_forest.specs.Nodes.{Head}
 use Rattle.forests.specs.Actions.{Gave}
 use Rattle.forests.specs.Alike.{AreAlike}
 use Rattle.forests.specs.Addresses.{Environment}
-use Rattle.forests.specs.Kept.{shapes-stored_through}
+use Rattle.forests.proofs.lemmas.Kept.{shapes-stored_through}
 use Rattle.forests.specs.Objects.{Object, shape_of}
 use Rattle.forests.specs.Rows.{acts}
 use Rattle.forests.specs.Sound.{AreSoundBytes}
-use Rattle.forests.specs.SoundBytes.{whole_byte, word_bytes_sound, stored_through_sound}
-use Rattle.forests.specs.WordLaws.{stored_elsewhere}
+use Rattle.forests.proofs.lemmas.SoundBytes.{whole_byte, word_bytes_sound, stored_through_sound}
+use Rattle.forests.proofs.lemmas.WordLaws.{stored_elsewhere}
 use Rattle.forests.specs.Words.{Word, IsWord, low_number}
 use Rattle.forests.specs.Worlds.{World}
 use Rattle.dag_forest.specs.declared.kind.Kind.{Kind}

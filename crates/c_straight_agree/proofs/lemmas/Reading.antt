@@ -9,7 +9,7 @@ use Rattle.objects.specs.declared.value.ObjectName.{ObjectName}
 use Rattle.objects.specs.declared.value.Value.{Value}
 use Rattle.objects.specs.declared.width.Width.TheVariants as width
 use Rattle.objects.specs.Accesses.{read_cause, write_cause, read, field_read, if_none}
-use Rattle.objects.specs.AccessLaws.{first_not, first_rest}
+use Rattle.objects.proofs.lemmas.AccessLaws.{first_not, first_rest}
 use Rattle.objects.specs.Causes.{first_cause, is_outside, is_misaligned, is_dead, is_refused}
 use Rattle.objects.specs.Objects.{Object as Old}
 use Rattle.objects.specs.Values.{bytes_in}

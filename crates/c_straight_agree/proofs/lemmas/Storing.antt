@@ -8,7 +8,7 @@ use Rattle.objects.specs.declared.value.Value.{Value}
 use Rattle.objects.specs.declared.width.Width.{Width}
 use Rattle.objects.specs.declared.width.Width.TheVariants as width
 use Rattle.objects.specs.Accesses.{write_cause, written, field_written}
-use Rattle.objects.specs.AccessLaws.{unless_none}
+use Rattle.objects.proofs.lemmas.AccessLaws.{unless_none}
 use Rattle.objects.specs.Causes.{first_cause, is_no_number, is_narrowed}
 use Rattle.objects.specs.Objects.{Object as Old}
 use Rattle.objects.specs.Values.{bytes_in}
@@ -16,7 +16,8 @@ use Rattle.op_forest.specs.declared.op.Op.TheVariants as op
 use Rattle.op_forest.specs.declared.suffix.Suffix.{Suffix}
 use Rattle.op_forest.specs.declared.suffix.Suffix.TheVariants.{C, S, I, U, P, B, V}
 use Rattle.forests.specs.Sound.{AreSoundObjects}
-use Rattle.forests.specs.SoundRows.{IsSoundAction, acts_sound}
+use Rattle.forests.specs.SoundRows.{IsSoundAction}
+use Rattle.forests.proofs.lemmas.SoundRows.{acts_sound}
 use Rattle.forests.specs.Words.{Word}
 use Rattle.forests.specs.Worlds.{World, Outcome}
 use Rattle.dag_forest.specs.Meaning.{Keeps}

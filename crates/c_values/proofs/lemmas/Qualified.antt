@@ -5,7 +5,7 @@ use Rattle.c_types.specs.declared.extent.Extent.{Extent}
 use Rattle.c_types.specs.CType.{CType, Plain, Array, Simple, qualify}
 use Rattle.c_types.specs.Compatible.{basic_place}
 use Rattle.c_types.specs.Layout.{extent_by}
-use Rattle.c_types.specs.Qualifying.{qualify_none}
+use Rattle.c_types.proofs.lemmas.Qualifying.{qualify_none}
 use Rattle.c_meaning.specs.Values.{same_simple}
 use Rattle.c_values.specs.Valued.{plain_place}
 

@@ -7,7 +7,8 @@ use Rattle.forests.specs.Worlds.{World, Point, Move, Went}
 use Rattle.forests.specs.Bodies.{Setting, does}
 use Rattle.forests.specs.Alike.{AreAlike}
 use Rattle.forests.specs.Budgets.{with_left}
-use Rattle.forests.specs.Kept.{CallsKeep, Kept, does_kept}
+use Rattle.forests.specs.Kept.{CallsKeep, Kept}
+use Rattle.forests.proofs.lemmas.Kept.{does_kept}
 use Rattle.dag_forest.specs.declared.entry.Entry.{Entry}
 use Rattle.dag_forest.specs.declared.entry.Entry.TheVariants.{Value, Root}
 use Rattle.dag_forest.specs.declared.key.Key.{Key}

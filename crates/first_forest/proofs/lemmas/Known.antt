@@ -11,7 +11,7 @@ use Rattle.op_forest.specs.declared.op.Op.TheVariants as op
 use Rattle.op_forest.specs.Nodes.{Node, head_of, One}
 use Rattle.op_forest.specs.EachNode.{AtEachNode}
 use Rattle.op_forest.specs.Lowered.{LoweredUnit, IsKnown, IsFunctionOf, IsLowered}
-use Rattle.op_forest.specs.UnitOfMain as main
+use Rattle.op_forest.proofs.lemmas.UnitOfMain as main
 use Rattle.first_forest.specs.FirstForest.{expression_node, int_head, putchar_node, print_roots, return_root, roots_of, unit_names, main_of, unit_of}
 
 -- what the symbols of a tree name is there

@@ -24,7 +24,8 @@ use Rattle.forests.specs.Functions.{Program, answered, setting_of, call_by}
 use Rattle.forests.specs.Meaning.{counted_run, counted_call, call_of}
 use Rattle.forests.specs.Budgets.{with_left, with_calls}
 use Rattle.lcc_base.specs.Prefixes.{Starts, starts_trans, output_starts, depth_starts}
-use Rattle.forests.specs.OneRoot.{runs_in, one_call, one_root, no_steps}
+use Rattle.forests.specs.OneRoot.{runs_in}
+use Rattle.forests.proofs.lemmas.OneRoot.{one_call, one_root, no_steps}
 use Rattle.forests.specs.Units.{program_of, start_world}
 use Rattle.op_forest.specs.Units.{body_of}
 use Rattle.first_forest.specs.FirstForest.{expression_node, int_head, putchar_node, print_roots, return_root, roots_of, main_of, unit_of}

@@ -10,7 +10,7 @@ use Rattle.objects.specs.declared.value.ObjectName.{ObjectName}
 use Rattle.objects.specs.declared.value.Value.{Value}
 use Rattle.objects.specs.declared.value.Value.TheVariants.{Pointer}
 use Rattle.objects.specs.Accesses.{bytes_written, write_cause}
-use Rattle.objects.specs.AccessLaws.{unless_same}
+use Rattle.objects.proofs.lemmas.AccessLaws.{unless_same}
 use Rattle.objects.specs.Objects.{Object, Storage, stored}
 use Rattle.objects.specs.Places.{IsLeft}
 use Rattle.c_worlds.proofs.lemmas.Stores.{same_storage}

@@ -21,7 +21,7 @@ use Rattle.objects.specs.Causes.{is_outside, is_misaligned, is_dead, breaks_whol
 use Rattle.objects.specs.Conversions.{as_type}
 use Rattle.objects.specs.Scalars.{scalar_cause, scalar_value, whole_or, scalar_of}
 use Rattle.objects.specs.Accesses.{read, read_cause, if_none, number_given}
-use Rattle.objects.specs.AccessLaws.{unless_none, unless_same, first_not, first_rest, its_object, size_of, not_less}
+use Rattle.objects.proofs.lemmas.AccessLaws.{unless_none, unless_same, first_not, first_rest, its_object, size_of, not_less}
 use Rattle.c_meaning.specs.Each.{EachIs}
 use Rattle.c_runs.specs.Soundness.{IsSoundByte, IsSoundObject}
 use Rattle.c_match.proofs.lemmas.Scalars.{whole_bytes}

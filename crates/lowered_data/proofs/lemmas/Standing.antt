@@ -12,7 +12,7 @@ use Rattle.objects.specs.declared.byte.Byte.TheVariants.{Bits}
 use Rattle.objects.specs.declared.value.ObjectName.{ObjectName}
 use Rattle.objects.specs.declared.value.Value.{Value}
 use Rattle.objects.specs.declared.value.Value.TheVariants.{Number, Pointer, Function}
-use Rattle.objects.specs.AccessLaws.{size_of}
+use Rattle.objects.proofs.lemmas.AccessLaws.{size_of}
 use Rattle.objects.specs.Bytes.{known_bytes, part_bytes}
 use Rattle.objects.specs.Causes.{leaves_object}
 use Rattle.objects.specs.Objects.{Object, object_of}

@@ -6,7 +6,8 @@ use Rattle.op_forest.specs.Labels.{behind}
 use Rattle.op_forest.specs.Nodes.{Node}
 use Rattle.forests.specs.Bodies.{at_label}
 use Rattle.forests.specs.Budgets.{with_left}
-use Rattle.forests.specs.OneRoot.{runs_in, one_root}
+use Rattle.forests.specs.OneRoot.{runs_in}
+use Rattle.forests.proofs.lemmas.OneRoot.{one_root}
 use Rattle.forests.specs.Words.{Word, unknown}
 use Rattle.forests.specs.Worlds.{World, Point, Outcome}
 use Rattle.dag_forest.specs.declared.act.Act.{Act}

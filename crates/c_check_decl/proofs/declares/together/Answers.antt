@@ -1,4 +1,4 @@
-use Rattle.c_check_decl.specs.DeclaresStay.{IsTogether, together_seen, together_within}
+use Rattle.c_check_decl.proofs.lemmas.DeclaresStay.{IsTogether, together_seen, together_within}
 use Rattle.c_check_decl.proofs.declares.together.Goals as goal
 
 pub returns-clause-is : goal.returns-clause-is

@@ -1,7 +1,7 @@
 use Rattle.std.proofs.Common.{length, sym, ap, ◌∙◌}
 use Rattle.c_types.specs.CType.{CType, qualify}
 use Rattle.c_types.specs.Compatible.{compatible}
-use Rattle.c_types.specs.Qualifying.{qualify_none}
+use Rattle.c_types.proofs.lemmas.Qualifying.{qualify_none}
 use Rattle.c_types.specs.Table.{type_at}
 use Rattle.c_meaning.specs.TypeRows.{formed}
 use Rattle.c_check_expr.specs.PartsSeen.{steps_seen}

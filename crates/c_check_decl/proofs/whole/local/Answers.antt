@@ -1,6 +1,6 @@
 use Rattle.std.proofs.Common.{length}
 use Rattle.c_types.specs.Table.{type_at}
-use Rattle.c_check_decl.specs.DeclaresStay.{local_seen, one_local}
+use Rattle.c_check_decl.proofs.lemmas.DeclaresStay.{local_seen, one_local}
 use Rattle.c_check_decl.proofs.whole.local.Goals as goal
 
 pub returns-clause-is : goal.returns-clause-is

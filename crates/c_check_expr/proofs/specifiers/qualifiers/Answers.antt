@@ -5,7 +5,7 @@ use Rattle.std.proofs.lemmas.List.{at_drop_all, at_drop_more}
 use Rattle.c_ast.specs.declared.specifier.Storage.TheVariants as class
 use Rattle.c_check_expr.specs.declared.parts.Part.TheVariants as part
 use Rattle.c_check_expr.specs.Counted.{qualifier_in, qualifiers_among}
-use Rattle.c_types.specs.Qualifying.{or_assoc}
+use Rattle.c_types.proofs.lemmas.Qualifying.{or_assoc}
 use Rattle.c_check_expr.proofs.specifiers.qualifiers.Goals as goal
 
 pub loop-part-preserved : goal.loop-part-preserved

@@ -2,7 +2,7 @@ use Rattle.std.proofs.Common.{◌≡◌, ℕ, ◌<◌, ◌+◌, List, length, ge
 use Rattle.std.specs.Prelude.{bit_or}
 use Rattle.std.specs.Int.Bits.{or_zero_r}
 use Rattle.std.proofs.lemmas.List.{at_drop_all, at_drop_more}
-use Rattle.c_types.specs.Qualifying.{or_assoc}
+use Rattle.c_types.proofs.lemmas.Qualifying.{or_assoc}
 use Rattle.c_ast.specs.declared.specifier.Qualifier.{Qualifier}
 use Rattle.c_meaning.specs.TypeRows.{qualifier_bit, qualifiers_among}
 use Rattle.c_check_expr.proofs.walk_declarators.qualifier_set.Goals as goal

@@ -2,7 +2,7 @@ use Rattle.std.proofs.Common.{◌≡◌, sym, ap, ◌∙◌}
 use Rattle.std.specs.Prelude.{None}
 use Rattle.c_types.specs.Table.{tags}
 use Rattle.c_values.specs.Stays.{extends_on, grows_on}
-use Rattle.c_check_decl.specs.StmtsStay.{maybe_stays}
+use Rattle.c_check_decl.proofs.lemmas.StmtsStay.{maybe_stays}
 use Rattle.c_units.specs.Bodies.{maybe_value}
 use Rattle.c_meaning.specs.Postorder.{or_else}
 use Rattle.c_units.specs.Statements.{value_fault}

@@ -2,8 +2,9 @@ use Rattle.std.specs.Prelude.{false, ◌∷◌}
 use Rattle.forests.specs.Words.{unknown}
 use Rattle.forests.specs.Budgets.{with_calls}
 use Rattle.forests.specs.Meaning.{call_of}
-use Rattle.forests.specs.Kept.{calls_kept}
-use Rattle.forests.specs.OneRoot.{runs_in, one_root, no_steps}
+use Rattle.forests.proofs.lemmas.Kept.{calls_kept}
+use Rattle.forests.specs.OneRoot.{runs_in}
+use Rattle.forests.proofs.lemmas.OneRoot.{one_root, no_steps}
 use Rattle.dag_forest.specs.Emission.{Lost, no_tree}
 use Rattle.dag_forest.specs.Schedules.{acts_of}
 use Rattle.dag_forest.proofs.lemmas.Once.{acts_are_once}

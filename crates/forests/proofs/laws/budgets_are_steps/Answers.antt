@@ -1,5 +1,5 @@
-use Rattle.forests.specs.Nested.{calls_meet}
-use Rattle.forests.specs.Reached.{nested_reaches}
+use Rattle.forests.proofs.lemmas.Nested.{calls_meet}
+use Rattle.forests.proofs.lemmas.Reached.{nested_reaches}
 use Rattle.forests.proofs.laws.budgets_are_steps.Goals as goal
 
 pub returns-clause-meets : goal.returns-clause-meets

@@ -1,4 +1,4 @@
-use Rattle.forests.specs.MayBe.{and_may, or_may, xor_may, complement_may, left_may, right_may, right_signed_may}
+use Rattle.forests.proofs.lemmas.MayBe.{and_may, or_may, xor_may, complement_may, left_may, right_may, right_signed_may}
 use Rattle.forests.proofs.laws.known_bits_are_kept.Goals as goal
 
 pub returns-clause-and : goal.returns-clause-and

@@ -1,6 +1,6 @@
 use Rattle.forests.specs.Budgets.{with_calls}
 use Rattle.forests.specs.Meaning.{call_of}
-use Rattle.forests.specs.Kept.{evaluate_kept, calls_kept}
+use Rattle.forests.proofs.lemmas.Kept.{evaluate_kept, calls_kept}
 use Rattle.forests.proofs.laws.objects_keep_their_shapes.Goals as goal
 
 pub returns-clause-trees : goal.returns-clause-trees

@@ -1,4 +1,4 @@
-use Rattle.forests.specs.Alike.{acts_alike, word_read_alike, number_read_alike}
+use Rattle.forests.proofs.lemmas.Alike.{acts_alike, word_read_alike, number_read_alike}
 use Rattle.forests.proofs.laws.operators_act_alike.Goals as goal
 
 pub returns-clause-rows : goal.returns-clause-rows

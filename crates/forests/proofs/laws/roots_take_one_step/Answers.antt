@@ -1,6 +1,6 @@
 use Rattle.forests.specs.Budgets.{with_calls}
 use Rattle.forests.specs.Meaning.{call_of}
-use Rattle.forests.specs.OneRoot.{one_root, end_of_roots, no_steps}
+use Rattle.forests.proofs.lemmas.OneRoot.{one_root, end_of_roots, no_steps}
 use Rattle.forests.proofs.laws.roots_take_one_step.Goals as goal
 
 pub returns-clause-root : goal.returns-clause-root

@@ -1,6 +1,6 @@
 use Rattle.lcc_base.specs.Prefixes.{output_starts, depth_starts}
-use Rattle.forests.specs.Begun.{call_begins}
-use Rattle.forests.specs.Further.{call_further}
+use Rattle.forests.proofs.lemmas.Begun.{call_begins}
+use Rattle.forests.proofs.lemmas.Further.{call_further}
 use Rattle.forests.proofs.laws.runs_go_further.Goals as goal
 
 pub returns-clause-begins : goal.returns-clause-begins

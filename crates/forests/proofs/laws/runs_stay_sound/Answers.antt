@@ -1,7 +1,7 @@
 use Rattle.forests.specs.Budgets.{with_calls}
 use Rattle.forests.specs.Meaning.{call_of}
-use Rattle.forests.specs.SoundRuns.{evaluate_sound, calls_sound}
-use Rattle.forests.specs.SoundUnits.{program_sound, main_sound}
+use Rattle.forests.proofs.lemmas.SoundRuns.{evaluate_sound, calls_sound}
+use Rattle.forests.proofs.lemmas.SoundUnits.{program_sound, main_sound}
 use Rattle.forests.proofs.laws.runs_stay_sound.Goals as goal
 
 pub returns-clause-trees : goal.returns-clause-trees

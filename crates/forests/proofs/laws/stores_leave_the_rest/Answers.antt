@@ -1,6 +1,6 @@
-use Rattle.objects.specs.ByteLaws.{others_stay}
-use Rattle.forests.specs.Kept.{shapes-stored_through}
-use Rattle.forests.specs.WordLaws.{stored_elsewhere, stored_at}
+use Rattle.objects.proofs.lemmas.ByteLaws.{others_stay}
+use Rattle.forests.proofs.lemmas.Kept.{shapes-stored_through}
+use Rattle.forests.proofs.lemmas.WordLaws.{stored_elsewhere, stored_at}
 use Rattle.forests.proofs.laws.stores_leave_the_rest.Goals as goal
 
 pub returns-clause-shapes : goal.returns-clause-shapes

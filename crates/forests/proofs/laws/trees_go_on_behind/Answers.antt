@@ -1,4 +1,4 @@
-use Rattle.forests.specs.Moving.{evaluate_next, no_jump}
+use Rattle.forests.proofs.lemmas.Moving.{evaluate_next, no_jump}
 use Rattle.forests.proofs.laws.trees_go_on_behind.Goals as goal
 
 pub returns-clause-next : goal.returns-clause-next

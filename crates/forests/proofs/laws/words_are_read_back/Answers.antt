@@ -1,4 +1,4 @@
-use Rattle.forests.specs.WordLaws.{word_back, word_is_read}
+use Rattle.forests.proofs.lemmas.WordLaws.{word_back, word_is_read}
 use Rattle.forests.proofs.laws.words_are_read_back.Goals as goal
 
 pub returns-clause-bytes : goal.returns-clause-bytes

@@ -1,6 +1,6 @@
 use Rattle.std.proofs.Common.{sym, ap, ◌∙◌}
 use Rattle.lburg_lines.specs.Tokens.{escapes_well}
-use Rattle.lburg_lines.specs.LongestTokens.{text_next}
+use Rattle.lburg_lines.proofs.lemmas.LongestTokens.{text_next}
 use Rattle.lburg_lines.proofs.lexing.text.Goals as goal
 
 pub returns-in-Some-clause-some : goal.returns-in-Some-clause-some

@@ -1,7 +1,7 @@
 use Rattle.std.proofs.Common.{◌≡◌, ℕ, List, refl, ap, subst, ◌∙◌, inl}
 use Rattle.lburg_model.specs.Derivation.{MDerivation, cost, numbers, applied}
 use Rattle.lburg_model.specs.CoverText.{spaced, cost_line}
-use Rattle.lburg_model.specs.Laws.{numbers_applied, one_best}
+use Rattle.lburg_model.proofs.lemmas.Laws.{numbers_applied, one_best}
 use Rattle.lburg_tool.specs.Printing.{Adds}
 use Rattle.lburg_tool.proofs.Printed.{adds_then, run_adds}
 use Rattle.lburg_tool.proofs.cover.print_covered.Goals as goal

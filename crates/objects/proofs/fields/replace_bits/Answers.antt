@@ -1,5 +1,5 @@
 use Rattle.std.proofs.Common.{arith}
-use Rattle.objects.specs.BitLaws.{fits}
+use Rattle.objects.proofs.lemmas.BitLaws.{fits}
 use Rattle.objects.proofs.fields.replace_bits.Goals as goal
 
 pub overflow_cast-result : goal.overflow_cast-result

@@ -1,4 +1,4 @@
-use Rattle.objects.specs.BitLaws.{bits_replaced, bits_below_stay, bits_above_stay}
+use Rattle.objects.proofs.lemmas.BitLaws.{bits_replaced, bits_below_stay, bits_above_stay}
 use Rattle.objects.proofs.laws.bits_are_written.Goals as goal
 
 pub returns-clause-inside : goal.returns-clause-inside

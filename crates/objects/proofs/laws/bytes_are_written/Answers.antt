@@ -1,4 +1,4 @@
-use Rattle.objects.specs.ByteLaws.{reads_written, others_stay, written_twice}
+use Rattle.objects.proofs.lemmas.ByteLaws.{reads_written, others_stay, written_twice}
 use Rattle.objects.proofs.laws.bytes_are_written.Goals as goal
 
 pub returns-clause-inside : goal.returns-clause-inside

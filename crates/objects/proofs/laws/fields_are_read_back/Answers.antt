@@ -1,4 +1,4 @@
-use Rattle.objects.specs.FieldLaws.{field_back}
+use Rattle.objects.proofs.lemmas.FieldLaws.{field_back}
 use Rattle.objects.proofs.laws.fields_are_read_back.Goals as goal
 
 pub returns : goal.returns

@@ -1,4 +1,4 @@
-use Rattle.objects.specs.StorageLaws.{others_stay, lives_stay, new_object, names_stay, first_live, others_die}
+use Rattle.objects.proofs.lemmas.StorageLaws.{others_stay, lives_stay, new_object, names_stay, first_live, others_die}
 use Rattle.objects.proofs.laws.objects_live_and_end.Goals as goal
 
 pub returns-clause-others : goal.returns-clause-others

@@ -1,4 +1,4 @@
-use Rattle.objects.specs.ScalarLaws.{read_back, halves_read}
+use Rattle.objects.proofs.lemmas.ScalarLaws.{read_back, halves_read}
 use Rattle.objects.proofs.laws.scalars_are_read_back.Goals as goal
 
 pub returns-clause-back : goal.returns-clause-back

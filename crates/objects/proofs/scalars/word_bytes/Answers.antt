@@ -1,4 +1,4 @@
-use Rattle.objects.specs.NumberLaws.{split_is}
+use Rattle.objects.proofs.lemmas.NumberLaws.{split_is}
 use Rattle.objects.proofs.scalars.word_bytes.Goals as goal
 
 pub returns-clause-is : goal.returns-clause-is

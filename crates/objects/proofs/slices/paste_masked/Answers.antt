@@ -1,5 +1,5 @@
 use Rattle.std.proofs.Common.{ℕ, List, ◌+◌, length, take, drop, replicate, refl, ap, ◌∙◌, arith}
-use Rattle.objects.specs.ByteLaws.{length-overwritten}
+use Rattle.objects.proofs.lemmas.ByteLaws.{length-overwritten}
 use Rattle.objects.specs.Objects.{overwritten}
 use Rattle.objects.proofs.Halves.{take-over, take-over-behind, drop-over-before, drop-over-behind}
 use Rattle.objects.proofs.slices.paste_masked.Goals as goal

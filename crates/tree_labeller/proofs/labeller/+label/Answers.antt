@@ -9,7 +9,7 @@ use Rattle.lburg_tables.specs.Row.{Closed, Everywhere}
 use Rattle.lburg_tables.specs.RowOf.{seen, row_of}
 use Rattle.tree_labeller.specs.Rows.{Row}
 use Rattle.tree_labeller.specs.Labelled.{Started, Filled, Labelled}
-use Rattle.tree_labeller.specs.Totals.{nodes_pos}
+use Rattle.tree_labeller.proofs.lemmas.Totals.{nodes_pos}
 use Rattle.tree_labeller.specs.Trials.{AtRoot}
 use Rattle.tree_labeller.proofs.Counting.{root_trials, no_kids, one_kid, two_kids}
 use Rattle.tree_labeller.proofs.Finish.{Agree, kids_two, other_row, own_cells, stored_row}

@@ -3,7 +3,7 @@ use Rattle.std.proofs.lemmas.List.{length-map}
 use Rattle.lburg_model.specs.Description.{MDescription}
 use Rattle.lburg_model.specs.DerivationOf.{derivation_of}
 use Rattle.op_forest.specs.Nodes.{value_nodes}
-use Rattle.op_forest.specs.NodeCounts.{value_nodes_few_in}
+use Rattle.op_forest.proofs.lemmas.NodeCounts.{value_nodes_few_in}
 use Rattle.vcode.specs.Roots.{IsQuiet}
 use Rattle.vcode.specs.RuleSets.{row_of}
 use Rattle.vcode.proofs.Forests.{cover_length, root_at, none_gathered, gathered_low, gathered_room, more_gathered, all_gathered, linearised}

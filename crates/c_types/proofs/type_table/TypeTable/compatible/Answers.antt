@@ -2,7 +2,7 @@ use Rattle.std.proofs.Common.{ap, ◌∙◌}
 use Rattle.c_types.specs.CType.{qualify}
 use Rattle.c_types.specs.Compatible.{compatible}
 use Rattle.c_types.specs.Table.{type_at}
-use Rattle.c_types.specs.Qualifying.{qualify_none}
+use Rattle.c_types.proofs.lemmas.Qualifying.{qualify_none}
 use Rattle.c_types.proofs.type_table.TypeTable.compatible.Goals as goal
 
 pub returns : goal.returns

@@ -3,7 +3,7 @@ use Rattle.std.specs.Prelude.{bit_and, ◌==◌}
 use Rattle.c_types.specs.CType.{depth}
 use Rattle.c_types.specs.Constness.{const_known, has_const_by}
 use Rattle.c_types.specs.Table.{tags, type_at}
-use Rattle.c_types.specs.Qualifying.{depth_qualify}
+use Rattle.c_types.proofs.lemmas.Qualifying.{depth_qualify}
 use Rattle.c_types.proofs.Const.{const_qualified, const_unqualified}
 use Rattle.c_types.proofs.type_table.TypeTable.has_const.Goals as goal
 

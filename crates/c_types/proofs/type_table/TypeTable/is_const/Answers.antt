@@ -3,7 +3,7 @@ use Rattle.std.specs.Prelude.{bit_and, ◌==◌}
 use Rattle.c_types.specs.CType.{depth}
 use Rattle.c_types.specs.Constness.{is_const}
 use Rattle.c_types.specs.Table.{type_at}
-use Rattle.c_types.specs.Qualifying.{depth_qualify}
+use Rattle.c_types.proofs.lemmas.Qualifying.{depth_qualify}
 use Rattle.c_types.proofs.Bare.{bare_at}
 use Rattle.c_types.proofs.Const.{own_const, own_unqualified, none_const}
 use Rattle.c_types.proofs.type_table.TypeTable.is_const.Goals as goal

@@ -3,7 +3,7 @@ use Rattle.c_types.specs.Bounds.{IsBounded}
 use Rattle.c_types.specs.CType.{qualify, depth}
 use Rattle.c_types.specs.Layout.{extent_by, known}
 use Rattle.c_types.specs.Table.{excess, extent_at, tags, type_at}
-use Rattle.c_types.specs.Qualifying.{depth_qualify, qualify_twice}
+use Rattle.c_types.proofs.lemmas.Qualifying.{depth_qualify, qualify_twice}
 use Rattle.c_types.proofs.Fresh.{no_object_bounded}
 use Rattle.c_types.proofs.Known.{extent_qualify}
 use Rattle.c_types.proofs.type_table.TypeTable.qualified_facts.Goals as goal

@@ -1,7 +1,7 @@
 use Rattle.std.proofs.Common.{sym, ap, ◌∙◌, arith}
 use Rattle.c_types.specs.CType.{qualify}
 use Rattle.c_types.specs.Table.{type_at}
-use Rattle.c_types.specs.Qualifying.{qualify_twice}
+use Rattle.c_types.proofs.lemmas.Qualifying.{qualify_twice}
 use Rattle.c_types.proofs.Limits.{within_at}
 use Rattle.c_types.proofs.type_table.TypeTable.under.Goals as goal
 

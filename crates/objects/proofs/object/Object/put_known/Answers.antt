@@ -2,7 +2,7 @@ use Rattle.std.proofs.Common.{length, ap, ◌∙◌, arith, inl}
 use Rattle.std.specs.BTreeMap.{get}
 use Rattle.std.specs.Ordering.{nat_cmp}
 use Rattle.std.proofs.lemmas.List.{length-take-le}
-use Rattle.objects.specs.ByteLaws.{length-overwritten}
+use Rattle.objects.proofs.lemmas.ByteLaws.{length-overwritten}
 use Rattle.objects.proofs.Halves.{size_is, in_front, masked, all_known_in, all_masked_in, whole_in}
 use Rattle.objects.proofs.object.Object.put_known.Goals as goal
 

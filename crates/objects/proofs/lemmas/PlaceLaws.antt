@@ -6,7 +6,7 @@ use Rattle.objects.specs.declared.byte.Byte.{Byte}
 use Rattle.objects.specs.declared.value.ObjectName.{ObjectName}
 use Rattle.objects.specs.declared.value.Value.{Value}
 use Rattle.objects.specs.declared.value.Value.TheVariants.{Pointer}
-use Rattle.objects.specs.AccessLaws.{size_of, not_less}
+use Rattle.objects.proofs.lemmas.AccessLaws.{size_of, not_less}
 use Rattle.objects.specs.Accesses.{bytes_through, stored_through}
 use Rattle.objects.specs.Causes.{is_read_only, overlaps_in_part}
 use Rattle.objects.specs.Objects.{Object, is_named, if_named, object_of, contents, is_constant, stored}

@@ -20,8 +20,8 @@ use Rattle.objects.specs.Causes.{first_cause, unless, is_outside, is_misaligned,
 use Rattle.objects.specs.Conversions.{converted}
 use Rattle.objects.specs.Scalars.{scalar_bytes, scalar_of}
 use Rattle.objects.specs.Accesses.{read_cause, write_cause, if_none, read, written}
-use Rattle.objects.specs.ByteLaws.{length-overwritten, reads_written}
-use Rattle.objects.specs.ScalarLaws.{read_back}
+use Rattle.objects.proofs.lemmas.ByteLaws.{length-overwritten, reads_written}
+use Rattle.objects.proofs.lemmas.ScalarLaws.{read_back}
 
 -- an object that bytes are written to stands where it stood
 pub stored_at : (objects : List Object) (o place : ℕ) (new : List (Byte Value)) (x : Object) → slice_get objects o ≡ Some x → slice_get (stored objects o place new) o ≡ Some (with_bytes x place new)

@@ -16,8 +16,8 @@ use Rattle.objects.specs.Bytes.{settled_of, part_bits_of, known_of, value_of, nu
 use Rattle.objects.specs.Causes.{first_cause, unless, bits_from}
 use Rattle.objects.specs.Conversions.{sign_extended, extended}
 use Rattle.objects.specs.Fields.{shift_of, bits_of, with_bits, with_field, field_cause, field_in}
-use Rattle.objects.specs.NumberLaws.{number_of_four}
-use Rattle.objects.specs.BitLaws.{replaced_below, bits_replaced, low_below}
+use Rattle.objects.proofs.lemmas.NumberLaws.{number_of_four}
+use Rattle.objects.proofs.lemmas.BitLaws.{replaced_below, bits_replaced, low_below}
 
 -- the masks and values of bytes that are made of them
 masks_of : (order : Order) (k v : ℕ) → number_in order (map settled_of (bits_of (number_bytes order 4 k) (number_bytes order 4 v))) ≡ k % 2 ^ 32

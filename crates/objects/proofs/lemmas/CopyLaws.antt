@@ -8,13 +8,13 @@ use Rattle.objects.specs.declared.byte.Byte.{Byte}
 use Rattle.objects.specs.declared.purpose.Purpose.{Purpose}
 use Rattle.objects.specs.declared.value.Value.{Value}
 use Rattle.objects.specs.declared.value.Value.TheVariants.{Number, Pointer, Function}
-use Rattle.objects.specs.AccessLaws.{first_not, first_rest, unless_none, unless_same, its_object, size_of, not_less, stands}
+use Rattle.objects.proofs.lemmas.AccessLaws.{first_not, first_rest, unless_none, unless_same, its_object, size_of, not_less, stands}
 use Rattle.objects.specs.Accesses.{read_cause, write_cause, bytes_through, stored_through}
 use Rattle.objects.specs.Causes.{first_cause, is_outside, is_misaligned, is_dead, is_refused, overlaps_in_part}
 use Rattle.objects.specs.Copies.{or_cause, copy_cause, copied}
 use Rattle.objects.specs.Objects.{Object, contents}
 use Rattle.objects.specs.Places.{GoesTo}
-use Rattle.objects.specs.PlaceLaws.{inside, reads}
+use Rattle.objects.proofs.lemmas.PlaceLaws.{inside, reads}
 
 or_first : (c d : Option Cause) → or_cause c d ≡ None → c ≡ None
 or_first None d e = refl

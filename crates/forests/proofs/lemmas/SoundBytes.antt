@@ -16,8 +16,8 @@ use Rattle.objects.specs.Objects.{overwritten}
 use Rattle.forests.specs.Words.{Word, Plain, Label, Partly, IsWord, known_word, same_word}
 use Rattle.forests.specs.WordBytes.{word_bytes, whole_or, word_in}
 use Rattle.forests.specs.Objects.{Object, contents, stored, stored_through, bytes_through}
-use Rattle.forests.specs.BitLaws.{and_parts}
-use Rattle.forests.specs.MayBe.{and_ones}
+use Rattle.forests.proofs.lemmas.BitLaws.{and_parts}
+use Rattle.forests.proofs.lemmas.MayBe.{and_ones}
 use Rattle.forests.specs.Sound.{IsSoundByte, AreSoundBytes, AreSoundObjects}
 
 -- ---- lists

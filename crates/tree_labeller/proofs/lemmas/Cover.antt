@@ -9,9 +9,9 @@ use Rattle.tree_labeller.specs.Rows.{Row}
 use Rattle.tree_labeller.specs.Labelled.{cell, Labelled}
 use Rattle.tree_labeller.specs.Indexed.{Derivation, Less, erase}
 use Rattle.tree_labeller.specs.Indexed.{ByCost as less_by_cost, ByCount as less_by_count, ByRules as less_by_rules, IsBest as is_best, cost as cost_i, count as count_i, numbers as numbers_i}
-use Rattle.tree_labeller.specs.Greatest.{found, none}
-use Rattle.tree_labeller.specs.Erased.{derives, indexed, cost_kept, count_kept, numbers_kept}
-use Rattle.lburg_model.specs.Laws.{same_numbers}
+use Rattle.tree_labeller.proofs.lemmas.Greatest.{found, none}
+use Rattle.tree_labeller.proofs.lemmas.Erased.{derives, indexed, cost_kept, count_kept, numbers_kept}
+use Rattle.lburg_model.proofs.lemmas.Laws.{same_numbers}
 
 better : (d : List Rule) (x y : MDerivation) (k m : ℕ) (xs : List ℕ) (k' m' : ℕ) (xs' : List ℕ) → Less k m xs k' m' xs' → cost d x ≡ k → count x ≡ m → numbers x ≡ xs → cost d y ≡ k' → count y ≡ m' → numbers y ≡ xs' → Better d x y
 better d x y k m xs k' m' xs' (less_by_cost h) a b c a' b' c' = ByCost (omega arith)

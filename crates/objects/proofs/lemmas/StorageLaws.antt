@@ -6,8 +6,8 @@ use Rattle.std.proofs.lemmas.Option.{slice_get_past}
 use Rattle.objects.specs.declared.byte.Byte.{Byte}
 use Rattle.objects.specs.declared.value.ObjectName.{ObjectName}
 use Rattle.objects.specs.declared.value.Value.{Value}
-use Rattle.objects.specs.ByteLaws.{length-overwritten}
-use Rattle.objects.specs.AccessLaws.{stored_elsewhere}
+use Rattle.objects.proofs.lemmas.ByteLaws.{length-overwritten}
+use Rattle.objects.proofs.lemmas.AccessLaws.{stored_elsewhere}
 use Rattle.objects.specs.Objects.{Object, Storage, is_named, if_named, object_of, with_bytes, stored, next_name, with_object, ended}
 
 -- a store leaves each object at another place as it is

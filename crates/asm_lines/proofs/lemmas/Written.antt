@@ -11,7 +11,7 @@ use Rattle.asm_lines.specs.Classes.{in_asm}
 use Rattle.asm_lines.specs.Tokens.{Tok, Word, Decimal, Hexadecimal, Dollar, Colon, Comma, Open, Close, Plus, Minus, Wrong, Spaced, text_of, IsName, IsToken}
 use Rattle.asm_lines.specs.Spelling.{IsNext, Starts, Spells}
 use Rattle.asm_lines.specs.ReadBack.{NoFeed}
-use Rattle.asm_lines.specs.Next.{name_symbols, word_is_next, decimal_is_next, dollar_is_next, sign_next}
+use Rattle.asm_lines.proofs.lemmas.Next.{name_symbols, word_is_next, decimal_is_next, dollar_is_next, sign_next}
 
 -- ---- bytes of classes
 

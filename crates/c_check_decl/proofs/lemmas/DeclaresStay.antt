@@ -13,7 +13,7 @@ use Rattle.c_check_decl.specs.declared.declares.Declares.{Declares}
 use Rattle.c_check_decl.specs.declared.declares.DefinedObject.{DefinedObject}
 use Rattle.c_check_decl.specs.declared.declares.LinkedName.{LinkedName}
 use Rattle.c_check_decl.specs.Declares.{AreDeclaredIn, AreFillsIn, AreLinkedIn, AreLocalsIn, AreObjectsIn, declares_in, defined_in, linked_in, stmt_in}
-use Rattle.c_check_decl.specs.StmtsStay.{stmt_later, stmt_stays}
+use Rattle.c_check_decl.proofs.lemmas.StmtsStay.{stmt_later, stmt_stays}
 
 -- ---- parts
 

@@ -10,7 +10,7 @@ use Rattle.lcc_text.proofs.lemmas.Runs.{longest_run, run_exact, run_pos, starts_
 use Rattle.lburg_lines.specs.declared.token.Sign.{Sign}
 use Rattle.lburg_lines.specs.Tokens.{Tok, Word, Number, Negative, Template, Keyword, Mark, Bound, Wrong, text_of, IsToken, is_quoted, escapes_well, sign_code}
 use Rattle.lburg_lines.specs.Spelling.{IsNext, NoToken}
-use Rattle.lburg_lines.specs.FirstBytes.{kind, kind_of, first_kind, same_kind, other_kind}
+use Rattle.lburg_lines.proofs.lemmas.FirstBytes.{kind, kind_of, first_kind, same_kind, other_kind}
 
 or_left : (x y z : Bool) → x ≡ true → ((x || y) || z) ≡ true
 or_left true y z h = refl

@@ -10,7 +10,7 @@ use Rattle.lburg_model.specs.Pattern.{MPattern, pattern_of}
 use Rattle.lburg_model.specs.Best.{Earlier}
 use Rattle.tree_labeller.specs.Indexed.{Derivation, Uses, Parts, AtHole, AtLeaf, AtOne, AtTwo, cost, costs, count, counts, numbers, numbers_in, Less, ByCost, ByCount, ByRules, IsBest}
 use Rattle.tree_labeller.specs.Labelled.{cell, Labelled}
-use Rattle.tree_labeller.specs.Least.{least_cell}
+use Rattle.tree_labeller.proofs.lemmas.Least.{least_cell}
 use Rattle.tree_labeller.specs.Following.{Follows, FollowIn}
 use Rattle.tree_labeller.specs.Followed.{derived}
 

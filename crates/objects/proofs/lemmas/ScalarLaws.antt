@@ -16,7 +16,8 @@ use Rattle.objects.specs.Values.{bits_in, same_object, same_whole}
 use Rattle.objects.specs.Bytes.{number_bytes, part_bytes}
 use Rattle.objects.specs.Conversions.{sign_extended, extended, as_type, converted}
 use Rattle.objects.specs.Scalars.{scalar_bytes, scalar_of}
-use Rattle.objects.specs.NumberLaws.{number_of_one, number_of_two, number_of_four, number_of_halves, by_order}
+use Rattle.objects.specs.NumberLaws.{by_order}
+use Rattle.objects.proofs.lemmas.NumberLaws.{number_of_one, number_of_two, number_of_four, number_of_halves}
 
 -- the low bits of a number's low bits
 extended_low : (signed : Bool) (bits m n : ℕ) → m % 2 ^ bits ≡ n % 2 ^ bits → extended signed bits m ≡ extended signed bits n

@@ -1,0 +1,4 @@
+pub mod Numerals
+pub mod Next
+pub mod Written
+pub mod LabelBack

@@ -1,0 +1,3 @@
+pub mod DeclaresStay
+pub mod FillStmts
+pub mod StmtsStay

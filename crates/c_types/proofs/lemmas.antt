@@ -1,0 +1,2 @@
+pub mod Qualifying
+pub mod Extending

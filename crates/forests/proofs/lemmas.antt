@@ -1,0 +1,17 @@
+pub mod Begun
+pub mod Further
+pub mod OneRoot
+pub mod Effects
+pub mod Nested
+pub mod Reached
+pub mod EachRow
+pub mod Moving
+pub mod Kept
+pub mod Alike
+pub mod WordLaws
+pub mod BitLaws
+pub mod MayBe
+pub mod SoundBytes
+pub mod SoundRows
+pub mod SoundRuns
+pub mod SoundUnits

@@ -1,0 +1,9 @@
+pub mod AccessLaws
+pub mod BitLaws
+pub mod ByteLaws
+pub mod CopyLaws
+pub mod FieldLaws
+pub mod NumberLaws
+pub mod PlaceLaws
+pub mod ScalarLaws
+pub mod StorageLaws

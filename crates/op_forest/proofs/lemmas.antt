@@ -1,0 +1,3 @@
+pub mod NodeCounts
+pub mod NumberedOperators
+pub mod UnitOfMain
