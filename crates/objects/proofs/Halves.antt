@@ -15,7 +15,7 @@ use Rattle.objects.specs.Conversions.{as_scalar}
 use Rattle.objects.specs.Held.{shown}
 use Rattle.objects.specs.Objects.{Object, overwritten, with_bytes}
 use Rattle.objects.specs.Scalars.{scalar_of}
-use Rattle.objects.proofs.Holding.{seen, seen_as, bytes_length, known_byte, masked_byte, known_changed, masked_changed, all_known_changed, all_masked_changed, whole_changed, completed_view, cleared, zeroed_view, unknown_view, known_view, front_is}
+use Rattle.objects.proofs.Holding.{seen, seen_as, bytes_length, known_byte, masked_byte, known_changed, masked_changed, all_known_changed, all_masked_changed, whole_changed, completed_view, cleared, parts_view, over_whole, zeroed_view, unknown_view, known_view, front_is}
 use Rattle.objects.proofs.KnownLoads.{known_load, full_load}
 
 -- ---- lists
@@ -110,15 +110,15 @@ seen_in m k p n bs = seen m k p (take n bs) (drop n bs)
 pub size_is : (m : ℕ) (k : Bool) (p : ℕ → Option (Byte Value)) (n : ℕ) (bs : List ℕ) (now : Object) → (length bs ≡ n) ⊎ (length bs ≡ n + n) → seen_in m k p n bs ≡ now → length now.bytes ≡ n
 size_is m k p n bs now h e = bytes_length m k p (take n bs) (drop n bs) now e ∙ length-take-le n bs (in_front n bs h)
 
-pub known_byte_in : (m : ℕ) (k : Bool) (p : ℕ → Option (Byte Value)) (n : ℕ) (bs : List ℕ) (now : Object) (i v : ℕ) → seen_in m k p n bs ≡ now → length bs ≡ n → i < n → v ≡ get_or bs i v → slice_get now.bytes i ≡ Some (Bits 255 v)
+pub known_byte_in : (m : ℕ) (k : Bool) (p : ℕ → Option (Byte Value)) (n : ℕ) (bs : List ℕ) (now : Object) (i v : ℕ) → seen_in m k p n bs ≡ now → length bs ≡ n → i < n → v ≡ get_or bs i 0 → slice_get now.bytes i ≡ Some (Bits 255 v)
 known_byte_in m k p n bs now i v e l h r =
     let front = length-take-le n bs (omega (arith, l)) in
-    known_byte m k p (take n bs) (drop n bs) now i v e (ap length (none_behind n bs l)) (omega (arith, front)) (r ∙ sym (get_or-take n bs i v h))
+    known_byte m k p (take n bs) (drop n bs) now i v e (ap length (none_behind n bs l)) (omega (arith, front)) (r ∙ sym (get_or-take n bs i 0 h))
 
-pub masked_byte_in : (m : ℕ) (k : Bool) (p : ℕ → Option (Byte Value)) (n : ℕ) (bs : List ℕ) (now : Object) (i known v : ℕ) (b : Byte Value) → seen_in m k p n bs ≡ now → length bs ≡ n + n → i < n → known ≡ get_or bs (n + i) known → v ≡ get_or bs i v → b ≡ shown (p i) known v → slice_get now.bytes i ≡ Some b
+pub masked_byte_in : (m : ℕ) (k : Bool) (p : ℕ → Option (Byte Value)) (n : ℕ) (bs : List ℕ) (now : Object) (i known v : ℕ) (b : Byte Value) → seen_in m k p n bs ≡ now → length bs ≡ n + n → i < n → known ≡ get_or bs (n + i) 0 → v ≡ get_or bs i 0 → b ≡ shown (p i) known v → slice_get now.bytes i ≡ Some b
 masked_byte_in m k p n bs now i known v b e l h rk rv eb =
     let front = length-take-le n bs (omega (arith, l)) in
-    masked_byte m k p (take n bs) (drop n bs) now i known v b e (as_many_behind n bs l) (omega (arith, front)) (rk ∙ sym (get_or-drop n bs i known)) (rv ∙ sym (get_or-take n bs i v h)) eb
+    masked_byte m k p (take n bs) (drop n bs) now i known v b e (as_many_behind n bs l) (omega (arith, front)) (rk ∙ sym (get_or-drop n bs i 0)) (rv ∙ sym (get_or-take n bs i 0 h)) eb
 
 pub known_changed_in : (m : ℕ) (k : Bool) (p : ℕ → Option (Byte Value)) (n : ℕ) (bs : List ℕ) (now : Object) (i v : ℕ) → seen_in m k p n bs ≡ now → length bs ≡ n → i < n → seen_in m k p n (set bs i v) ≡ with_bytes now i (Bits 255 v ∷ [])
 known_changed_in m k p n bs now i v e l h =
@@ -162,8 +162,8 @@ long_if n bs false (inr l) e = l
 pub completed_long : (n : ℕ) (bs more : List ℕ) → (length bs ≡ n) ⊎ (length bs ≡ n + n) → more ≡ (if length bs == n then bs ++ replicate n 255 else bs) → length more ≡ n + n
 completed_long n bs more h f = ap length f ∙ long_if n bs (length bs == n) h refl
 
-pub made_complete : (n c : ℕ) (bs more pasted : List ℕ) → length bs ≡ n → c ≡ n + n → more ≡ replicate c 255 → pasted ≡ overwritten 0 bs more → pasted ≡ (if length bs == n then bs ++ replicate n 255 else bs)
-made_complete n c bs more pasted l f g h =
+pub masks_made : (n c : ℕ) (bs more pasted : List ℕ) → length bs ≡ n → c ≡ n + n → more ≡ replicate c 255 → pasted ≡ overwritten 0 bs more → pasted ≡ bs ++ replicate n 255
+masks_made n c bs more pasted l f g h =
     let masks : List ℕ = replicate c 255 in
     let many = length-replicate {A = ℕ} c 255 in
     let rest : c - length bs ≡ n = omega (arith, l, f) in
@@ -171,6 +171,10 @@ made_complete n c bs more pasted l f g h =
     ∙ ap (λ xs. overwritten 0 bs xs) g
     ∙ sym (front_is bs masks (omega (arith, l, f, many)))
     ∙ ap (λ xs. bs ++ xs) (drop-replicate {X = ℕ} (length bs) c 255 ∙ ap (λ (j : ℕ). replicate j 255) rest)
+
+pub made_complete : (n c : ℕ) (bs more pasted : List ℕ) → length bs ≡ n → c ≡ n + n → more ≡ replicate c 255 → pasted ≡ overwritten 0 bs more → pasted ≡ (if length bs == n then bs ++ replicate n 255 else bs)
+made_complete n c bs more pasted l f g h =
+    masks_made n c bs more pasted l f g h
     ∙ ap (λ (b : Bool). if b then bs ++ replicate n 255 else bs) (sym (eq-eqb (length bs) n l))
 
 -- bytes written, whose bits are known
@@ -183,11 +187,22 @@ all_known_in m k p n bs more now i new e l f =
 pub all_masked_in : (m : ℕ) (k : Bool) (p : ℕ → Option (Byte Value)) (n : ℕ) (bs more : List ℕ) (now : Object) (i : ℕ) (new : List ℕ) → seen_in m k p n bs ≡ now → length bs ≡ n + n → take n more ≡ overwritten i new (take n bs) → drop n more ≡ overwritten i (replicate (length new) 255) (drop n bs) → seen_in m k p n more ≡ with_bytes now i (known_bytes new)
 all_masked_in m k p n bs more now i new e l f g = all_masked_changed m k p (take n bs) (drop n bs) (take n more) (drop n more) (replicate (length new) 255) now i new e (as_many_behind n bs l) f refl g
 
-pub whole_in : (m : ℕ) (k : Bool) (p q : ℕ → Option (Byte Value)) (n : ℕ) (bs cut more : List ℕ) (now : Object) (i : ℕ) (new : List ℕ) → seen_in m k p n bs ≡ now → i + length new ≤ length now.bytes → n ≤ length bs → length new ≡ n → cut ≡ take n bs → more ≡ overwritten i new cut → seen_in m k q n more ≡ with_bytes now i (known_bytes new)
-whole_in m k p q n bs cut more now i new e inside h l f g =
+pub whole_in : (m : ℕ) (k : Bool) (p q : ℕ → Option (Byte Value)) (n : ℕ) (bs more : List ℕ) (now : Object) (i : ℕ) (new : List ℕ) → seen_in m k p n bs ≡ now → i + length new ≤ length now.bytes → n ≤ length bs → length new ≡ n → more ≡ new → seen_in m k q n more ≡ with_bytes now i (known_bytes new)
+whole_in m k p q n bs more now i new e inside h l g =
     let front = length-take-le n bs h in
-    let as_long = ap length g ∙ length-overwritten i new cut ∙ ap length f ∙ front in
-    whole_changed m k p q (take n bs) (drop n bs) (take n more) (drop n more) now i new e inside (l ∙ sym front) (take_all n more (omega (arith, as_long)) ∙ g ∙ ap (λ xs. overwritten i new xs) f) (none_behind n more as_long)
+    let as_long = ap length g ∙ l in
+    let many = bytes_length m k p (take n bs) (drop n bs) now e in
+    let start : i ≡ 0 = omega (arith, inside, l, many, front) in
+    let over = ap (λ (j : ℕ). overwritten j new (take n bs)) start ∙ over_whole new (take n bs) (l ∙ sym front) in
+    whole_changed m k p q (take n bs) (drop n bs) (take n more) (drop n more) now i new e inside (l ∙ sym front) (take_all n more (omega (arith, as_long)) ∙ g ∙ sym over) (none_behind n more as_long)
+
+-- the same parts, by another name
+pub same_parts : (m : ℕ) (k : Bool) (p q : ℕ → Option (Byte Value)) (n : ℕ) (bs : List ℕ) (now : Object) → seen_in m k p n bs ≡ now → q ≡ p → seen_in m k q n bs ≡ now
+same_parts m k p q n bs now e f = ap (λ (r : ℕ → Option (Byte Value)). seen_in m k r n bs) f ∙ e
+
+-- the same values, masks and parts
+pub unchanged_in : (m : ℕ) (k : Bool) (p q : ℕ → Option (Byte Value)) (n : ℕ) (bs more : List ℕ) (now : Object) → seen_in m k p n bs ≡ now → more ≡ bs → ((j : ℕ) → q j ≡ p j) → seen_in m k q n more ≡ now
+unchanged_in m k p q n bs more now e f h = ap (λ xs. seen_in m k q n xs) f ∙ parts_view m k p q (take n bs) (drop n bs) now e h
 
 -- ---- numbers read at once
 

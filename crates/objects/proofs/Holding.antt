@@ -1,7 +1,7 @@
 -- What an object keeps for its bytes: what is at a place, and what a change there changes.
 use Rattle.std.proofs.Common.{◌≡◌, ◌≢◌, ◌≤◌, ◌<◌, ℕ, zero, suc, ◌+◌, ◌==◌, Bool, true, false, List, [], ◌∷◌, ◌++◌, length, take, drop, map, replicate, get_or, set, slice_get, Option, Some, None, Result, Ok, Err, OnErr, refl, sym, ap, ◌∙◌, arith, add-zero, if◌then◌else◌}
 use Rattle.std.proofs.lemmas.Bool.{eqb-true}
-use Rattle.std.proofs.lemmas.List.{get_or_read, length-map}
+use Rattle.std.proofs.lemmas.List.{length-map}
 use Rattle.std.proofs.lemmas.Map.Lookups.{exact_unsigned}
 use Rattle.std.specs.Ordering.{nat_cmp, is_eq}
 use Rattle.std.specs.declared.cmp.Ordering.{Ordering}
@@ -108,18 +108,17 @@ seen m k p vs ks = record { made = m; constant = k; bytes = held p 0 vs ks }
 pub bytes_length : (m : ℕ) (k : Bool) (p : ℕ → Option (Byte Value)) (vs ks : List ℕ) (now : Object) → seen m k p vs ks ≡ now → length now.bytes ≡ length vs
 bytes_length m k p vs ks now e = ap (λ (o : Object). length o.bytes) (sym e) ∙ length-held p 0 vs ks
 
-pub known_byte : (m : ℕ) (k : Bool) (p : ℕ → Option (Byte Value)) (vs ks : List ℕ) (now : Object) (n v : ℕ) → seen m k p vs ks ≡ now → length ks ≡ 0 → n < length vs → v ≡ get_or vs n v → slice_get now.bytes n ≡ Some (Bits 255 v)
-known_byte m k p vs [] now n v e z h r = ap (λ (o : Object). slice_get o.bytes n) (sym e) ∙ known_at p 0 n vs h ∙ ap (λ x. Some (Bits 255 x)) (sym (get_or_read vs n v h r 0))
+pub known_byte : (m : ℕ) (k : Bool) (p : ℕ → Option (Byte Value)) (vs ks : List ℕ) (now : Object) (n v : ℕ) → seen m k p vs ks ≡ now → length ks ≡ 0 → n < length vs → v ≡ get_or vs n 0 → slice_get now.bytes n ≡ Some (Bits 255 v)
+known_byte m k p vs [] now n v e z h r = ap (λ (o : Object). slice_get o.bytes n) (sym e) ∙ known_at p 0 n vs h ∙ ap (λ x. Some (Bits 255 x)) (sym r)
 known_byte m k p vs (x ∷ xs) now n v e z h r = absurd (let never : ⊥ = omega arith in never)
 
-pub masked_byte : (m : ℕ) (k : Bool) (p : ℕ → Option (Byte Value)) (vs ks : List ℕ) (now : Object) (n known v : ℕ) (b : Byte Value) → seen m k p vs ks ≡ now → length ks ≡ length vs → n < length vs → known ≡ get_or ks n known → v ≡ get_or vs n v → b ≡ shown (p n) known v → slice_get now.bytes n ≡ Some b
+pub masked_byte : (m : ℕ) (k : Bool) (p : ℕ → Option (Byte Value)) (vs ks : List ℕ) (now : Object) (n known v : ℕ) (b : Byte Value) → seen m k p vs ks ≡ now → length ks ≡ length vs → n < length vs → known ≡ get_or ks n 0 → v ≡ get_or vs n 0 → b ≡ shown (p n) known v → slice_get now.bytes n ≡ Some b
 masked_byte m k p vs ks now n known v b e l h rk rv eb =
     let start : 0 + n ≡ n = omega arith in
-    let inside : n < length ks = omega arith in
     ap (λ (o : Object). slice_get o.bytes n) (sym e) ∙ held_at p 0 n vs ks l h
     ∙ ap (λ j. Some (shown (p j) (get_or ks n 0) (get_or vs n 0))) start
-    ∙ ap (λ x. Some (shown (p n) x (get_or vs n 0))) (sym (get_or_read ks n known inside rk 0))
-    ∙ ap (λ x. Some (shown (p n) known x)) (sym (get_or_read vs n v h rv 0))
+    ∙ ap (λ x. Some (shown (p n) x (get_or vs n 0))) (sym rk)
+    ∙ ap (λ x. Some (shown (p n) known x)) (sym rv)
     ∙ ap Some (sym eb)
 
 pub known_changed : (m : ℕ) (k : Bool) (p : ℕ → Option (Byte Value)) (vs ks : List ℕ) (now : Object) (n v : ℕ) → seen m k p vs ks ≡ now → length ks ≡ 0 → seen m k p (set vs n v) ks ≡ with_bytes now n (Bits 255 v ∷ [])
@@ -204,7 +203,7 @@ all_masked_changed m k p vs ks more full_ones others now n new e l f o g =
     ap (λ xs. seen m k p xs full_ones) f ∙ ap (λ xs. seen m k p (overwritten n new vs) xs) (g ∙ ap (λ zs. overwritten n zs ks) o)
     ∙ ap (λ bs. seen_as m k bs) (held_overwritten p 0 n new vs ks l) ∙ ap (λ (x : Object). with_bytes x n (known_bytes new)) e
 
-over_whole : {A : Type 0} → (new old : List A) → length new ≡ length old → overwritten zero new old ≡ new
+pub over_whole : {A : Type 0} → (new old : List A) → length new ≡ length old → overwritten zero new old ≡ new
 over_whole [] [] e = refl
 over_whole [] (y ∷ ys) e = absurd (let never : ⊥ = omega arith in never)
 over_whole (x ∷ xs) [] e = absurd (let never : ⊥ = omega arith in never)

@@ -2,6 +2,7 @@ pub mod Accesses
 pub mod Arithmetic
 pub mod Bytes
 pub mod Causes
+pub mod Contents
 pub mod Conversions
 pub mod Copies
 pub mod Fields

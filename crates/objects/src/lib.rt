@@ -4,7 +4,9 @@
 
 mod arithmetic;
 mod byte;
+mod content;
 mod conversions;
+mod few_bytes;
 mod field;
 mod fields;
 mod laws;

@@ -11,39 +11,40 @@ ghost use Rattle.objects.specs.Values.{bytes_in};
 ghost use Rattle.objects.specs.declared.byte.Byte.TheVariants.{Bits};
 ghost use Rattle.objects.specs.declared.value.Value.TheVariants.{Number};
 
+use crate::content::Content;
 use crate::conversions::to_scalar;
 use crate::fields::write_field;
 use crate::scalars::{given_number, half_bytes, parts, scalar as scalar_in, word_bytes};
-use crate::slices::{are_full, complete, number_at, paste, paste_masked, set_masked, shown};
+use crate::slices::{are_full, number_at};
 use crate::{Byte, Field, Scalar, Value, Width};
 use lcc_base::{Cause, Memory, Order};
 use std::alloc::Global;
-use std::collections::BTreeMap;
 use std::marker::Model;
 
 /// An object in its lifetime, which contracts see as how many were made before it, whether nothing but its
 /// initialiser may write it, and its bytes.
 #[derive(Drop)]
 pub struct Object {
+    alloc: Global,
     made: u64,
     size: u32,
     constant: bool,
-    bytes: Vec<u8>,
-    parts: BTreeMap<u32, Byte<Value>>,
+    content: Content,
 }
 
+const _: () = prove!(size_of::<Object>() == 32);
+
 impl Model for Object {
-    ghost use Rattle.std.specs.BTreeMap.{get};
     ghost use Rattle.std.specs.Prelude.{take, drop};
-    ghost use Rattle.std.specs.Ordering.{nat_cmp};
+    ghost use Rattle.objects.specs.Contents.{bytes_of, parts_of};
     ghost use Rattle.objects.specs.Held.{held, IsHeld};
     ghost use Rattle.objects.specs.Objects as spec;
 
     ghost Value = { spec.Object };
 
-    ghost view = { λ o. record { made = o.made; constant = o.constant; bytes = held (get nat_cmp o.parts) 0 (take o.size o.bytes.items) (drop o.size o.bytes.items) } };
+    ghost view = { λ o. record { made = o.made; constant = o.constant; bytes = held (parts_of o.content) 0 (take o.size (bytes_of o.content)) (drop o.size (bytes_of o.content)) } };
 
-    ghost invariant = { λ o. IsHeld o.size o.bytes.items };
+    ghost invariant = { λ o. IsHeld o.size (bytes_of o.content) };
 }
 
 impl Object {
@@ -51,13 +52,13 @@ impl Object {
     pub fn zeroed(alloc: Global, made: u64, constant: bool, size: u32) -> Result<Self, Memory>
         ensures { IfOk result (λ o. o ≡ record { made = made; constant = constant; bytes = replicate size (Bits 255 0) }) }
     {
-        let bytes = vec![in alloc; 0u8; size as usize]?;
+        let content = Content::filled(alloc, size as usize, 0)?;
         Ok(Object {
+            alloc,
             made,
             size,
             constant,
-            bytes,
-            parts: BTreeMap::new(alloc),
+            content,
         })
     }
 
@@ -65,13 +66,13 @@ impl Object {
     pub fn unknown(alloc: Global, made: u64, constant: bool, size: u32) -> Result<Self, Memory>
         ensures { IfOk result (λ o. o ≡ record { made = made; constant = constant; bytes = replicate size (Bits 0 0) }) }
     {
-        let bytes = vec![in alloc; 0u8; 2 * size as usize]?;
+        let content = Content::filled(alloc, 2 * size as usize, 0)?;
         Ok(Object {
+            alloc,
             made,
             size,
             constant,
-            bytes,
-            parts: BTreeMap::new(alloc),
+            content,
         })
     }
 
@@ -81,13 +82,13 @@ impl Object {
         ensures { IfOk result (λ o. o ≡ record { made = made; constant = constant; bytes = known_bytes bytes.now }) }
     {
         let size = bytes.len() as u32;
-        let bytes = bytes.to_vec(alloc)?;
+        let content = Content::copied(alloc, bytes)?;
         Ok(Object {
+            alloc,
             made,
             size,
             constant,
-            bytes,
-            parts: BTreeMap::new(alloc),
+            content,
         })
     }
 
@@ -150,11 +151,12 @@ impl Object {
         ensures { slice_get self.now.bytes at ≡ Some result }
     {
         let size = self.size as usize;
-        let value = self.bytes[at];
-        if self.bytes.len() == size {
+        let bytes = self.content.bytes();
+        let value = bytes[at];
+        if bytes.len() == size {
             Byte::Bits { known: 255, value }
         } else {
-            shown(&self.parts, at as u32, self.bytes[size + at], value)
+            self.content.shown(at as u32, bytes[size + at], value)
         }
     }
 
@@ -189,10 +191,10 @@ impl Object {
         ensures { self.new ≡ with_bytes self.old at (Bits 255 value ∷ []) }
     {
         let size = self.size as usize;
-        if self.bytes.len() == size {
-            self.bytes[at] = value;
+        if self.content.count() == size {
+            self.content.set(at, value);
         } else {
-            set_masked(&mut self.bytes, size, at, 255, value);
+            self.content.set_masked(size, at, 255, value);
         }
     }
 
@@ -203,9 +205,9 @@ impl Object {
         ensures err { OnErr result (self.new ≡ self.old) }
     {
         let size = self.size as usize;
-        complete(&mut self.bytes, size)?;
-        self.parts.remove(&(at as u32));
-        set_masked(&mut self.bytes, size, at, known, value);
+        self.content.complete(self.alloc, size)?;
+        self.content.remove_part(at as u32);
+        self.content.set_masked(size, at, known, value);
         Ok(())
     }
 
@@ -216,9 +218,9 @@ impl Object {
         ensures err { OnErr result (self.new ≡ self.old) }
     {
         let size = self.size as usize;
-        complete(&mut self.bytes, size)?;
-        self.parts.insert(at as u32, part)?;
-        set_masked(&mut self.bytes, size, at, 0, 0);
+        self.content.complete(self.alloc, size)?;
+        self.content.insert_part(self.alloc, at as u32, part)?;
+        self.content.set_masked(size, at, 0, 0);
         Ok(())
     }
 
@@ -239,9 +241,7 @@ impl Object {
     pub fn clear(&mut self)
         ensures { self.new ≡ with_bytes self.old 0 (replicate (length self.old.bytes) (Bits 255 0)) }
     {
-        self.bytes.truncate(self.size as usize);
-        self.bytes.fill(0);
-        self.parts.clear();
+        self.content.clear(self.size as usize);
     }
 
     /// Sets the bytes from a place on, all of whose bits are known.
@@ -251,14 +251,12 @@ impl Object {
     {
         let at = place as usize;
         let size = self.size as usize;
-        if self.bytes.len() == size {
-            paste(&mut self.bytes, at, bytes);
+        if self.content.count() == size {
+            self.content.paste(at, bytes);
         } else if bytes.len() == size {
-            self.bytes.truncate(size);
-            self.parts.clear();
-            paste(&mut self.bytes, at, bytes);
+            self.content.replace(bytes);
         } else {
-            paste_masked(&mut self.bytes, size, at, bytes);
+            self.content.paste_masked(size, at, bytes);
         }
     }
 
@@ -345,8 +343,9 @@ impl Object {
     {
         let at = place as usize;
         let size = self.size as usize;
-        if self.bytes.len() == size || are_full(&self.bytes, scalar.width, size + at) {
-            let n = number_at(&self.bytes, order, scalar.width, at);
+        let bytes = self.content.bytes();
+        if bytes.len() == size || are_full(bytes, scalar.width, size + at) {
+            let n = number_at(bytes, order, scalar.width, at);
             return Some(to_scalar(scalar, n));
         }
         None

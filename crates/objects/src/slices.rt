@@ -20,7 +20,8 @@ pub fn paste(bytes: &mut Vec<u8>, at: usize, new: &[u8])
 }
 
 /// Writes bytes over those from a place on.
-fn paste_slice(bytes: &mut [u8], at: usize, new: &[u8])
+#[inline(always)]
+pub fn paste_slice(bytes: &mut [u8], at: usize, new: &[u8])
     requires { at + length new.now ≤ length bytes.old }
     ensures { bytes.new ≡ overwritten at new.now bytes.old }
 {
@@ -28,7 +29,7 @@ fn paste_slice(bytes: &mut [u8], at: usize, new: &[u8])
 }
 
 /// Makes so many masks full, from a place on.
-fn fill_up(masks: &mut Vec<u8>, at: usize, count: usize)
+pub fn fill_up(masks: &mut Vec<u8>, at: usize, count: usize)
     requires { at + count ≤ length masks.old.items }
     ensures { masks.new.items ≡ overwritten at (replicate count 255) masks.old.items }
 {
@@ -36,7 +37,8 @@ fn fill_up(masks: &mut Vec<u8>, at: usize, count: usize)
 }
 
 /// Makes so many of these masks full, from a place on.
-fn fill_slice(masks: &mut [u8], at: usize, count: usize)
+#[inline(always)]
+pub fn fill_slice(masks: &mut [u8], at: usize, count: usize)
     requires { at + count ≤ length masks.old }
     ensures { masks.new ≡ overwritten at (replicate count 255) masks.old }
 {
@@ -56,30 +58,6 @@ pub fn complete(bytes: &mut Vec<u8>, size: usize) -> Result<(), Memory>
         *bytes = more;
     }
     Ok(())
-}
-
-/// Sets a byte of so many values, with its mask behind them.
-pub fn set_masked(bytes: &mut Vec<u8>, size: usize, at: usize, known: u8, value: u8)
-    requires there { at < size }
-    requires masked { length bytes.old.items ≡ size + size }
-    ensures values { take size bytes.new.items ≡ set (take size bytes.old.items) at value }
-    ensures masks { drop size bytes.new.items ≡ set (drop size bytes.old.items) at known }
-    ensures as_many { length bytes.new.items ≡ length bytes.old.items }
-{
-    bytes[at] = value;
-    bytes[size + at] = known;
-}
-
-/// Writes bytes over those of so many values from a place on, and makes their masks behind them full.
-pub fn paste_masked(bytes: &mut Vec<u8>, size: usize, at: usize, new: &[u8])
-    requires inside { at + length new.now ≤ size }
-    requires masked { length bytes.old.items ≡ size + size }
-    ensures values { take size bytes.new.items ≡ overwritten at new.now (take size bytes.old.items) }
-    ensures masks { drop size bytes.new.items ≡ overwritten at (replicate (length new.now) 255) (drop size bytes.old.items) }
-    ensures as_many { length bytes.new.items ≡ length bytes.old.items }
-{
-    paste(bytes, at, new);
-    fill_up(bytes, size + at, new.len());
 }
 
 /// The byte at a place, given its mask and its value.

@@ -1,12 +1,12 @@
 //! The values of scalars: numbers, pointers into named objects, and functions.
-/// The name of an object: where it stands among those that live, the how-manieth made it is, and how
+/// The name of an object: the how-manieth made it is, where it stands among those that live, and how
 /// many bytes it has. A place is used again when its object's lifetime is over; a number isn't.
 #[derive(Clone, Copy, Debug, PartialEq, Eq)]
 pub struct ObjectName {
-    /// Its place among the objects that live.
-    pub place: u32,
     /// How many objects were made before it.
     pub made: u64,
+    /// Its place among the objects that live.
+    pub place: u32,
     /// Its size in bytes.
     pub size: u32,
 }

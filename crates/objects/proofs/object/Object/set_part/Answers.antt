@@ -1,33 +1,41 @@
-use Rattle.std.proofs.Common.{take, drop, ap, arith}
-use Rattle.std.specs.BTreeMap.{get, get_by, is_at}
-use Rattle.std.specs.Ordering.{nat_cmp}
-use Rattle.std.specs.Map.{lookup}
-use Rattle.objects.proofs.Holding.{on_err, parts_view, other_key, shown_part}
-use Rattle.objects.proofs.Halves.{size_is, masked_changed_in, completed_in, completed_long}
+use Rattle.std.proofs.Common.{length, ap, ◌∙◌, arith}
+use Rattle.objects.specs.Contents.{bytes_of, parts_of}
+use Rattle.objects.proofs.Holding.{on_err, shown_part}
+use Rattle.objects.proofs.Halves.{size_is, seen_in, masked_changed_in, completed_in, completed_long, unchanged_in}
 use Rattle.objects.proofs.object.Object.set_part.Goals as goal
 
-pub returns-in_err-insert-clause-err : goal.returns-in_err-insert-clause-err
-returns-in_err-insert-clause-err c =
-    let whole = completed_in c.self.inside.made c.self.inside.constant (get nat_cmp c.self.inside.parts) c.self.inside.size c.self.inside.bytes.items c.complete.new.bytes.items c.args.self.now c.self.view_is c.in_ok-complete.ensures.ok in
-    on_err c.from_residual-in_err-insert.result _ (parts_view c.self.inside.made c.self.inside.constant (get nat_cmp c.self.inside.parts) (get nat_cmp c.insert.new.self) (take c.self.inside.size c.complete.new.bytes.items) (drop c.self.inside.size c.complete.new.bytes.items) c.args.self.now whole (λ j. ap (λ es. lookup (is_at (nat_cmp j)) es) c.in_err-insert.ensures.err))
+pub returns-in_err-complete-clause-err : goal.returns-in_err-complete-clause-err
+returns-in_err-complete-clause-err c =
+    on_err c.from_residual.result _ (unchanged_in c.self.inside.made c.self.inside.constant (parts_of c.self.inside.content) (parts_of c.complete.new.self) c.self.inside.size (bytes_of c.self.inside.content) (bytes_of c.complete.new.self) c.args.self.now c.self.view_is c.in_err-complete.ensures.err c.in_err-complete.ensures.parts)
+
+pub returns-in_err-insert_part-clause-err : goal.returns-in_err-insert_part-clause-err
+returns-in_err-insert_part-clause-err c =
+    let whole = completed_in c.self.inside.made c.self.inside.constant (parts_of c.self.inside.content) c.self.inside.size (bytes_of c.self.inside.content) (bytes_of c.complete.new.self) c.args.self.now c.self.view_is c.in_ok-complete.ensures.ok in
+    on_err c.from_residual-in_err-insert_part.result _ (unchanged_in c.self.inside.made c.self.inside.constant (parts_of c.self.inside.content) (parts_of c.insert_part.new.self) c.self.inside.size (bytes_of c.complete.new.self) (bytes_of c.insert_part.new.self) c.args.self.now whole c.in_err-insert_part.ensures.bytes (λ j. c.in_err-insert_part.ensures.err j ∙ c.in_ok-complete.ensures.parts j))
 
 pub set_masked-requires-clause-there : goal.set_masked-requires-clause-there
 set_masked-requires-clause-there c =
-    let len = size_is c.self.inside.made c.self.inside.constant (get nat_cmp c.self.inside.parts) c.self.inside.size c.self.inside.bytes.items c.args.self.now c.self.invariant.complete c.self.view_is in
+    let len = size_is c.self.inside.made c.self.inside.constant (parts_of c.self.inside.content) c.self.inside.size (bytes_of c.self.inside.content) c.args.self.now c.self.invariant.complete c.self.view_is in
     omega (arith, len)
 
 pub set_masked-requires-clause-masked : goal.set_masked-requires-clause-masked
-set_masked-requires-clause-masked c = completed_long c.self.inside.size c.self.inside.bytes.items c.complete.new.bytes.items c.self.invariant.complete c.in_ok-complete.ensures.ok
+set_masked-requires-clause-masked c = ap length c.in_ok-insert_part.ensures.bytes ∙ completed_long c.self.inside.size (bytes_of c.self.inside.content) (bytes_of c.complete.new.self) c.self.invariant.complete c.in_ok-complete.ensures.ok
 
 pub returns-clause-ok : goal.returns-clause-ok
 returns-clause-ok c =
-    let len = size_is c.self.inside.made c.self.inside.constant (get nat_cmp c.self.inside.parts) c.self.inside.size c.self.inside.bytes.items c.args.self.now c.self.invariant.complete c.self.view_is in
-    let more = c.in_ok-complete.ensures.ok in
-    let all = completed_long c.self.inside.size c.self.inside.bytes.items c.complete.new.bytes.items c.self.invariant.complete more in
-    let whole = completed_in c.self.inside.made c.self.inside.constant (get nat_cmp c.self.inside.parts) c.self.inside.size c.self.inside.bytes.items c.complete.new.bytes.items c.args.self.now c.self.view_is more in
-    masked_changed_in c.self.inside.made c.self.inside.constant (get nat_cmp c.self.inside.parts) (get nat_cmp c.insert.new.self) c.self.inside.size c.complete.new.bytes.items c.set_masked.new.bytes.items c.args.self.now c.args.at 0 0 _ whole all (omega (arith, len)) c.set_masked.ensures.values c.set_masked.ensures.masks (λ j ne. c.in_ok-insert.ensures.updates.2 j (other_key c.args.at j ne)) (shown_part (get_by (nat_cmp c.args.at) c.insert.new.self) c.args.part c.in_ok-insert.ensures.updates.1)
+    let m = c.self.inside.made in
+    let k = c.self.inside.constant in
+    let p = parts_of c.self.inside.content in
+    let q = parts_of c.set_masked.new.self in
+    let n = c.self.inside.size in
+    let more = bytes_of c.insert_part.new.self in
+    let len = size_is m k p n (bytes_of c.self.inside.content) c.args.self.now c.self.invariant.complete c.self.view_is in
+    let masks = c.in_ok-complete.ensures.ok in
+    let all = ap length c.in_ok-insert_part.ensures.bytes ∙ completed_long n (bytes_of c.self.inside.content) (bytes_of c.complete.new.self) c.self.invariant.complete masks in
+    let whole = ap (λ xs. seen_in m k p n xs) c.in_ok-insert_part.ensures.bytes ∙ completed_in m k p n (bytes_of c.self.inside.content) (bytes_of c.complete.new.self) c.args.self.now c.self.view_is masks in
+    masked_changed_in m k p q n more (bytes_of c.set_masked.new.self) c.args.self.now c.args.at 0 0 _ whole all (omega (arith, len)) c.set_masked.ensures.values c.set_masked.ensures.masks (λ j ne. ap (λ r. r j) c.set_masked.ensures.parts ∙ c.in_ok-insert_part.ensures.others j ne ∙ c.in_ok-complete.ensures.parts j) (shown_part (q c.args.at) c.args.part (ap (λ r. r c.args.at) c.set_masked.ensures.parts ∙ c.in_ok-insert_part.ensures.there))
 
 pub overflow_cast-at : goal.overflow_cast-at
 overflow_cast-at c =
-    let len = size_is c.self.inside.made c.self.inside.constant (get nat_cmp c.self.inside.parts) c.self.inside.size c.self.inside.bytes.items c.args.self.now c.self.invariant.complete c.self.view_is in
+    let len = size_is c.self.inside.made c.self.inside.constant (parts_of c.self.inside.content) c.self.inside.size (bytes_of c.self.inside.content) c.args.self.now c.self.invariant.complete c.self.view_is in
     omega (arith, len, c.self.invariant.small)

@@ -1,12 +1,9 @@
-use Rattle.std.proofs.Common.{ℕ, ap, ◌≡◌, ◌*◌, replicate, rules, arith}
-use Rattle.std.specs.BTreeMap.{get, is_at}
-use Rattle.std.specs.Ordering.{nat_cmp}
-use Rattle.std.specs.Map.{lookup}
+use Rattle.std.proofs.Common.{ℕ, ◌*◌, arith}
+use Rattle.objects.specs.Contents.{bytes_of, parts_of}
 use Rattle.objects.proofs.Halves.{unknown_in}
 use Rattle.objects.proofs.object.Object.unknown.Goals as goal
 
 pub returns : goal.returns
 returns c =
     let count : ℕ = 2 * c.args.size in
-    let filled : c.in_ok-bytes.bytes.items ≡ replicate count 0 = search rules in
-    unknown_in c.args.made c.args.constant (get nat_cmp c.new.result) c.args.size count c.in_ok-bytes.bytes.items (omega arith) filled (λ j. ap (λ es. lookup (is_at (nat_cmp j)) es) c.new.ensures.empty)
+    unknown_in c.args.made c.args.constant (parts_of c.in_ok-content.content) c.args.size count (bytes_of c.in_ok-content.content) (omega arith) c.in_ok-content.ensures.bytes c.in_ok-content.ensures.parts
