@@ -25,7 +25,7 @@ use Rattle.c_ast.specs.Views.{expr_of, exprs_of, specifiers_of, specifier_of, sp
 use Rattle.c_ast.specs.UnitViews.{option_of, maybe_of}
 use Rattle.c_ast.specs.TreeTexts.{behind_comma, listed, sign_text, word_text, name_text, literal_text, pointer_text, tag_text, end_text, dots_text, expr_text, sequence_text, more_sequence_text, maybe_expr_text, behind_text, type_name_text, specifiers_text, specifier_list_text, specifier_text, members_text, member_text, fields_text, more_fields_text, field_text, enumerators_text, more_enumerators_text, enumerator_text, maybe_declarator_text, declarator_text, core_text, suffixes_text, suffix_text, parameters_text, more_parameters_text, parameter_text}
 use Rattle.c_ast.specs.ValueTexts.{shown_if_any, shown_behind, core_shown, expr_shown, type_name_shown, specifiers_shown, specifier_shown, member_shown, field_shown, enumerator_shown, declarator_shown, suffix_shown, parameter_shown}
-use Rattle.c_ast.specs.Layers.{declarator_is, enumerator_is, expr_is, field_is, member_is, parameter_is, specifier_is, specifiers_is, suffix_is, type_name_is, is_array, is_assign, is_basic, is_binary, is_call, is_cast, is_character, is_comma, is_conditional, is_declared, is_empty, is_enclosed, is_enum, is_enum_tag, is_index, is_integer, is_name, is_named, is_names, is_omitted, is_parameters, is_parentheses, is_postfix, is_prefix, is_qualifier, is_record, is_record_tag, is_selected, is_sizeof_expr, is_sizeof_type, is_storage, is_text}
+use Rattle.c_ast.proofs.lemmas.Layers.{declarator_is, enumerator_is, expr_is, field_is, member_is, parameter_is, specifier_is, specifiers_is, suffix_is, type_name_is, is_array, is_assign, is_basic, is_binary, is_call, is_cast, is_character, is_comma, is_conditional, is_declared, is_empty, is_enclosed, is_enum, is_enum_tag, is_index, is_integer, is_name, is_named, is_names, is_omitted, is_parameters, is_parentheses, is_postfix, is_prefix, is_qualifier, is_record, is_record_tag, is_selected, is_sizeof_expr, is_sizeof_type, is_storage, is_text}
 
 -- ---- lists and what may be left out
 

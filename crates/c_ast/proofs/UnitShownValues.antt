@@ -23,7 +23,7 @@ use Rattle.c_ast.specs.UnitViews.{initialisers_of, initialiser_form_layer, initi
 use Rattle.c_ast.specs.TreeTexts.{behind_comma, listed, sign_text, word_text, name_text, end_text, maybe_expr_text, specifiers_text, declarator_text, initialiser_text, initialisers_text, more_initialisers_text, maybe_initialiser_text, init_text, declaration_text, statement_text, statements_text, block_text, maybe_specifiers_text, external_text}
 use Rattle.c_ast.specs.ValueTexts.{shown_if_any, expr_shown, specifiers_shown, declarator_shown}
 use Rattle.c_ast.specs.UnitValueTexts.{initialiser_shown, shown_initialiser, init_shown, declaration_shown, statement_shown, shown_else, block_shown, function_shown, external_shown}
-use Rattle.c_ast.specs.UnitLayers.{block_is, initialiser_is, statement_is, is_expr, is_list, is_label, is_case, is_default, is_expression, is_block, is_if, is_if_else, is_switch, is_while, is_do, is_for, is_goto, is_continue, is_break, is_return}
+use Rattle.c_ast.proofs.lemmas.UnitLayers.{block_is, initialiser_is, statement_is, is_expr, is_list, is_label, is_case, is_default, is_expression, is_block, is_if, is_if_else, is_switch, is_while, is_do, is_for, is_goto, is_continue, is_break, is_return}
 use Rattle.c_ast.proofs.ShownValues.{any_expr}
 use Rattle.c_ast.proofs.SpelledTexts.{unit_printed}
 

@@ -22,7 +22,7 @@ use Rattle.c_ast.specs.UnitViews.{initialisers_of, initialiser_form_layer, initi
 use Rattle.c_ast.specs.Heights.{maybe_height, specifiers_height, maybe_specifiers_height, declarator_height, initialiser_height, initialisers_height, option_height, init_height, inits_height, declaration_height, declarations_height, statement_height, statements_height, block_height, external_height, externals_height, unit_height}
 use Rattle.c_ast.specs.ValueHeights.{most, if_any, expr_high, specifiers_high, declarator_high}
 use Rattle.c_ast.specs.UnitValueHeights.{initialiser_high, maybe_initialiser_high, init_high, declaration_high, statement_high, else_high, block_high, function_high, external_high}
-use Rattle.c_ast.specs.UnitLayers.{block_is, initialiser_is, is_block, is_break, is_case, is_continue, is_default, is_do, is_expr, is_expression, is_for, is_goto, is_if, is_if_else, is_label, is_list, is_return, is_switch, is_while, statement_is}
+use Rattle.c_ast.proofs.lemmas.UnitLayers.{block_is, initialiser_is, is_block, is_break, is_case, is_continue, is_default, is_do, is_expr, is_expression, is_for, is_goto, is_if, is_if_else, is_label, is_list, is_return, is_switch, is_while, statement_is}
 use Rattle.c_ast.proofs.ValueHeights.{any_expr}
 
 -- ---- lists and what may be left out

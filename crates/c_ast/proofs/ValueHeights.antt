@@ -23,7 +23,7 @@ use Rattle.c_ast.specs.Views.{expr_of, exprs_of, specifiers_of, specifier_of, sp
 use Rattle.c_ast.specs.UnitViews.{option_of, maybe_of}
 use Rattle.c_ast.specs.Heights.{height, tallest, type_name_height, specifiers_height, specifier_list_height, specifier_height, member_height, members_height, field_height, fields_height, enumerator_height, enumerators_height, declarator_height, core_height, suffix_height, suffixes_height, parameter_height, parameters_height, maybe_height, maybe_declarator_height}
 use Rattle.c_ast.specs.ValueHeights.{most, if_any, expr_high, type_name_high, specifiers_high, specifier_high, member_high, field_high, enumerator_high, declarator_high, suffix_high, parameter_high}
-use Rattle.c_ast.specs.Layers.{declarator_is, enumerator_is, expr_is, field_is, is_array, is_assign, is_basic, is_binary, is_call, is_cast, is_character, is_comma, is_conditional, is_declared, is_empty, is_enclosed, is_enum, is_enum_tag, is_index, is_integer, is_name, is_named, is_names, is_omitted, is_parameters, is_parentheses, is_postfix, is_prefix, is_qualifier, is_record, is_record_tag, is_selected, is_sizeof_expr, is_sizeof_type, is_storage, is_text, member_is, parameter_is, specifier_is, specifiers_is, suffix_is, type_name_is}
+use Rattle.c_ast.proofs.lemmas.Layers.{declarator_is, enumerator_is, expr_is, field_is, is_array, is_assign, is_basic, is_binary, is_call, is_cast, is_character, is_comma, is_conditional, is_declared, is_empty, is_enclosed, is_enum, is_enum_tag, is_index, is_integer, is_name, is_named, is_names, is_omitted, is_parameters, is_parentheses, is_postfix, is_prefix, is_qualifier, is_record, is_record_tag, is_selected, is_sizeof_expr, is_sizeof_type, is_storage, is_text, member_is, parameter_is, specifier_is, specifiers_is, suffix_is, type_name_is}
 
 -- ---- lists and what may be left out
 

@@ -1,5 +1,5 @@
-//! Laws of the grammar: tokens denote at most one unit, whose marks run on them.
-ghost use Rattle.std.specs.Prelude.{◌≡◌, ◌≤◌, ◌↔◌, List};
+//! A law of the grammar: the marks of a unit that tokens denote run on them.
+ghost use Rattle.std.specs.Prelude.{◌≤◌, ◌↔◌, List};
 ghost use Rattle.c_ast.specs.Lexemes.{Placed};
 ghost use Rattle.c_ast.specs.InForce.{nothing_in_force};
 ghost use Rattle.c_ast.specs.Trees.{UnitTree};
@@ -8,11 +8,6 @@ ghost use Rattle.c_ast.specs.UnitMarks.{unit};
 ghost use Rattle.c_ast.specs.Levels.{FitsUnit};
 ghost use Rattle.c_ast.specs.Heights.{unit_height};
 ghost use Rattle.c_ast.specs.Spell.{Denotes};
-
-/// Tokens denote at most one unit.
-pub fn one_unit()
-    ensures { (ts : List Placed) (u v : UnitTree) → Denotes ts u → Denotes ts v → u ≡ v }
-{}
 
 /// Tokens denote a unit exactly where its marks run on them, from no names in force to the
 /// tokens' end, the unit is one that the grammar derives, and its height is at most 500.

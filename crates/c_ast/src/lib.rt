@@ -6,7 +6,6 @@ mod expr;
 pub mod keyword;
 mod laws;
 mod operator;
-mod pieces;
 mod print_expr;
 mod print_unit;
 pub mod sign;
@@ -26,11 +25,10 @@ pub use expr::{
     Specifier, SpecifierForm, Specifiers, Suffix, SuffixForm, TypeName,
 };
 pub use keyword::{keyword_number, keyword_text};
-pub use laws::{marks_run, one_unit};
+pub use laws::marks_run;
 pub use operator::{
     AssignOperator, BinaryOperator, MemberOperator, PostfixOperator, PrefixOperator,
 };
-pub use pieces::{one_declaration, one_declarator, one_expression, one_statement, one_type};
 pub use print_unit::print;
 pub use sign::{sign_number, sign_text};
 pub use specifier::{BasicType, Qualifier, RecordKind, Storage};

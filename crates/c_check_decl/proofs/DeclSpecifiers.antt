@@ -5,7 +5,7 @@ use Rattle.c_ast.specs.declared.expr.Specifiers.{Specifiers as SpecifiersValue, 
 use Rattle.c_ast.specs.declared.specifier.RecordKind.{RecordKind}
 use Rattle.c_ast.specs.declared.statement.InitDeclarator.{InitDeclarator}
 use Rattle.c_ast.specs.Seen.{specifier_seen, specifiers_seen}
-use Rattle.c_ast.specs.SeenTypes.{specifiers_parts}
+use Rattle.c_ast.proofs.lemmas.SeenTypes.{specifiers_parts}
 use Rattle.c_ast.specs.SeenUnits.{init_seen}
 use Rattle.c_ast.specs.Trees.{InitTree, SpecifierTrees, NoSpecifiers, Specifiers, SpecifiersTree}
 use Rattle.c_ast.specs.Trees as tree

@@ -5,7 +5,8 @@ use Rattle.lcc_base.specs.declared.which.Which.{Which}
 use Rattle.c_ast.specs.declared.statement.Declaration.{Declaration as DeclarationValue}
 use Rattle.c_ast.specs.declared.statement.InitDeclarator.{InitDeclarator}
 use Rattle.c_ast.specs.Seen.{specifiers_seen}
-use Rattle.c_ast.specs.SeenUnits.{declaration_parts, declaration_seen, init_seen}
+use Rattle.c_ast.specs.SeenUnits.{declaration_seen, init_seen}
+use Rattle.c_ast.proofs.lemmas.SeenNodes.{declaration_parts}
 use Rattle.c_ast.specs.Trees.{DeclarationTree, InitTree, SpecifiersTree}
 use Rattle.c_ast.specs.UnitViews.{declaration_of}
 use Rattle.c_symbols.specs.Scoping.{Scoping}

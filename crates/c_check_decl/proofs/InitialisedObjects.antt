@@ -6,7 +6,8 @@ use Rattle.c_ast.specs.declared.expr.Expr.{Expr}
 use Rattle.c_ast.specs.declared.statement.Initialiser.{Initialiser, out-Initialiser}
 use Rattle.c_ast.specs.declared.statement.InitialiserForm.{InitialiserForm}
 use Rattle.c_ast.specs.declared.statement.InitialiserForm.TheVariants as initialiser_form
-use Rattle.c_ast.specs.SeenUnits.{boxed_initialiser_seen, form_expr, form_list, initialiser_form_seen, initialiser_parts, initialiser_seen}
+use Rattle.c_ast.specs.SeenUnits.{boxed_initialiser_seen, initialiser_form_seen, initialiser_seen}
+use Rattle.c_ast.proofs.lemmas.SeenNodes.{form_expr, form_list, initialiser_parts}
 use Rattle.c_ast.specs.Trees.{InitialiserTree}
 use Rattle.c_ast.specs.UnitViews.{option_of}
 use Rattle.c_types.specs.CType.{CType, Array}

@@ -6,7 +6,7 @@ use Rattle.c_ast.specs.declared.expr.SpecifierForm.{SpecifierForm}
 use Rattle.c_ast.specs.declared.expr.SpecifierForm.TheVariants as specifier_form
 use Rattle.c_ast.specs.declared.specifier.RecordKind.{RecordKind}
 use Rattle.c_ast.specs.Seen.{specifier_form_seen, specifier_seen}
-use Rattle.c_ast.specs.SeenTypes.{form_record_tag, specifier_parts}
+use Rattle.c_ast.proofs.lemmas.SeenTypes.{form_record_tag, specifier_parts}
 use Rattle.c_ast.specs.Trees.{SpecifierTree, SpecifierTrees, NoSpecifiers, Specifiers}
 use Rattle.c_ast.specs.Trees as tree
 use Rattle.c_ast.specs.Views.{specifier_list_of}

@@ -6,8 +6,9 @@ use Rattle.c_ast.specs.declared.expr.Specifier.{Specifier, out-Specifier}
 use Rattle.c_ast.specs.declared.statement.Declaration.{Declaration}
 use Rattle.c_ast.specs.declared.statement.InitDeclarator.{InitDeclarator}
 use Rattle.c_ast.specs.Seen.{specifier_form_seen, specifier_seen, specifiers_seen}
-use Rattle.c_ast.specs.SeenTypes.{specifier_parts}
-use Rattle.c_ast.specs.SeenUnits.{declaration_parts, declaration_seen, init_seen}
+use Rattle.c_ast.proofs.lemmas.SeenTypes.{specifier_parts}
+use Rattle.c_ast.specs.SeenUnits.{declaration_seen, init_seen}
+use Rattle.c_ast.proofs.lemmas.SeenNodes.{declaration_parts}
 use Rattle.c_ast.specs.Views.{specifier_list_of}
 use Rattle.c_meaning.specs.Declaring.{declare_tag, declares_something, declares_tag, is_some_init, list_of}
 

@@ -12,7 +12,7 @@ use Rattle.c_ast.specs.Trees.{ADeclarator, CoreTree as CoreSyntax, DeclaratorTre
 use Rattle.c_ast.specs.Trees as tree
 use Rattle.c_ast.specs.Views.{suffixes_of}
 use Rattle.c_ast.specs.Seen.{core_seen, declarator_seen, maybe_declarator_seen, parameter_seen as parameter_tree, specifiers_seen, suffix_form_seen, suffix_seen}
-use Rattle.c_ast.specs.SeenTypes.{declarator_parts, parameter_parts, suffix_parts}
+use Rattle.c_ast.proofs.lemmas.SeenTypes.{declarator_parts, parameter_parts, suffix_parts}
 use Rattle.c_symbols.specs.Scoping.{Scoping}
 use Rattle.c_types.specs.CType.{CType}
 use Rattle.c_types.specs.Table.{Grows, Table, type_at}

@@ -5,7 +5,7 @@ use Rattle.c_ast.specs.declared.expr.Expr.{Expr, out-Expr}
 use Rattle.c_ast.specs.declared.expr.ExprForm.{ExprForm}
 use Rattle.c_ast.specs.Trees.{Called, Chosen, Converted, Enclosed, ExprTree, ExprTrees, Sequence, SizedType, TypeNameTree, Variable}
 use Rattle.c_ast.specs.Seen.{expr_form_seen, expr_seen}
-use Rattle.c_ast.specs.SeenExprs.{expr_parts}
+use Rattle.c_ast.proofs.lemmas.SeenExprs.{expr_parts}
 use Rattle.c_symbols.specs.Scoping.{Scoping, found}
 use Rattle.c_types.specs.Table.{Table, Grows, type_at}
 use Rattle.c_meaning.specs.CoreTrees.{CoreOf, IsIn}

@@ -6,7 +6,7 @@ use Rattle.c_ast.specs.declared.expr.MemberDeclarator.{MemberDeclarator, out-Mem
 use Rattle.c_ast.specs.Trees.{MaybeDeclarator, MaybeExpr, ParameterTrees}
 use Rattle.c_ast.specs.Trees as tree
 use Rattle.c_ast.specs.Seen.{enumerator_seen, field_seen, maybe_declarator_seen, maybe_expr_seen}
-use Rattle.c_ast.specs.SeenTypes.{enumerator_parts, field_parts}
+use Rattle.c_ast.proofs.lemmas.SeenTypes.{enumerator_parts, field_parts}
 use Rattle.c_symbols.specs.Scoping.{Scoping}
 use Rattle.c_types.specs.CType.{CType}
 use Rattle.c_types.specs.Layout.{MemberType}

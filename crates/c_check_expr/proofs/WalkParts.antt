@@ -9,7 +9,7 @@ use Rattle.c_ast.specs.Trees.{EnumeratorTrees, MemberTrees, SpecifierTree}
 use Rattle.c_ast.specs.Trees as tree
 use Rattle.c_ast.specs.Views.{fields_of}
 use Rattle.c_ast.specs.Seen.{field_seen, member_seen, specifier_form_seen, specifier_seen, specifiers_seen}
-use Rattle.c_ast.specs.SeenTypes.{member_parts, specifier_parts}
+use Rattle.c_ast.proofs.lemmas.SeenTypes.{member_parts, specifier_parts}
 use Rattle.c_symbols.specs.Scoping.{Scoping}
 use Rattle.c_types.specs.Layout.{MemberType}
 use Rattle.c_types.specs.declared.type_form.Member.{Member}

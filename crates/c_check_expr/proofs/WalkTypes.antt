@@ -6,7 +6,7 @@ use Rattle.c_ast.specs.declared.expr.TypeName.{TypeName, out-TypeName}
 use Rattle.c_ast.specs.Trees.{ADeclarator, DeclaratorTree, ExprTree, NoDeclarator, NoExpr, AnExpr}
 use Rattle.c_ast.specs.Views.{specifier_list_of}
 use Rattle.c_ast.specs.Seen.{maybe_declarator_seen, specifier_seen, specifiers_seen, type_name_seen}
-use Rattle.c_ast.specs.SeenTypes.{specifiers_parts, type_name_parts}
+use Rattle.c_ast.proofs.lemmas.SeenTypes.{specifiers_parts, type_name_parts}
 use Rattle.c_symbols.specs.Scoping.{Scoping}
 use Rattle.c_types.specs.CType.{CType}
 use Rattle.c_types.specs.Table.{Grows, Table, tags, type_at}

@@ -167,7 +167,7 @@ fn subscript(
 }
 
 /// The name that the expression is, where it is just a name.
-#[tactic(auto, using(c_ast::specs::SeenExprs::expr_forms))]
+#[tactic(auto, using(c_ast::proofs::lemmas::SeenExprs::expr_forms))]
 fn bare_name(e: &Expr) -> Option<&Bytes>
     ensures name { IfSome result (λ x. expr_seen e.now ≡ Variable (out-Expr e.now).line x.now) }
     ensures none { IfNone result ((s : State) → (o : Outcome CoreTree) → callee_typed s (expr_seen e.now) o ≡ o) }

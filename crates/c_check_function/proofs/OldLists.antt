@@ -4,7 +4,8 @@ use Rattle.std.specs.Prelude.{Option, Some, None, Result, Ok, Err, IsErrAnd, ◌
 use Rattle.c_ast.specs.declared.statement.Declaration.{Declaration}
 use Rattle.c_ast.specs.declared.statement.InitDeclarator.{InitDeclarator}
 use Rattle.c_ast.specs.Seen.{specifiers_seen}
-use Rattle.c_ast.specs.SeenUnits.{declaration_parts, declaration_seen, init_seen}
+use Rattle.c_ast.specs.SeenUnits.{declaration_seen, init_seen}
+use Rattle.c_ast.proofs.lemmas.SeenNodes.{declaration_parts}
 use Rattle.c_ast.specs.Trees.{DeclarationTree, InitTree, SpecifiersTree}
 use Rattle.c_symbols.specs.Scoping.{Scoping}
 use Rattle.c_types.specs.CType.{CType}

@@ -3,7 +3,8 @@ use Rattle.std.proofs.Common.{◌≡◌, ℕ, ◌<◌, List, length, refl, sym, 
 use Rattle.std.specs.Prelude.{None, Some, Result, Ok, Err, IsErrAnd, is_some}
 use Rattle.c_ast.specs.declared.statement.InitDeclarator.{InitDeclarator}
 use Rattle.c_ast.specs.Seen.{declarator_seen}
-use Rattle.c_ast.specs.SeenUnits.{boxed_initialiser_seen, init_parts, init_seen}
+use Rattle.c_ast.specs.SeenUnits.{boxed_initialiser_seen, init_seen}
+use Rattle.c_ast.proofs.lemmas.SeenNodes.{init_parts}
 use Rattle.c_ast.specs.UnitViews.{option_of}
 use Rattle.c_symbols.specs.Scoping.{Scoping}
 use Rattle.c_types.specs.CType.{CType}

@@ -3,7 +3,7 @@ use Rattle.std.proofs.Common.{◌≡◌, ℕ, ◌<◌, List, [], length, refl, s
 use Rattle.std.specs.Prelude.{true, false, Some, None, Result, Ok, Err, IsErrAnd}
 use Rattle.c_ast.specs.declared.expr.Specifiers.{Specifiers as SpecifiersValue, out-Specifiers}
 use Rattle.c_ast.specs.Seen.{specifiers_seen}
-use Rattle.c_ast.specs.SeenTypes.{specifiers_parts}
+use Rattle.c_ast.proofs.lemmas.SeenTypes.{specifiers_parts}
 use Rattle.c_symbols.specs.Scoping.{Scoping}
 use Rattle.c_types.specs.CType.{CType, Int, basic}
 use Rattle.c_types.specs.Table.{Table, type_at}

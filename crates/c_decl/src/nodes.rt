@@ -11,7 +11,7 @@ use c_ast::{
 use lcc_base::Items;
 
 /// An initialiser that is an expression.
-#[tactic(auto, using(c_ast::specs::SeenUnits::initialiser_forms))]
+#[tactic(auto, using(c_ast::proofs::lemmas::SeenNodes::initialiser_forms))]
 pub(crate) fn by_expr(line: u32, expression: Expr) -> Initialiser
     ensures { initialiser_seen result ≡ ByExpr line (expr_seen expression) }
 {
@@ -22,7 +22,7 @@ pub(crate) fn by_expr(line: u32, expression: Expr) -> Initialiser
 }
 
 /// Initialisers in braces.
-#[tactic(auto, using(c_ast::specs::SeenUnits::initialiser_forms))]
+#[tactic(auto, using(c_ast::proofs::lemmas::SeenNodes::initialiser_forms))]
 pub(crate) fn braced(line: u32, items: Items<Initialiser>, comma: bool) -> Initialiser
     ensures { initialiser_seen result ≡ Braced line (initialisers_of (map initialiser_seen items)) comma }
 {
@@ -33,7 +33,7 @@ pub(crate) fn braced(line: u32, items: Items<Initialiser>, comma: bool) -> Initi
 }
 
 /// A declarator, perhaps with an initialiser.
-#[tactic(auto, using(c_ast::specs::SeenUnits::node_parts))]
+#[tactic(auto, using(c_ast::proofs::lemmas::SeenNodes::node_parts))]
 pub(crate) fn init(
     line: u32,
     declarator: Declarator,
@@ -49,7 +49,7 @@ pub(crate) fn init(
 }
 
 /// A declaration of its parts.
-#[tactic(auto, using(c_ast::specs::SeenUnits::node_parts))]
+#[tactic(auto, using(c_ast::proofs::lemmas::SeenNodes::node_parts))]
 pub fn declared(
     line: u32,
     specifiers: Specifiers,

@@ -9,7 +9,7 @@ use Rattle.c_ast.specs.Trees.{CoreTree, DeclaratorTree}
 use Rattle.c_ast.specs.Trees as trees
 use Rattle.c_ast.specs.Views.{suffixes_of}
 use Rattle.c_ast.specs.Seen.{core_seen, declarator_seen, suffix_seen}
-use Rattle.c_ast.specs.SeenTypes.{declarator_parts}
+use Rattle.c_ast.proofs.lemmas.SeenTypes.{declarator_parts}
 
 regroup : (p s o : Bool) → (p && (s && o)) ≡ ((p && s) && o)
 regroup true s o = refl

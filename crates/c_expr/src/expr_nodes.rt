@@ -12,7 +12,7 @@ use lcc_base::{Bytes, Items, Memory};
 use std::alloc::Global;
 
 /// A name.
-#[tactic(auto, using(c_ast::specs::SeenExprs::expr_forms))]
+#[tactic(auto, using(c_ast::proofs::lemmas::SeenExprs::expr_forms))]
 pub(crate) fn variable(line: u32, name: Bytes) -> Expr
     ensures { expr_seen result ≡ Variable line name }
 {
@@ -23,7 +23,7 @@ pub(crate) fn variable(line: u32, name: Bytes) -> Expr
 }
 
 /// An integer constant.
-#[tactic(auto, using(c_ast::specs::SeenExprs::expr_forms))]
+#[tactic(auto, using(c_ast::proofs::lemmas::SeenExprs::expr_forms))]
 pub(crate) fn integer(line: u32, value: u32, kind: IntKind) -> Expr
     ensures { expr_seen result ≡ IntegerConstant line value kind }
 {
@@ -34,7 +34,7 @@ pub(crate) fn integer(line: u32, value: u32, kind: IntKind) -> Expr
 }
 
 /// A character constant.
-#[tactic(auto, using(c_ast::specs::SeenExprs::expr_forms))]
+#[tactic(auto, using(c_ast::proofs::lemmas::SeenExprs::expr_forms))]
 pub(crate) fn character(line: u32, value: i32) -> Expr
     ensures { expr_seen result ≡ CharacterConstant line value }
 {
@@ -45,7 +45,7 @@ pub(crate) fn character(line: u32, value: i32) -> Expr
 }
 
 /// String literals side by side.
-#[tactic(auto, using(c_ast::specs::SeenExprs::expr_forms))]
+#[tactic(auto, using(c_ast::proofs::lemmas::SeenExprs::expr_forms))]
 pub(crate) fn literal(line: u32, texts: Items<Bytes>) -> Expr
     ensures { expr_seen result ≡ Literal line texts }
 {
@@ -56,7 +56,7 @@ pub(crate) fn literal(line: u32, texts: Items<Bytes>) -> Expr
 }
 
 /// Expressions with commas between.
-#[tactic(auto, using(c_ast::specs::SeenExprs::expr_forms))]
+#[tactic(auto, using(c_ast::proofs::lemmas::SeenExprs::expr_forms))]
 pub(crate) fn sequence(line: u32, parts: Items<Expr>) -> Expr
     ensures { expr_seen result ≡ Sequence line (exprs_of (map expr_seen parts)) }
 {
@@ -67,7 +67,7 @@ pub(crate) fn sequence(line: u32, parts: Items<Expr>) -> Expr
 }
 
 /// An expression in parentheses.
-#[tactic(auto, using(c_ast::specs::SeenExprs::expr_forms))]
+#[tactic(auto, using(c_ast::proofs::lemmas::SeenExprs::expr_forms))]
 pub(crate) fn enclosed(alloc: Global, line: u32, inside: Expr) -> Result<Expr, Memory>
     ensures { IfOk result (λ e. expr_seen e ≡ Enclosed line (expr_seen inside)) }
 {
@@ -76,7 +76,7 @@ pub(crate) fn enclosed(alloc: Global, line: u32, inside: Expr) -> Result<Expr, M
 }
 
 /// An operator before an operand.
-#[tactic(auto, using(c_ast::specs::SeenExprs::expr_forms))]
+#[tactic(auto, using(c_ast::proofs::lemmas::SeenExprs::expr_forms))]
 pub(crate) fn prefixed(
     alloc: Global,
     line: u32,
@@ -90,7 +90,7 @@ pub(crate) fn prefixed(
 }
 
 /// `sizeof` before an operand.
-#[tactic(auto, using(c_ast::specs::SeenExprs::expr_forms))]
+#[tactic(auto, using(c_ast::proofs::lemmas::SeenExprs::expr_forms))]
 pub(crate) fn sized_expr(alloc: Global, line: u32, inside: Expr) -> Result<Expr, Memory>
     ensures { IfOk result (λ e. expr_seen e ≡ SizedExpr line (expr_seen inside)) }
 {
@@ -99,7 +99,7 @@ pub(crate) fn sized_expr(alloc: Global, line: u32, inside: Expr) -> Result<Expr,
 }
 
 /// `sizeof` before a type's name in parentheses.
-#[tactic(auto, using(c_ast::specs::SeenExprs::expr_forms))]
+#[tactic(auto, using(c_ast::proofs::lemmas::SeenExprs::expr_forms))]
 pub(crate) fn sized_type(alloc: Global, line: u32, name: TypeName) -> Result<Expr, Memory>
     ensures { IfOk result (λ e. expr_seen e ≡ SizedType line (type_name_seen name)) }
 {
@@ -108,7 +108,7 @@ pub(crate) fn sized_type(alloc: Global, line: u32, name: TypeName) -> Result<Exp
 }
 
 /// A cast.
-#[tactic(auto, using(c_ast::specs::SeenExprs::expr_forms))]
+#[tactic(auto, using(c_ast::proofs::lemmas::SeenExprs::expr_forms))]
 pub(crate) fn cast(alloc: Global, line: u32, name: TypeName, inside: Expr) -> Result<Expr, Memory>
     ensures { IfOk result (λ e. expr_seen e ≡ Converted line (type_name_seen name) (expr_seen inside)) }
 {
@@ -118,7 +118,7 @@ pub(crate) fn cast(alloc: Global, line: u32, name: TypeName, inside: Expr) -> Re
 }
 
 /// What an expression and what stands behind it make.
-#[tactic(auto, using(c_ast::specs::SeenExprs::expr_forms))]
+#[tactic(auto, using(c_ast::proofs::lemmas::SeenExprs::expr_forms))]
 pub(crate) fn linked(alloc: Global, line: u32, left: Expr, link: Link) -> Result<Expr, Memory>
     ensures { IfOk result (λ e. expr_seen e ≡ linked line (expr_seen left) (link_of link)) }
 {

@@ -41,7 +41,7 @@ pub(crate) fn level_of(operator: BinaryOperator) -> u8
 
 /// The level of an expression: 0 for a comma's, 1 assignment, 2 conditional, 3 to 12 binary, 13
 /// cast, 14 unary, 15 postfix and primary.
-#[tactic(auto, using(c_ast::specs::SeenExprs::expr_forms))]
+#[tactic(auto, using(c_ast::proofs::lemmas::SeenExprs::expr_forms))]
 pub(crate) fn rank(e: &Expr) -> u8
     ensures { result ≡ rank (expr_seen e.now) }
 {
@@ -67,7 +67,7 @@ pub(crate) fn rank(e: &Expr) -> u8
 }
 
 /// Whether it is a type specifier.
-#[tactic(auto, using(c_ast::specs::SeenTypes::specifier_forms))]
+#[tactic(auto, using(c_ast::proofs::lemmas::SeenTypes::specifier_forms))]
 pub(crate) fn says_type(specifier: &Specifier) -> bool
     ensures { result ≡ says_type (specifier_seen specifier.now) }
 {
@@ -83,7 +83,7 @@ pub(crate) fn says_type(specifier: &Specifier) -> bool
     }
 }
 
-#[tactic(auto, using(c_ast::specs::SeenTypes::specifier_forms))]
+#[tactic(auto, using(c_ast::proofs::lemmas::SeenTypes::specifier_forms))]
 fn makes_typedef(specifier: &Specifier) -> bool
     ensures { result ≡ makes_typedef (specifier_seen specifier.now) }
 {
@@ -111,7 +111,7 @@ fn any_typedef(specifiers: &[Specifier]) -> bool
 }
 
 /// Whether `typedef` is among the specifiers, so that what is declared by them is a typedef name.
-#[tactic(auto, using(c_ast::specs::SeenTypes::type_forms))]
+#[tactic(auto, using(c_ast::proofs::lemmas::SeenTypes::type_forms))]
 pub fn has_typedef(specifiers: &Specifiers) -> bool
     ensures { result ≡ has_typedef (specifiers_seen specifiers.now) }
 {
@@ -119,7 +119,7 @@ pub fn has_typedef(specifiers: &Specifiers) -> bool
 }
 
 /// The name that the declarator declares, if it has one.
-#[tactic(auto, using(c_ast::specs::SeenTypes::type_forms, c_ast::specs::SeenTypes::core_forms))]
+#[tactic(auto, using(c_ast::proofs::lemmas::SeenTypes::type_forms, c_ast::proofs::lemmas::SeenTypes::core_forms))]
 pub fn declared_name(declarator: &Declarator) -> Option<&Bytes>
     ensures some { IfSome result (λ n. declared_name (declarator_seen declarator.now) ≡ Some n.now) }
     ensures none { IfNone result (declared_name (declarator_seen declarator.now) ≡ None) }
@@ -139,7 +139,7 @@ fn is_bare(pointers: &Items<Items<Qualifier>>, suffixes: &Items<Suffix>) -> bool
 }
 
 /// Whether the declarator is a name, perhaps in parentheses.
-#[tactic(auto, using(crate::proofs::Bare::just_name_by, c_ast::specs::SeenTypes::core_forms))]
+#[tactic(auto, using(crate::proofs::Bare::just_name_by, c_ast::proofs::lemmas::SeenTypes::core_forms))]
 fn just_name(declarator: &Declarator) -> bool
     ensures { result ≡ just_name (declarator_seen declarator.now) }
 {
@@ -154,7 +154,7 @@ fn just_name(declarator: &Declarator) -> bool
 }
 
 /// Whether a suffix behind it is that of the declared name itself.
-#[tactic(auto, using(c_ast::specs::SeenTypes::type_forms, c_ast::specs::SeenTypes::core_forms))]
+#[tactic(auto, using(c_ast::proofs::lemmas::SeenTypes::type_forms, c_ast::proofs::lemmas::SeenTypes::core_forms))]
 pub(crate) fn is_own(core: &DeclaratorCore) -> bool
     ensures { result ≡ is_own (core_seen core.now) }
 {
@@ -165,7 +165,7 @@ pub(crate) fn is_own(core: &DeclaratorCore) -> bool
     }
 }
 
-#[tactic(auto, using(c_ast::specs::SeenTypes::suffix_forms))]
+#[tactic(auto, using(c_ast::proofs::lemmas::SeenTypes::suffix_forms))]
 fn is_name_list(suffix: &Suffix) -> bool
     ensures { result ≡ is_name_list (suffix_seen suffix.now) }
 {
@@ -189,7 +189,7 @@ fn has_name_list(suffixes: &[Suffix]) -> bool
 }
 
 /// Whether the declarator has no name and no list of names, and isn't empty.
-#[tactic(auto, using(crate::proofs::Bare::is_abstract_by, c_ast::specs::SeenTypes::core_forms))]
+#[tactic(auto, using(crate::proofs::Bare::is_abstract_by, c_ast::proofs::lemmas::SeenTypes::core_forms))]
 pub(crate) fn is_abstract(declarator: &Declarator) -> bool
     ensures { result ≡ is_abstract (declarator_seen declarator.now) }
 {

@@ -14,7 +14,7 @@ use lcc_base::{Bytes, Items, Memory};
 use std::alloc::Global;
 
 /// A storage class.
-#[tactic(auto, using(c_ast::specs::SeenTypes::specifier_forms))]
+#[tactic(auto, using(c_ast::proofs::lemmas::SeenTypes::specifier_forms))]
 pub(crate) fn stored(line: u32, storage: Storage) -> Specifier
     ensures { specifier_seen result ≡ Stored line storage }
 {
@@ -25,7 +25,7 @@ pub(crate) fn stored(line: u32, storage: Storage) -> Specifier
 }
 
 /// A qualifier.
-#[tactic(auto, using(c_ast::specs::SeenTypes::specifier_forms))]
+#[tactic(auto, using(c_ast::proofs::lemmas::SeenTypes::specifier_forms))]
 pub(crate) fn qualified(line: u32, qualifier: Qualifier) -> Specifier
     ensures { specifier_seen result ≡ Qualified line qualifier }
 {
@@ -36,7 +36,7 @@ pub(crate) fn qualified(line: u32, qualifier: Qualifier) -> Specifier
 }
 
 /// A keyword of a type.
-#[tactic(auto, using(c_ast::specs::SeenTypes::specifier_forms))]
+#[tactic(auto, using(c_ast::proofs::lemmas::SeenTypes::specifier_forms))]
 pub(crate) fn basic(line: u32, basic: BasicType) -> Specifier
     ensures { specifier_seen result ≡ Basic line basic }
 {
@@ -47,7 +47,7 @@ pub(crate) fn basic(line: u32, basic: BasicType) -> Specifier
 }
 
 /// A typedef name.
-#[tactic(auto, using(c_ast::specs::SeenTypes::specifier_forms))]
+#[tactic(auto, using(c_ast::proofs::lemmas::SeenTypes::specifier_forms))]
 pub(crate) fn named_type(line: u32, name: Bytes) -> Specifier
     ensures { specifier_seen result ≡ NamedType line name }
 {
@@ -58,7 +58,7 @@ pub(crate) fn named_type(line: u32, name: Bytes) -> Specifier
 }
 
 /// A structure or union with its members.
-#[tactic(auto, using(c_ast::specs::SeenTypes::specifier_forms))]
+#[tactic(auto, using(c_ast::proofs::lemmas::SeenTypes::specifier_forms))]
 pub(crate) fn record(
     line: u32,
     kind: RecordKind,
@@ -74,7 +74,7 @@ pub(crate) fn record(
 }
 
 /// The tag of a structure or union.
-#[tactic(auto, using(c_ast::specs::SeenTypes::specifier_forms))]
+#[tactic(auto, using(c_ast::proofs::lemmas::SeenTypes::specifier_forms))]
 pub(crate) fn record_tag(line: u32, kind: RecordKind, tag: Bytes) -> Specifier
     ensures { specifier_seen result ≡ RecordTag line kind tag }
 {
@@ -85,7 +85,7 @@ pub(crate) fn record_tag(line: u32, kind: RecordKind, tag: Bytes) -> Specifier
 }
 
 /// An enumeration with its enumerators, perhaps with a comma behind the last.
-#[tactic(auto, using(c_ast::specs::SeenTypes::specifier_forms))]
+#[tactic(auto, using(c_ast::proofs::lemmas::SeenTypes::specifier_forms))]
 pub(crate) fn enumeration(
     line: u32,
     tag: Option<Bytes>,
@@ -105,7 +105,7 @@ pub(crate) fn enumeration(
 }
 
 /// The tag of an enumeration.
-#[tactic(auto, using(c_ast::specs::SeenTypes::specifier_forms))]
+#[tactic(auto, using(c_ast::proofs::lemmas::SeenTypes::specifier_forms))]
 pub(crate) fn enumeration_tag(line: u32, tag: Bytes) -> Specifier
     ensures { specifier_seen result ≡ EnumerationTag line tag }
 {
@@ -116,7 +116,7 @@ pub(crate) fn enumeration_tag(line: u32, tag: Bytes) -> Specifier
 }
 
 /// Specifiers.
-#[tactic(auto, using(c_ast::specs::SeenTypes::type_forms))]
+#[tactic(auto, using(c_ast::proofs::lemmas::SeenTypes::type_forms))]
 pub(crate) fn specified(line: u32, list: Items<Specifier>) -> Specifiers
     ensures { specifiers_seen result ≡ Specified line (specifier_list_of (map specifier_seen list)) }
 {
@@ -124,7 +124,7 @@ pub(crate) fn specified(line: u32, list: Items<Specifier>) -> Specifiers
 }
 
 /// A line of members.
-#[tactic(auto, using(c_ast::specs::SeenTypes::type_forms))]
+#[tactic(auto, using(c_ast::proofs::lemmas::SeenTypes::type_forms))]
 pub(crate) fn member(
     line: u32,
     specifiers: Specifiers,
@@ -140,7 +140,7 @@ pub(crate) fn member(
 }
 
 /// A member: its declarator, its width, or both.
-#[tactic(auto, using(c_ast::specs::SeenTypes::type_forms))]
+#[tactic(auto, using(c_ast::proofs::lemmas::SeenTypes::type_forms))]
 pub(crate) fn field(
     line: u32,
     declarator: Option<Declarator>,
@@ -156,7 +156,7 @@ pub(crate) fn field(
 }
 
 /// An enumerator.
-#[tactic(auto, using(c_ast::specs::SeenTypes::type_forms))]
+#[tactic(auto, using(c_ast::proofs::lemmas::SeenTypes::type_forms))]
 pub(crate) fn enumerator(line: u32, name: Bytes, value: Option<Expr>) -> Enumerator
     ensures { enumerator_seen result ≡ EnumeratorNode line name (maybe_expr_seen value) }
 {
@@ -164,7 +164,7 @@ pub(crate) fn enumerator(line: u32, name: Bytes, value: Option<Expr>) -> Enumera
 }
 
 /// A type's name.
-#[tactic(auto, using(c_ast::specs::SeenTypes::type_forms))]
+#[tactic(auto, using(c_ast::proofs::lemmas::SeenTypes::type_forms))]
 pub(crate) fn type_name(
     line: u32,
     specifiers: Specifiers,
@@ -180,7 +180,7 @@ pub(crate) fn type_name(
 }
 
 /// A parameter.
-#[tactic(auto, using(c_ast::specs::SeenTypes::type_forms))]
+#[tactic(auto, using(c_ast::proofs::lemmas::SeenTypes::type_forms))]
 pub(crate) fn parameter(
     line: u32,
     specifiers: Specifiers,
@@ -196,7 +196,7 @@ pub(crate) fn parameter(
 }
 
 /// A declarator.
-#[tactic(auto, using(c_ast::specs::SeenTypes::type_forms))]
+#[tactic(auto, using(c_ast::proofs::lemmas::SeenTypes::type_forms))]
 pub(crate) fn declarator(
     line: u32,
     pointers: Items<Items<Qualifier>>,
@@ -214,7 +214,7 @@ pub(crate) fn declarator(
 }
 
 /// A declared name.
-#[tactic(auto, using(c_ast::specs::SeenTypes::core_forms))]
+#[tactic(auto, using(c_ast::proofs::lemmas::SeenTypes::core_forms))]
 pub(crate) fn declared(name: Bytes) -> DeclaratorCore
     ensures { core_seen result ≡ Named name }
 {
@@ -222,7 +222,7 @@ pub(crate) fn declared(name: Bytes) -> DeclaratorCore
 }
 
 /// No name.
-#[tactic(auto, using(c_ast::specs::SeenTypes::core_forms))]
+#[tactic(auto, using(c_ast::proofs::lemmas::SeenTypes::core_forms))]
 pub(crate) fn omitted() -> DeclaratorCore
     ensures { core_seen result ≡ NoName }
 {
@@ -230,7 +230,7 @@ pub(crate) fn omitted() -> DeclaratorCore
 }
 
 /// A declarator in parentheses.
-#[tactic(auto, using(c_ast::specs::SeenTypes::core_forms))]
+#[tactic(auto, using(c_ast::proofs::lemmas::SeenTypes::core_forms))]
 pub(crate) fn inner(alloc: Global, declarator: Declarator) -> Result<DeclaratorCore, Memory>
     ensures { IfOk result (λ c. core_seen c ≡ Inner (declarator_seen declarator)) }
 {
@@ -238,7 +238,7 @@ pub(crate) fn inner(alloc: Global, declarator: Declarator) -> Result<DeclaratorC
 }
 
 /// An array, perhaps of a size.
-#[tactic(auto, using(c_ast::specs::SeenTypes::suffix_forms))]
+#[tactic(auto, using(c_ast::proofs::lemmas::SeenTypes::suffix_forms))]
 pub(crate) fn array(line: u32, size: Option<Expr>) -> Suffix
     ensures { suffix_seen result ≡ ArraySuffix line (maybe_expr_seen size) }
 {
@@ -249,7 +249,7 @@ pub(crate) fn array(line: u32, size: Option<Expr>) -> Suffix
 }
 
 /// Parameters, perhaps with `...` behind them.
-#[tactic(auto, using(c_ast::specs::SeenTypes::suffix_forms))]
+#[tactic(auto, using(c_ast::proofs::lemmas::SeenTypes::suffix_forms))]
 pub(crate) fn prototype(line: u32, parameters: Items<Parameter>, more: bool) -> Suffix
     ensures { suffix_seen result ≡ Prototype line (parameters_of (map parameter_seen parameters)) more }
 {
@@ -260,7 +260,7 @@ pub(crate) fn prototype(line: u32, parameters: Items<Parameter>, more: bool) -> 
 }
 
 /// Names of parameters.
-#[tactic(auto, using(c_ast::specs::SeenTypes::suffix_forms))]
+#[tactic(auto, using(c_ast::proofs::lemmas::SeenTypes::suffix_forms))]
 pub(crate) fn name_list(line: u32, names: Items<Bytes>) -> Suffix
     ensures { suffix_seen result ≡ NameList line names }
 {
@@ -271,7 +271,7 @@ pub(crate) fn name_list(line: u32, names: Items<Bytes>) -> Suffix
 }
 
 /// Empty parentheses.
-#[tactic(auto, using(c_ast::specs::SeenTypes::suffix_forms))]
+#[tactic(auto, using(c_ast::proofs::lemmas::SeenTypes::suffix_forms))]
 pub(crate) fn no_parameters(line: u32) -> Suffix
     ensures { suffix_seen result ≡ NoParameters line }
 {

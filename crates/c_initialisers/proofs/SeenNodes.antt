@@ -8,8 +8,9 @@ use Rattle.c_ast.specs.declared.statement.InitialiserForm.TheVariants as initial
 use Rattle.c_ast.specs.Trees.{InitialiserTree, ByExpr}
 use Rattle.c_ast.specs.Views.{expr_of}
 use Rattle.c_ast.specs.UnitViews.{initialisers_of}
-use Rattle.c_ast.specs.UnitLayers.{is_expr}
-use Rattle.c_ast.specs.SeenUnits.{form_list, initialiser_form_seen, initialiser_parts, initialiser_seen}
+use Rattle.c_ast.proofs.lemmas.UnitLayers.{is_expr}
+use Rattle.c_ast.specs.SeenUnits.{initialiser_form_seen, initialiser_seen}
+use Rattle.c_ast.proofs.lemmas.SeenNodes.{form_list, initialiser_parts}
 use Rattle.c_meaning.specs.Filling.{begins_with_text, is_literal}
 
 pub form_expr : (e : _) (line : ℕ) → initialiser_form_seen (initialiser_form.Expr e) line ≡ ByExpr line (expr_of e)

@@ -8,7 +8,7 @@ use Rattle.c_ast.specs.declared.statement.InitialiserForm.{InitialiserForm}
 use Rattle.c_ast.specs.Trees.{ByExpr, ExprTree, InitialiserTree}
 use Rattle.c_ast.specs.UnitViews.{initialisers_of}
 use Rattle.c_ast.specs.SeenUnits.{initialiser_form_seen, initialiser_seen}
-use Rattle.c_ast.specs.SeenUnits.{initialiser_parts}
+use Rattle.c_ast.proofs.lemmas.SeenNodes.{initialiser_parts}
 use Rattle.c_symbols.specs.Scoping.{Scoping}
 use Rattle.c_types.specs.Definitions.{AreComplete}
 use Rattle.c_types.specs.Table.{Table, Grows, tags, type_at}

@@ -7,7 +7,7 @@ use Rattle.c_ast.specs.declared.statement.InitialiserForm.{InitialiserForm}
 use Rattle.c_ast.specs.Trees.{Braced, ByExpr, ExprTree, InitialiserTree, InitialiserTrees}
 use Rattle.c_ast.specs.UnitViews.{initialiser_of}
 use Rattle.c_ast.specs.SeenUnits.{initialiser_form_seen, initialiser_seen}
-use Rattle.c_ast.specs.SeenUnits.{initialiser_parts}
+use Rattle.c_ast.proofs.lemmas.SeenNodes.{initialiser_parts}
 use Rattle.c_symbols.specs.Scoping.{Scoping}
 use Rattle.c_types.specs.CType.{CType}
 use Rattle.c_types.specs.Table.{Table, Extends, Grows, tags, type_at}

@@ -15,7 +15,7 @@ ghost use Rattle.c_lexer.specs.SourceUnits.{AreLexemes, DenotesUnit};
 ghost use Rattle.c_lexer.specs.PlacedTokens.{placed};
 ghost use Rattle.c_lexer.specs.PrintedTokens.{AreBytes, IsReadAgain};
 
-use c_ast::one_unit;
+use c_readings::one_unit;
 
 /// From one place a source is cut in one way: one answer, and one place behind it.
 pub fn one_cut()

@@ -31,3 +31,4 @@ mod Statements
 mod Parts
 mod Externals
 mod Units
+mod OnePieces

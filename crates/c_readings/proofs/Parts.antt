@@ -1,5 +1,5 @@
 -- What is asked of the readers of what stands in a unit: that they are exact.
-use Rattle.std.proofs.Common.{◌≤◌, ℕ, suc, Bool, false, List}
+use Rattle.std.proofs.Common.{ℕ, suc, Bool, false, List}
 use Rattle.c_ast.specs.Marks.{Mark}
 use Rattle.c_ast.specs.ExprMarks as expr_marks
 use Rattle.c_ast.specs.UnitMarks as marks

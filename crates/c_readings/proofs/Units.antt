@@ -36,7 +36,7 @@ after_fits first (Function l o d ps b) f = f
 after_fits first (Declares l d) f = f
 after_fits first (Empty l) f = tt
 
-fits_after : (x : ExternalTree) → FitsExternal x → FitsAfter false x
+pub fits_after : (x : ExternalTree) → FitsExternal x → FitsAfter false x
 fits_after (Function l o d ps b) f = f
 fits_after (Declares l d) f = f
 fits_after (Empty l) f = refl

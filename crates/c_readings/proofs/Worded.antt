@@ -6,7 +6,7 @@ use Rattle.c_ast.specs.ExprMarks.{expr}
 use Rattle.c_ast.specs.UnitMarks.{statement}
 use Rattle.c_ast.specs.Trees.{ExprTree, MaybeExpr, StatementTree, Case, Default, If, IfElse, Switch, While, Do, For, Goto, Continue, Break, Return}
 use Rattle.c_ast.specs.Levels.{FitsStatement}
-use Rattle.c_ast.specs.Heights.{height, maybe_height, statement_height}
+use Rattle.c_ast.specs.Heights.{maybe_height, statement_height}
 use Rattle.c_readings.specs.Reading.{State, Read, gives, bind, answer, tail, beyond, one_sign}
 use Rattle.c_readings.specs.Readers.{Readers}
 use Rattle.c_readings.specs.StatementReaders.{StatementWord, CaseWord, DefaultWord, IfWord, SwitchWord, WhileWord, DoWord, ForWord, GotoWord, ContinueWord, BreakWord, ReturnWord, maybe_before, condition, behind_colon, guarded, name_before, labelled, if_behind, do_behind, for_behind, by_word, by_maybe_word, statement_above}

@@ -8,3 +8,4 @@ pub mod DeclarationReaders
 pub mod StatementReaders
 pub mod UnitReaders
 pub mod UnitExact
+pub mod Pieces

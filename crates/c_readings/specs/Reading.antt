@@ -1,5 +1,5 @@
 -- Readings of trees from a state: the names in force, and the tokens that are left.
-use Rattle.std.specs.Prelude.{ℕ, zero, suc, nat_le, Bool, true, false, if◌then◌else◌, Option, Some, None, List, [], ◌∷◌, ◌+◌, length}
+use Rattle.std.specs.Prelude.{ℕ, zero, suc, Bool, true, false, if◌then◌else◌, Option, Some, None, List, [], ◌∷◌, ◌+◌, length}
 use Rattle.c_ast.specs.Lexemes.{Lexeme, Name, Keyword, Integer, Character, Text, Sign, Placed}
 use Rattle.c_ast.specs.InForce.{InForce, put, opened, closed, closed_kept, reopened, forgotten}
 use Rattle.c_ast.specs.Marks.{Test, IsSign, holds, lexemes}

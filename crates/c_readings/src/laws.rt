@@ -1,10 +1,16 @@
-//! Laws of the grammar's readers: up to each height they give its pieces, and nothing else.
-ghost use Rattle.std.specs.Prelude.{◌≡◌, Bool, ℕ};
+//! Laws of the grammar's readers: up to each height they give its pieces, and nothing else. So tokens
+//! denote at most one unit.
+ghost use Rattle.std.specs.Prelude.{◌≡◌, Bool, List, ℕ};
+ghost use Rattle.c_ast.specs.Lexemes.{Placed};
+ghost use Rattle.c_ast.specs.Trees.{UnitTree};
+ghost use Rattle.c_ast.specs.Spell.{Denotes};
 ghost use Rattle.c_ast.specs.ExprMarks as marks;
 ghost use Rattle.c_readings.specs.Readers.{readers};
 ghost use Rattle.c_readings.specs.Exact.{AreExact, TypesAreExact};
 ghost use Rattle.c_readings.specs.Fronts.{AreFronts};
 ghost use Rattle.c_readings.specs.UnitExact.{UnitsAreExact};
+
+use c_ast::marks_run;
 
 /// At each limit on height, the readers give each piece of their productions that is no higher, and
 /// nothing else.
@@ -27,3 +33,10 @@ pub fn pieces_are_fronts()
 pub fn units_are_exact()
     ensures { (n : ℕ) → UnitsAreExact readers n }
 {}
+
+/// Tokens denote at most one unit.
+pub fn one_unit()
+    ensures { (ts : List Placed) (u v : UnitTree) → Denotes ts u → Denotes ts v → u ≡ v }
+{
+    marks_run();
+}

@@ -10,7 +10,7 @@ use Rattle.c_ast.specs.declared.unit.Unit.{Unit as UnitValue}
 use Rattle.c_ast.specs.Trees.{StatementTree, SpecifiersTree, Labelled, Case, Default, Evaluate, Compound, If, IfElse, Switch, While, Do, For, Goto, Continue, Break, Return, Block, Function, Declares, Empty}
 use Rattle.c_ast.specs.Views.{specifiers_of}
 use Rattle.c_ast.specs.UnitViews.{maybe_of, option_of, statements_of}
-use Rattle.c_ast.specs.UnitLayers.{statement_is, block_is, is_label, is_case, is_default, is_expression, is_block, is_if, is_if_else, is_switch, is_while, is_do, is_for, is_goto, is_continue, is_break, is_return}
+use Rattle.c_ast.proofs.lemmas.UnitLayers.{statement_is, block_is, is_label, is_case, is_default, is_expression, is_block, is_if, is_if_else, is_switch, is_while, is_do, is_for, is_goto, is_continue, is_break, is_return}
 use Rattle.c_ast.specs.Seen.{declarator_seen, expr_seen, maybe_expr_seen, specifiers_seen}
 use Rattle.c_ast.specs.SeenUnits.{declaration_seen}
 use Rattle.c_stmt.specs.Seen.{block_seen, external_seen, statement_form_seen, statement_seen, unit_seen}

@@ -11,7 +11,7 @@ use Rattle.c_ast.specs.Trees.{StatementTree, Labelled, Case, Default, Evaluate, 
 use Rattle.c_ast.specs.Seen.{expr_seen, maybe_expr_seen}
 use Rattle.c_ast.specs.SeenUnits.{declaration_seen}
 use Rattle.c_ast.specs.UnitViews.{block_of, maybe_of, statement_form_of, statement_of, statements_of}
-use Rattle.c_ast.specs.UnitLayers.{statement_is, is_label, is_case, is_default, is_expression, is_block, is_if, is_if_else, is_switch, is_while, is_do, is_for, is_goto, is_continue, is_break, is_return, block_is}
+use Rattle.c_ast.proofs.lemmas.UnitLayers.{statement_is, is_label, is_case, is_default, is_expression, is_block, is_if, is_if_else, is_switch, is_while, is_do, is_for, is_goto, is_continue, is_break, is_return, block_is}
 
 unfoldable pub statement_seen : Statement → StatementTree
 statement_seen v = statement_of v

@@ -245,6 +245,7 @@ impl Object {
     }
 
     /// Sets the bytes from a place on, all of whose bits are known.
+    #[inline(always)]
     pub fn put_known(&mut self, place: u32, bytes: &[u8])
         requires { place + length bytes.now ≤ length self.old.bytes }
         ensures { self.new ≡ with_bytes self.old place (known_bytes bytes.now) }

@@ -15,9 +15,9 @@ use Rattle.c_check_expr.specs.PartsSeen.{AreParametersIn, ArePartsIn, AreStepsIn
 use Rattle.c_check_expr.specs.TypedIn.{declarator_in, exprs_in, parameters_in, parts_in, suffixes_in}
 use Rattle.c_check_expr.specs.Walks.{AreCoresIn, IsDeclaredIn, cores}
 use Rattle.c_values.specs.Stays.{grows_itself, in_later}
-use Rattle.c_ast.specs.SeenExprs.{form_assign, form_binary, form_call, form_cast, form_character, form_comma, form_conditional, form_enclosed, form_index, form_integer, form_name, form_postfix, form_prefix, form_selected, form_sizeof_expr, form_sizeof_type, form_text}
+use Rattle.c_ast.proofs.lemmas.SeenExprs.{form_assign, form_binary, form_call, form_cast, form_character, form_comma, form_conditional, form_enclosed, form_index, form_integer, form_name, form_postfix, form_prefix, form_selected, form_sizeof_expr, form_sizeof_type, form_text}
 use Rattle.c_check_expr.proofs.WalkExprs.{call_goes, call_stops, call_stops_second, callee_plain, cast_goes, cast_stops, cast_stops_second, comma_goes, comma_stops, enclosed_goes, leaf_goes, name_goes, one_goes, one_stops, pair_goes, pair_stops, pair_stops_second, seen_as, sizeof_type_goes, sizeof_type_stops, three_go, three_stop, three_stop_behind, two_go, two_stop}
-use Rattle.c_ast.specs.SeenTypes.{core_declared, core_omitted, core_parentheses, form_enum_tag, form_named, form_record_tag, form_array, form_basic, form_empty, form_enum, form_names, form_parameters, form_qualifier, form_record, form_storage}
+use Rattle.c_ast.proofs.lemmas.SeenTypes.{core_declared, core_omitted, core_parentheses, form_enum_tag, form_named, form_record_tag, form_array, form_basic, form_empty, form_enum, form_names, form_parameters, form_qualifier, form_record, form_storage}
 use Rattle.c_check_expr.proofs.WalkDeclarators.{array_goes, array_stops, core_as, core_goes, core_inner, declarator_goes, declarator_stops, declarator_stops_second, parameter_goes, parameter_none, parameter_shape_goes, parameter_shape_stops, parameter_stops, parameter_stops_second, prototype_line, suffix_as, suffix_plain}
 use Rattle.c_check_expr.proofs.WalkLoops.{enumerators_end, enumerators_on, enumerators_start, enumerators_stop, fields_end, fields_on, fields_start, fields_stop, members_end, members_on, members_start, members_stop, exprs_end, exprs_on, exprs_start, exprs_stop, parameters_end, parameters_on, parameters_start, parameters_stop, parts_end, parts_on, parts_start, parts_stop, suffixes_end, suffixes_on, suffixes_start, suffixes_stop}
 use Rattle.c_check_expr.proofs.TypedFields.{members_are_fields}

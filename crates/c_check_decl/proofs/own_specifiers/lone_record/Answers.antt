@@ -1,7 +1,7 @@
 use Rattle.std.proofs.Common.{inl, inr, map, refl}
 use Rattle.c_ast.specs.declared.expr.SpecifierForm.TheVariants as specifier_form
 use Rattle.c_ast.specs.Seen.{enumerator_seen, member_seen}
-use Rattle.c_ast.specs.SeenTypes.{form_basic, form_enum, form_enum_tag, form_named, form_qualifier, form_record, form_storage}
+use Rattle.c_ast.proofs.lemmas.SeenTypes.{form_basic, form_enum, form_enum_tag, form_named, form_qualifier, form_record, form_storage}
 use Rattle.c_ast.specs.Trees as tree
 use Rattle.c_ast.specs.Views.{enumerators_of, members_of}
 use Rattle.c_check_decl.proofs.LoneRecords.{not_one, one_other, one_tag}

@@ -1,5 +1,5 @@
 use Rattle.std.proofs.Common.{sym, ap, ◌∙◌}
-use Rattle.c_ast.specs.SeenTypes.{specifiers_parts}
+use Rattle.c_ast.proofs.lemmas.SeenTypes.{specifiers_parts}
 use Rattle.c_meaning.specs.Declaring.{declare_tag, list_of}
 use Rattle.c_check_decl.proofs.TagSpecifiers.{tagged}
 use Rattle.c_check_decl.proofs.walk.declares_tag.Goals as goal

@@ -1,5 +1,5 @@
 use Rattle.std.proofs.Common.{arith}
-use Rattle.c_ast.specs.SeenTypes.{specifier_forms}
+use Rattle.c_ast.proofs.lemmas.SeenTypes.{specifier_forms}
 use Rattle.c_check_decl.proofs.walk.is_tag.Goals as goal
 
 pub returns-in-Record : goal.returns-in-Record

@@ -1,5 +1,5 @@
 use Rattle.c_ast.specs.declared.expr.MemberDeclarator.{out-roll-MemberDeclarator}
-use Rattle.c_ast.specs.SeenTypes.{field_parts}
+use Rattle.c_ast.proofs.lemmas.SeenTypes.{field_parts}
 use Rattle.c_expr.proofs.type_nodes.field.Goals as goal
 
 pub returns : goal.returns

@@ -1,7 +1,7 @@
 use Rattle.std.proofs.Common.{map, sym, ap, ◌∙◌, arith}
 use Rattle.c_ast.specs.UnitViews.{initialisers_of}
 use Rattle.c_ast.specs.SeenUnits.{initialiser_seen}
-use Rattle.c_ast.specs.SeenUnits.{form_list}
+use Rattle.c_ast.proofs.lemmas.SeenNodes.{form_list}
 use Rattle.c_meaning.specs.Initialising.{is_scalar_at, is_within}
 use Rattle.c_check_expr.specs.Kept.{keeps_itself, keeps_on}
 use Rattle.c_initialisers.specs.Storing.{filling_in}

@@ -3,7 +3,7 @@ use Rattle.std.specs.Prelude.{not, IfErr, IfOk}
 use Rattle.c_ast.specs.Trees.{Braced}
 use Rattle.c_ast.specs.UnitViews.{initialisers_of}
 use Rattle.c_ast.specs.SeenUnits.{initialiser_seen}
-use Rattle.c_ast.specs.SeenUnits.{form_list}
+use Rattle.c_ast.proofs.lemmas.SeenNodes.{form_list}
 use Rattle.c_types.specs.Table.{tags, type_at}
 use Rattle.c_meaning.specs.CoreTrees.{seen}
 use Rattle.c_meaning.specs.Initialising.{Initialised}

@@ -4,7 +4,7 @@ ghost use Rattle.c_ast.specs.ExprMarks.{expr, type_name, specifiers, declarator}
 ghost use Rattle.c_ast.specs.UnitMarks.{initialiser, declaration, declarations, statement, external};
 ghost use Rattle.c_ast.specs.Levels.{rank, Parts, FitsTypeName, FitsSpecifiers, FitsDeclarator, FitsInitialiser, FitsDeclaration, FitsDeclarations, FitsStatement, FitsExternal, is_named};
 ghost use Rattle.c_ast.specs.Reach.{Stops, StopsWhole};
-ghost use Rattle.c_ast.specs.Pieces.{Closes, OnePiece};
+ghost use Rattle.c_readings.specs.Pieces.{Closes, OnePiece};
 
 /// Where an expression stands, one of its level, without a comma at its top, does, and one comma
 /// expression.

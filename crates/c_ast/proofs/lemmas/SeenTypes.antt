@@ -16,7 +16,7 @@ use Rattle.c_ast.specs.declared.expr.SuffixForm.TheVariants as suffix_form
 use Rattle.c_ast.specs.Trees.{SpecifierTree, SuffixTree, TypeNamed, Specified, Stored, Qualified, Basic, Record, RecordTag, Enumeration, EnumerationTag, NamedType, Members, Field, Enumerator, Declarator, Named, Inner, Omitted, ArraySuffix, Prototype, NameList, NoParameters, Parameter}
 use Rattle.c_ast.specs.Views.{enumerators_of, fields_of, maybe_declarator_of, members_of, parameters_of, specifier_list_of, suffixes_of, declarator_of}
 use Rattle.c_ast.specs.UnitViews.{option_of, maybe_of}
-use Rattle.c_ast.specs.Layers.{declarator_is, enumerator_is, field_is, member_is, parameter_is, specifier_is, specifiers_is, suffix_is, type_name_is, is_array, is_basic, is_declared, is_empty, is_enum, is_enum_tag, is_named, is_names, is_omitted, is_parameters, is_parentheses, is_qualifier, is_record, is_record_tag, is_storage}
+use Rattle.c_ast.proofs.lemmas.Layers.{declarator_is, enumerator_is, field_is, member_is, parameter_is, specifier_is, specifiers_is, suffix_is, type_name_is, is_array, is_basic, is_declared, is_empty, is_enum, is_enum_tag, is_named, is_names, is_omitted, is_parameters, is_parentheses, is_qualifier, is_record, is_record_tag, is_storage}
 use Rattle.c_ast.specs.Seen.{core_seen, declarator_seen, enumerator_seen, expr_seen, field_seen, maybe_declarator_seen, maybe_expr_seen, member_seen, parameter_seen, specifier_form_seen, specifier_seen, specifiers_seen, suffix_form_seen, suffix_seen, type_name_seen}
 
 -- ---- what may be left out

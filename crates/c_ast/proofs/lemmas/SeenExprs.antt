@@ -4,7 +4,7 @@ use Rattle.c_ast.specs.declared.expr.Expr.{Expr, out-Expr}
 use Rattle.c_ast.specs.declared.expr.ExprForm.TheVariants as expr_form
 use Rattle.c_ast.specs.Trees.{ExprTree, Variable, IntegerConstant, CharacterConstant, Literal, Enclosed, Subscript, Called, Selected, Stepped, Prefixed, SizedExpr, SizedType, Converted, Combined, Chosen, Assigned, Sequence}
 use Rattle.c_ast.specs.Views.{exprs_of}
-use Rattle.c_ast.specs.Layers.{expr_is, is_name, is_integer, is_character, is_text, is_enclosed, is_index, is_call, is_selected, is_postfix, is_prefix, is_sizeof_expr, is_sizeof_type, is_cast, is_binary, is_conditional, is_assign, is_comma}
+use Rattle.c_ast.proofs.lemmas.Layers.{expr_is, is_name, is_integer, is_character, is_text, is_enclosed, is_index, is_call, is_selected, is_postfix, is_prefix, is_sizeof_expr, is_sizeof_type, is_cast, is_binary, is_conditional, is_assign, is_comma}
 use Rattle.c_ast.specs.Seen.{expr_seen, expr_form_seen, type_name_seen}
 
 pub expr_parts : (v : Expr) → expr_seen v ≡ expr_form_seen (out-Expr v).form (out-Expr v).line

@@ -1,5 +1,5 @@
-use Rattle.c_ast.proofs.OnePieces as pieces
-use Rattle.c_ast.proofs.pieces.one_expression.Goals as goal
+use Rattle.c_readings.proofs.OnePieces as pieces
+use Rattle.c_readings.proofs.pieces.one_expression.Goals as goal
 
 pub returns : goal.returns
 returns c = record {
