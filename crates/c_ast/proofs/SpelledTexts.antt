@@ -6,7 +6,7 @@ use Rattle.c_ast.specs.Marks.{Mark, Tok, tokens_of}
 use Rattle.c_ast.specs.Spell.{spell}
 use Rattle.c_ast.specs.Operators.{binary_sign, assign_sign, prefix_sign, postfix_sign, member_sign, record_word}
 use Rattle.c_ast.specs.Printed.{token_text, spaced, printed}
-use Rattle.c_ast.specs.Trees.{ExprTree, Variable, IntegerConstant, CharacterConstant, Literal, Enclosed, Subscript, Called, Selected, Stepped, Prefixed, SizedExpr, SizedType, Converted, Combined, Chosen, Assigned, Sequence, ExprTrees, NoExprs, Exprs, MaybeExpr, NoExpr, AnExpr, TypeNameTree, TypeNamed, SpecifiersTree, Specified, SpecifierTree, Stored, Qualified, Basic, Record, RecordTag, Enumeration, EnumerationTag, NamedType, SpecifierTrees, NoSpecifiers, Specifiers, MemberTree, Members, MemberTrees, NoMembers, MoreMembers, FieldTree, Field, FieldTrees, NoFields, Fields, EnumeratorTree, Enumerator, EnumeratorTrees, NoEnumerators, Enumerators, DeclaratorTree, Declarator, MaybeDeclarator, NoDeclarator, ADeclarator, CoreTree, Named, Inner, Omitted, SuffixTree, ArraySuffix, Prototype, NameList, NoParameters, SuffixTrees, NoSuffixes, Suffixes, ParameterTree, Parameter, ParameterTrees, NoParameter, Parameters, InitialiserTree, ByExpr, Braced, InitialiserTrees, NoInitialisers, Initialisers, InitTree, DeclarationTree, StatementTree, Labelled, Case, Default, Evaluate, Compound, If, IfElse, Switch, While, Do, For, Goto, Continue, Break, Return, StatementTrees, NoStatements, Statements, BlockTree, Block, ExternalTree, Function, Declares, Empty, UnitTree}
+use Rattle.c_ast.specs.Trees.{ExprTree, Name, Integer, Character, Text, Enclosed, Index, Call, Member, Postfix, Prefix, SizeofExpr, SizeofType, Cast, Binary, Conditional, Assign, Comma, ExprTrees, NoExprs, Exprs, MaybeExpr, NoExpr, AnExpr, TypeNameTree, TypeNamed, SpecifiersTree, Specified, SpecifierTree, Stored, Qualified, Basic, Record, RecordTag, Enum, EnumTag, NamedType, SpecifierTrees, NoSpecifiers, Specifiers, MemberTree, Members, MemberTrees, NoMembers, MoreMembers, FieldTree, Field, FieldTrees, NoFields, Fields, EnumeratorTree, Enumerator, EnumeratorTrees, NoEnumerators, Enumerators, DeclaratorTree, Declarator, MaybeDeclarator, NoDeclarator, ADeclarator, CoreTree, Named, Inner, Omitted, SuffixTree, ArraySuffix, Prototype, NameList, NoParameters, SuffixTrees, NoSuffixes, Suffixes, ParameterTree, Parameter, ParameterTrees, NoParameter, Parameters, InitialiserTree, ByExpr, Braced, InitialiserTrees, NoInitialisers, Initialisers, InitTree, DeclarationTree, StatementTree, Label, Case, Default, Expression, Compound, If, IfElse, Switch, While, Do, For, Goto, Continue, Break, Return, StatementTrees, NoStatements, Statements, BlockTree, Block, ExternalTree, Function, Declares, Empty, UnitTree}
 use Rattle.c_ast.specs.ExprMarks.{sign, texts_then, qualifiers_then, pointers_then, more_names_then, names_then, tag_then, end_then, dots_then, says_type, has_typedef, is_own, declared_name, maybe_name, put_then, closed_then, asked_then, expr, sequence, more_sequence, arguments, more_arguments, maybe_expr, expr_behind, type_name, specifiers, specifier_list, specifier, members, member, fields, more_fields, field, enumerators, more_enumerators, enumerator, maybe_declarator, declarator, core, suffixes, suffix, parameters, more_parameters, parameter}
 use Rattle.c_ast.specs.UnitMarks.{initialiser, initialisers, more_initialisers, maybe_initialiser, whole_declarator, init, more_inits, inits, declaration, declarations, statement, statements, block, function_body, maybe_specifiers, maybe_typedef, external, externals}
 use Rattle.c_ast.specs.TreeTexts.{behind_comma, behind_text, block_text, core_text, declaration_text, declarator_text, dots_text, end_text, enumerator_text, enumerators_text, expr_text, external_text, field_text, fields_text, init_text, initialiser_text, initialisers_text, listed, literal_text, maybe_declarator_text, maybe_expr_text, maybe_initialiser_text, maybe_specifiers_text, member_text, members_text, more_enumerators_text, more_fields_text, more_initialisers_text, more_parameters_text, more_sequence_text, name_text, parameter_text, parameters_text, pointer_text, qualifier_text, sequence_text, sign_text, specifier_list_text, specifier_text, specifiers_text, statement_text, statements_text, suffix_text, suffixes_text, tag_text, test_text, type_name_text, word_text}
@@ -69,23 +69,23 @@ spell_asked false answer r = refl
 
 mutual
   spell_expr : (e : ExprTree) (r : List Mark) → text (expr e r) ≡ expr_text e ++ text r
-  spell_expr (Variable l n) r = refl
-  spell_expr (IntegerConstant l v k) r = refl
-  spell_expr (CharacterConstant l v) r = refl
-  spell_expr (Literal l bs) r = spell_texts bs r
+  spell_expr (Name l n) r = refl
+  spell_expr (Integer l v k) r = refl
+  spell_expr (Character l v) r = refl
+  spell_expr (Text l bs) r = spell_texts bs r
   spell_expr (Enclosed l e) r = and_then _ (sign_text 3) _ (and_then (sign_text 2) _ _ refl (spell_expr e _)) refl
-  spell_expr (Subscript l a i) r = and_then _ (sign_text 1) _ (and_then _ _ _ (and_then _ (sign_text 0) _ (spell_expr a _) refl) (spell_expr i _)) refl
-  spell_expr (Called l f es) r = and_then _ (sign_text 3) _ (and_then _ _ _ (and_then _ (sign_text 2) _ (spell_expr f _) refl) (spell_arguments es r)) refl
-  spell_expr (Selected l op a n) r = and_then _ (name_text n) _ (and_then _ (sign_text (member_sign op)) _ (spell_expr a _) refl) refl
-  spell_expr (Stepped l op a) r = and_then _ (sign_text (postfix_sign op)) _ (spell_expr a _) refl
-  spell_expr (Prefixed l op a) r = and_then (sign_text (prefix_sign op)) _ _ refl (spell_expr a r)
-  spell_expr (SizedExpr l a) r = and_then (word_text 22) _ _ refl (spell_expr a r)
-  spell_expr (SizedType l t) r = and_then _ (sign_text 3) _ (and_then _ _ _ (and_then (word_text 22) (sign_text 2) _ refl refl) (spell_type_name t _)) refl
-  spell_expr (Converted l t a) r = and_then _ _ _ (and_then _ (sign_text 3) _ (and_then (sign_text 2) _ _ refl (spell_type_name t _)) refl) (spell_expr a r)
-  spell_expr (Combined l op a b) r = and_then _ _ _ (and_then _ (sign_text (binary_sign op)) _ (spell_expr a _) refl) (spell_expr b r)
-  spell_expr (Chosen l a b c) r = and_then _ _ _ (and_then _ (sign_text 31) _ (and_then _ _ _ (and_then _ (sign_text 30) _ (spell_expr a _) refl) (spell_expr b _)) refl) (spell_expr c r)
-  spell_expr (Assigned l op a b) r = and_then _ _ _ (and_then _ (sign_text (assign_sign op)) _ (spell_expr a _) refl) (spell_expr b r)
-  spell_expr (Sequence l es) r = spell_sequence es r
+  spell_expr (Index l a i) r = and_then _ (sign_text 1) _ (and_then _ _ _ (and_then _ (sign_text 0) _ (spell_expr a _) refl) (spell_expr i _)) refl
+  spell_expr (Call l f es) r = and_then _ (sign_text 3) _ (and_then _ _ _ (and_then _ (sign_text 2) _ (spell_expr f _) refl) (spell_arguments es r)) refl
+  spell_expr (Member l op a n) r = and_then _ (name_text n) _ (and_then _ (sign_text (member_sign op)) _ (spell_expr a _) refl) refl
+  spell_expr (Postfix l op a) r = and_then _ (sign_text (postfix_sign op)) _ (spell_expr a _) refl
+  spell_expr (Prefix l op a) r = and_then (sign_text (prefix_sign op)) _ _ refl (spell_expr a r)
+  spell_expr (SizeofExpr l a) r = and_then (word_text 22) _ _ refl (spell_expr a r)
+  spell_expr (SizeofType l t) r = and_then _ (sign_text 3) _ (and_then _ _ _ (and_then (word_text 22) (sign_text 2) _ refl refl) (spell_type_name t _)) refl
+  spell_expr (Cast l t a) r = and_then _ _ _ (and_then _ (sign_text 3) _ (and_then (sign_text 2) _ _ refl (spell_type_name t _)) refl) (spell_expr a r)
+  spell_expr (Binary l op a b) r = and_then _ _ _ (and_then _ (sign_text (binary_sign op)) _ (spell_expr a _) refl) (spell_expr b r)
+  spell_expr (Conditional l a b c) r = and_then _ _ _ (and_then _ (sign_text 31) _ (and_then _ _ _ (and_then _ (sign_text 30) _ (spell_expr a _) refl) (spell_expr b _)) refl) (spell_expr c r)
+  spell_expr (Assign l op a b) r = and_then _ _ _ (and_then _ (sign_text (assign_sign op)) _ (spell_expr a _) refl) (spell_expr b r)
+  spell_expr (Comma l es) r = spell_sequence es r
 
   spell_sequence : (es : ExprTrees) (r : List Mark) → text (sequence es r) ≡ sequence_text es ++ text r
   spell_sequence NoExprs r = refl
@@ -127,8 +127,8 @@ mutual
   spell_specifier (Basic l b) r = refl
   spell_specifier (Record l k tag ms) r = and_then _ (sign_text 5) _ (and_then _ _ _ (and_then _ (sign_text 4) _ (and_then (word_text (record_word k)) _ _ refl (spell_tag tag _)) refl) (spell_members ms r)) refl
   spell_specifier (RecordTag l k n) r = and_then (word_text (record_word k)) (name_text n) _ refl refl
-  spell_specifier (Enumeration l tag es comma) r = and_then _ _ _ (and_then _ _ _ (and_then _ (sign_text 4) _ (and_then (word_text 10) _ _ refl (spell_tag tag _)) refl) (spell_enumerators es comma r)) (spell_end comma r)
-  spell_specifier (EnumerationTag l n) r = and_then (word_text 10) (name_text n) _ refl refl
+  spell_specifier (Enum l tag es comma) r = and_then _ _ _ (and_then _ _ _ (and_then _ (sign_text 4) _ (and_then (word_text 10) _ _ refl (spell_tag tag _)) refl) (spell_enumerators es comma r)) (spell_end comma r)
+  spell_specifier (EnumTag l n) r = and_then (word_text 10) (name_text n) _ refl refl
   spell_specifier (NamedType l n) r = refl
 
   spell_members : (ms : MemberTrees) (r : List Mark) → text (members ms r) ≡ members_text ms ++ text (sign 5 r)
@@ -237,10 +237,10 @@ spell_test k e r = and_then _ (sign_text 3) _ (and_then _ _ _ (and_then (word_te
 
 mutual
   spell_statement : (s : StatementTree) (r : List Mark) → text (statement s r) ≡ statement_text s ++ text r
-  spell_statement (Labelled l n s) r = and_then _ _ _ (and_then (name_text n) (sign_text 31) _ refl refl) (spell_statement s r)
+  spell_statement (Label l n s) r = and_then _ _ _ (and_then (name_text n) (sign_text 31) _ refl refl) (spell_statement s r)
   spell_statement (Case l e s) r = and_then _ _ _ (and_then _ (sign_text 31) _ (and_then (word_text 2) _ _ refl (spell_expr e _)) refl) (spell_statement s r)
   spell_statement (Default l s) r = and_then _ _ _ (and_then (word_text 6) (sign_text 31) _ refl refl) (spell_statement s r)
-  spell_statement (Evaluate l e) r = and_then _ (sign_text 32) _ (spell_maybe e _) refl
+  spell_statement (Expression l e) r = and_then _ (sign_text 32) _ (spell_maybe e _) refl
   spell_statement (Compound l b) r = spell_block b r
   spell_statement (If l e s) r = and_then _ _ _ (spell_test 15 e _) (spell_statement s _)
   spell_statement (IfElse l e s t) r = and_then _ _ _ (and_then _ (word_text 9) _ (and_then _ _ _ (spell_test 15 e _) (spell_statement s _)) refl) (spell_statement t r)

@@ -8,7 +8,8 @@ use Rattle.c_ast.specs.declared.specifier.BasicType.TheVariants as basic
 use Rattle.c_ast.specs.Lexemes.{Lexeme, Name, Keyword, Integer, Sign}
 use Rattle.c_ast.specs.InForce.{InForce, is_typedef, put, opened, closed, closed_kept, reopened, forgotten}
 use Rattle.c_ast.specs.Marks.{Mark, Tok, Plain, Typed, Here, Ask, Put, Open, Close, Keep, Reopen, Forget, holds, tokens_of}
-use Rattle.c_ast.specs.Trees.{ExprTree, Variable, IntegerConstant, Enclosed, Prefixed, SizedExpr, SizedType, Converted, Combined, AnExpr, TypeNameTree, TypeNamed, SpecifiersTree, Specified, SpecifierTree, Stored, Basic, NamedType, Enumeration, NoSpecifiers, Specifiers, NoEnumerators, Enumerators, Enumerator, DeclaratorTree, Declarator, NoDeclarator, ADeclarator, Named, Inner, Omitted, SuffixTree, Prototype, NameList, NoSuffixes, Suffixes, Parameter, NoParameter, Parameters, DeclarationTree, StatementTree, Labelled, Evaluate, If, IfElse, Return, NoStatements, Statements, Block, ExternalTree, Function, Declares, UnitTree}
+use Rattle.c_ast.specs.Trees.{ExprTree, Enclosed, Prefix, SizeofExpr, SizeofType, Cast, Binary, AnExpr, TypeNameTree, TypeNamed, SpecifiersTree, Specified, SpecifierTree, Stored, Basic, NamedType, Enum, NoSpecifiers, Specifiers, NoEnumerators, Enumerators, Enumerator, DeclaratorTree, Declarator, NoDeclarator, ADeclarator, Named, Inner, Omitted, SuffixTree, Prototype, NameList, NoSuffixes, Suffixes, Parameter, NoParameter, Parameters, DeclarationTree, StatementTree, Label, Expression, If, IfElse, Return, NoStatements, Statements, Block, ExternalTree, Function, Declares, UnitTree}
+use Rattle.c_ast.specs.Trees as tree
 use Rattle.c_ast.specs.Signs.{open_parenthesis, close_parenthesis, open_brace, close_brace, minus_sign, semicolon}
 use Rattle.c_ast.specs.Keywords.{int_word, return_word, typedef_word}
 
@@ -78,7 +79,7 @@ abbrev of : List ExternalTree → UnitTree
 of xs = record { line = 1; externals = xs }
 
 abbrev number : ExprTree
-number = IntegerConstant 1 1 IntType
+number = tree.Integer 1 1 IntType
 
 abbrev typed : TypeNameTree
 typed = TypeNamed 1 (one (NamedType 1 t_name)) NoDeclarator
@@ -87,14 +88,14 @@ abbrev gives : ExprTree → StatementTree
 gives e = Return 1 (AnExpr e)
 
 abbrev does : ExprTree → StatementTree
-does e = Evaluate 1 (AnExpr e)
+does e = Expression 1 (AnExpr e)
 
 -- (T) - 1
 abbrev difference : ExprTree
-difference = Combined 1 binary.Subtract (Enclosed 1 (Variable 1 t_name)) number
+difference = Binary 1 binary.Subtract (Enclosed 1 (tree.Name 1 t_name)) number
 
 abbrev cast : ExprTree
-cast = Converted 1 typed (Prefixed 1 prefix.Minus number)
+cast = Cast 1 typed (Prefix 1 prefix.Minus number)
 
 -- ---- a hidden typedef name, and one in force
 
@@ -149,18 +150,18 @@ own_parameters_wrong = of (type_t ∷ (returns_pointer inner_function difference
 
 -- typedef int T; int f(x) int x; { T: return 1; }    a typedef name as a label; old-style parameters
 abbrev pub label : UnitTree
-label = of (type_t ∷ function (NameList 1 (x_name ∷ [])) (declared int (plain x_name) ∷ []) (Labelled 1 t_name (gives number)) ∷ [])
+label = of (type_t ∷ function (NameList 1 (x_name ∷ [])) (declared int (plain x_name) ∷ []) (Label 1 t_name (gives number)) ∷ [])
 
 -- int f(void) { return sizeof(T) - 1; } behind typedef int T;
 abbrev pub size_of_type : UnitTree
-size_of_type = of (type_t ∷ function no_parameters [] (gives (Combined 1 binary.Subtract (SizedType 1 typed) number)) ∷ [])
+size_of_type = of (type_t ∷ function no_parameters [] (gives (Binary 1 binary.Subtract (SizeofType 1 typed) number)) ∷ [])
 
 abbrev pub size_of_cast : UnitTree
-size_of_cast = of (type_t ∷ function no_parameters [] (gives (SizedExpr 1 cast)) ∷ [])
+size_of_cast = of (type_t ∷ function no_parameters [] (gives (SizeofExpr 1 cast)) ∷ [])
 
 -- enum { T = sizeof(T) } x;    an enumerator is in force from its own end
 abbrev pub enumerator_later : UnitTree
-enumerator_later = of (type_t ∷ Declares 1 (declared (one (Enumeration 1 None (Enumerators (Enumerator 1 t_name (AnExpr (SizedType 1 typed))) NoEnumerators) true)) (plain x_name)) ∷ [])
+enumerator_later = of (type_t ∷ Declares 1 (declared (one (Enum 1 None (Enumerators (Enumerator 1 t_name (AnExpr (SizeofType 1 typed))) NoEnumerators) true)) (plain x_name)) ∷ [])
 
 -- ---- an else goes with the nearest if
 

@@ -7,7 +7,8 @@ use Rattle.c_ast.specs.declared.specifier.Qualifier.{Qualifier}
 use Rattle.c_ast.specs.Lexemes.{Name, Keyword, Integer, Character, Text, Sign}
 use Rattle.c_ast.specs.Operators.{binary_sign, assign_sign, prefix_sign, postfix_sign, member_sign, storage_word, qualifier_word, basic_word, record_word}
 use Rattle.c_ast.specs.Marks.{Mark, Tok, Plain, Typed, Here, Ask, Put, Open, Close, Keep, IsSpecifier, IsSized, IsDeclarator, IsCore, IsSuffix, IsQualifier, IsText, IsSign}
-use Rattle.c_ast.specs.Trees.{ExprTree, Variable, IntegerConstant, CharacterConstant, Literal, Enclosed, Subscript, Called, Selected, Stepped, Prefixed, SizedExpr, SizedType, Converted, Combined, Chosen, Assigned, Sequence, ExprTrees, NoExprs, Exprs, MaybeExpr, NoExpr, AnExpr, TypeNameTree, TypeNamed, SpecifiersTree, Specified, SpecifierTree, Stored, Qualified, Basic, Record, RecordTag, Enumeration, EnumerationTag, NamedType, SpecifierTrees, NoSpecifiers, Specifiers, MemberTree, Members, MemberTrees, NoMembers, MoreMembers, FieldTree, Field, FieldTrees, NoFields, Fields, EnumeratorTree, Enumerator, EnumeratorTrees, NoEnumerators, Enumerators, DeclaratorTree, Declarator, MaybeDeclarator, NoDeclarator, ADeclarator, CoreTree, Named, Inner, Omitted, SuffixTree, ArraySuffix, Prototype, NameList, NoParameters, SuffixTrees, NoSuffixes, Suffixes, ParameterTree, Parameter, ParameterTrees, NoParameter, Parameters}
+use Rattle.c_ast.specs.Trees.{ExprTree, Enclosed, Index, Call, Member, Postfix, Prefix, SizeofExpr, SizeofType, Cast, Binary, Conditional, Assign, Comma, ExprTrees, NoExprs, Exprs, MaybeExpr, NoExpr, AnExpr, TypeNameTree, TypeNamed, SpecifiersTree, Specified, SpecifierTree, Stored, Qualified, Basic, Record, RecordTag, Enum, EnumTag, NamedType, SpecifierTrees, NoSpecifiers, Specifiers, MemberTree, Members, MemberTrees, NoMembers, MoreMembers, FieldTree, Field, FieldTrees, NoFields, Fields, EnumeratorTree, Enumerator, EnumeratorTrees, NoEnumerators, Enumerators, DeclaratorTree, Declarator, MaybeDeclarator, NoDeclarator, ADeclarator, CoreTree, Named, Inner, Omitted, SuffixTree, ArraySuffix, Prototype, NameList, NoParameters, SuffixTrees, NoSuffixes, Suffixes, ParameterTree, Parameter, ParameterTrees, NoParameter, Parameters}
+use Rattle.c_ast.specs.Trees as tree
 use Rattle.c_ast.specs.Signs.{open_bracket, close_bracket, open_parenthesis, close_parenthesis, open_brace, close_brace, star_sign, question_mark, colon_sign, semicolon, ellipsis, equals_sign, comma_sign}
 use Rattle.c_ast.specs.Keywords.{enum_word, sizeof_word}
 
@@ -60,8 +61,8 @@ says_type (Qualified l q) = false
 says_type (Basic l b) = true
 says_type (Record l k t ms) = true
 says_type (RecordTag l k t) = true
-says_type (Enumeration l t es c) = true
-says_type (EnumerationTag l t) = true
+says_type (Enum l t es c) = true
+says_type (EnumTag l t) = true
 says_type (NamedType l n) = true
 
 abbrev pub is_typedef_storage : Storage → Bool
@@ -77,8 +78,8 @@ makes_typedef (Qualified l q) = false
 makes_typedef (Basic l b) = false
 makes_typedef (Record l k t ms) = false
 makes_typedef (RecordTag l k t) = false
-makes_typedef (Enumeration l t es c) = false
-makes_typedef (EnumerationTag l t) = false
+makes_typedef (Enum l t es c) = false
+makes_typedef (EnumTag l t) = false
 makes_typedef (NamedType l n) = false
 
 abbrev pub any_typedef : SpecifierTrees → Bool
@@ -141,23 +142,23 @@ asked_then false answer r = r
 
 abbrev mutual
   pub expr : ExprTree → List Mark → List Mark
-  expr (Variable l n) r = Here l ∷ Plain n ∷ r
-  expr (IntegerConstant l v k) r = Here l ∷ Tok (Integer v k) ∷ r
-  expr (CharacterConstant l v) r = Here l ∷ Tok (Character v) ∷ r
-  expr (Literal l bs) r = Here l ∷ texts_then bs r
+  expr (tree.Name l n) r = Here l ∷ Plain n ∷ r
+  expr (tree.Integer l v k) r = Here l ∷ Tok (Integer v k) ∷ r
+  expr (tree.Character l v) r = Here l ∷ Tok (Character v) ∷ r
+  expr (tree.Text l bs) r = Here l ∷ texts_then bs r
   expr (Enclosed l e) r = Here l ∷ Tok (Sign open_parenthesis) ∷ expr e (Tok (Sign close_parenthesis) ∷ r)
-  expr (Subscript l a i) r = Here l ∷ expr a (Tok (Sign open_bracket) ∷ expr i (Tok (Sign close_bracket) ∷ r))
-  expr (Called l f es) r = Here l ∷ expr f (Tok (Sign open_parenthesis) ∷ arguments es r)
-  expr (Selected l op a n) r = Here l ∷ expr a (Tok (Sign (member_sign op)) ∷ Tok (Name n) ∷ r)
-  expr (Stepped l op a) r = Here l ∷ expr a (Tok (Sign (postfix_sign op)) ∷ r)
-  expr (Prefixed l op a) r = Here l ∷ Tok (Sign (prefix_sign op)) ∷ expr a r
-  expr (SizedExpr l a) r = Here l ∷ Tok (Keyword sizeof_word) ∷ Ask IsSized false ∷ expr a r
-  expr (SizedType l t) r = Here l ∷ Tok (Keyword sizeof_word) ∷ Ask IsSized true ∷ Tok (Sign open_parenthesis) ∷ type_name t (Tok (Sign close_parenthesis) ∷ r)
-  expr (Converted l t a) r = Here l ∷ Tok (Sign open_parenthesis) ∷ type_name t (Tok (Sign close_parenthesis) ∷ expr a r)
-  expr (Combined l op a b) r = Here l ∷ expr a (Tok (Sign (binary_sign op)) ∷ expr b r)
-  expr (Chosen l a b c) r = Here l ∷ expr a (Tok (Sign question_mark) ∷ expr b (Tok (Sign colon_sign) ∷ expr c r))
-  expr (Assigned l op a b) r = Here l ∷ expr a (Tok (Sign (assign_sign op)) ∷ expr b r)
-  expr (Sequence l es) r = Here l ∷ sequence es r
+  expr (Index l a i) r = Here l ∷ expr a (Tok (Sign open_bracket) ∷ expr i (Tok (Sign close_bracket) ∷ r))
+  expr (Call l f es) r = Here l ∷ expr f (Tok (Sign open_parenthesis) ∷ arguments es r)
+  expr (Member l op a n) r = Here l ∷ expr a (Tok (Sign (member_sign op)) ∷ Tok (Name n) ∷ r)
+  expr (Postfix l op a) r = Here l ∷ expr a (Tok (Sign (postfix_sign op)) ∷ r)
+  expr (Prefix l op a) r = Here l ∷ Tok (Sign (prefix_sign op)) ∷ expr a r
+  expr (SizeofExpr l a) r = Here l ∷ Tok (Keyword sizeof_word) ∷ Ask IsSized false ∷ expr a r
+  expr (SizeofType l t) r = Here l ∷ Tok (Keyword sizeof_word) ∷ Ask IsSized true ∷ Tok (Sign open_parenthesis) ∷ type_name t (Tok (Sign close_parenthesis) ∷ r)
+  expr (Cast l t a) r = Here l ∷ Tok (Sign open_parenthesis) ∷ type_name t (Tok (Sign close_parenthesis) ∷ expr a r)
+  expr (Binary l op a b) r = Here l ∷ expr a (Tok (Sign (binary_sign op)) ∷ expr b r)
+  expr (Conditional l a b c) r = Here l ∷ expr a (Tok (Sign question_mark) ∷ expr b (Tok (Sign colon_sign) ∷ expr c r))
+  expr (Assign l op a b) r = Here l ∷ expr a (Tok (Sign (assign_sign op)) ∷ expr b r)
+  expr (Comma l es) r = Here l ∷ sequence es r
 
   -- expressions between commas
   pub sequence : ExprTrees → List Mark → List Mark
@@ -204,8 +205,8 @@ abbrev mutual
   specifier (Basic l b) r = Here l ∷ Tok (Keyword (basic_word b)) ∷ r
   specifier (Record l k tag ms) r = Here l ∷ Tok (Keyword (record_word k)) ∷ tag_then tag (Tok (Sign open_brace) ∷ members ms r)
   specifier (RecordTag l k n) r = Here l ∷ Tok (Keyword (record_word k)) ∷ Tok (Name n) ∷ Ask (IsSign open_brace) false ∷ r
-  specifier (Enumeration l tag es comma) r = Here l ∷ Tok (Keyword enum_word) ∷ tag_then tag (Tok (Sign open_brace) ∷ enumerators es comma r)
-  specifier (EnumerationTag l n) r = Here l ∷ Tok (Keyword enum_word) ∷ Tok (Name n) ∷ Ask (IsSign open_brace) false ∷ r
+  specifier (Enum l tag es comma) r = Here l ∷ Tok (Keyword enum_word) ∷ tag_then tag (Tok (Sign open_brace) ∷ enumerators es comma r)
+  specifier (EnumTag l n) r = Here l ∷ Tok (Keyword enum_word) ∷ Tok (Name n) ∷ Ask (IsSign open_brace) false ∷ r
   specifier (NamedType l n) r = Here l ∷ Typed n ∷ r
 
   pub members : MemberTrees → List Mark → List Mark

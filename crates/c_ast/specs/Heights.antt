@@ -2,27 +2,27 @@
 -- an initialiser, a statement (a block too) and an expression count 1 each; all else counts nothing.
 -- Source: the limit on a unit's height is this profile's own.
 use Rattle.std.specs.Prelude.{◌+◌, ℕ, max, Option, Some, None, List, [], ◌∷◌}
-use Rattle.c_ast.specs.Trees.{ExprTree, Variable, IntegerConstant, CharacterConstant, Literal, Enclosed, Subscript, Called, Selected, Stepped, Prefixed, SizedExpr, SizedType, Converted, Combined, Chosen, Assigned, Sequence, ExprTrees, NoExprs, Exprs, MaybeExpr, NoExpr, AnExpr, TypeNameTree, TypeNamed, SpecifiersTree, Specified, SpecifierTree, Stored, Qualified, Basic, Record, RecordTag, Enumeration, EnumerationTag, NamedType, SpecifierTrees, NoSpecifiers, Specifiers, MemberTree, Members, MemberTrees, NoMembers, MoreMembers, FieldTree, Field, FieldTrees, NoFields, Fields, EnumeratorTree, Enumerator, EnumeratorTrees, NoEnumerators, Enumerators, DeclaratorTree, Declarator, MaybeDeclarator, NoDeclarator, ADeclarator, CoreTree, Named, Inner, Omitted, SuffixTree, ArraySuffix, Prototype, NameList, NoParameters, SuffixTrees, NoSuffixes, Suffixes, ParameterTree, Parameter, ParameterTrees, NoParameter, Parameters, InitialiserTree, ByExpr, Braced, InitialiserTrees, NoInitialisers, Initialisers, InitTree, DeclarationTree, StatementTree, Labelled, Case, Default, Evaluate, Compound, If, IfElse, Switch, While, Do, For, Goto, Continue, Break, Return, StatementTrees, NoStatements, Statements, BlockTree, Block, ExternalTree, Function, Declares, Empty, UnitTree}
+use Rattle.c_ast.specs.Trees.{ExprTree, Name, Integer, Character, Text, Enclosed, Index, Call, Member, Postfix, Prefix, SizeofExpr, SizeofType, Cast, Binary, Conditional, Assign, Comma, ExprTrees, NoExprs, Exprs, MaybeExpr, NoExpr, AnExpr, TypeNameTree, TypeNamed, SpecifiersTree, Specified, SpecifierTree, Stored, Qualified, Basic, Record, RecordTag, Enum, EnumTag, NamedType, SpecifierTrees, NoSpecifiers, Specifiers, MemberTree, Members, MemberTrees, NoMembers, MoreMembers, FieldTree, Field, FieldTrees, NoFields, Fields, EnumeratorTree, Enumerator, EnumeratorTrees, NoEnumerators, Enumerators, DeclaratorTree, Declarator, MaybeDeclarator, NoDeclarator, ADeclarator, CoreTree, Named, Inner, Omitted, SuffixTree, ArraySuffix, Prototype, NameList, NoParameters, SuffixTrees, NoSuffixes, Suffixes, ParameterTree, Parameter, ParameterTrees, NoParameter, Parameters, InitialiserTree, ByExpr, Braced, InitialiserTrees, NoInitialisers, Initialisers, InitTree, DeclarationTree, StatementTree, Label, Case, Default, Expression, Compound, If, IfElse, Switch, While, Do, For, Goto, Continue, Break, Return, StatementTrees, NoStatements, Statements, BlockTree, Block, ExternalTree, Function, Declares, Empty, UnitTree}
 
 abbrev mutual
   pub height : ExprTree → ℕ
-  height (Variable l n) = 1
-  height (IntegerConstant l v k) = 1
-  height (CharacterConstant l v) = 1
-  height (Literal l bs) = 1
+  height (Name l n) = 1
+  height (Integer l v k) = 1
+  height (Character l v) = 1
+  height (Text l bs) = 1
   height (Enclosed l e) = height e + 1
-  height (Subscript l a i) = max (height a) (height i) + 1
-  height (Called l f es) = max (height f) (tallest es) + 1
-  height (Selected l op a n) = height a + 1
-  height (Stepped l op a) = height a + 1
-  height (Prefixed l op a) = height a + 1
-  height (SizedExpr l a) = height a + 1
-  height (SizedType l t) = type_name_height t + 1
-  height (Converted l t a) = max (type_name_height t) (height a) + 1
-  height (Combined l op a b) = max (height a) (height b) + 1
-  height (Chosen l a b c) = max (max (height a) (height b)) (height c) + 1
-  height (Assigned l op a b) = max (height a) (height b) + 1
-  height (Sequence l es) = tallest es + 1
+  height (Index l a i) = max (height a) (height i) + 1
+  height (Call l f es) = max (height f) (tallest es) + 1
+  height (Member l op a n) = height a + 1
+  height (Postfix l op a) = height a + 1
+  height (Prefix l op a) = height a + 1
+  height (SizeofExpr l a) = height a + 1
+  height (SizeofType l t) = type_name_height t + 1
+  height (Cast l t a) = max (type_name_height t) (height a) + 1
+  height (Binary l op a b) = max (height a) (height b) + 1
+  height (Conditional l a b c) = max (max (height a) (height b)) (height c) + 1
+  height (Assign l op a b) = max (height a) (height b) + 1
+  height (Comma l es) = tallest es + 1
 
   pub tallest : ExprTrees → ℕ
   tallest NoExprs = 0
@@ -48,8 +48,8 @@ abbrev mutual
   specifier_height (Basic l b) = 0
   specifier_height (Record l k tag ms) = members_height ms
   specifier_height (RecordTag l k n) = 0
-  specifier_height (Enumeration l tag es comma) = enumerators_height es
-  specifier_height (EnumerationTag l n) = 0
+  specifier_height (Enum l tag es comma) = enumerators_height es
+  specifier_height (EnumTag l n) = 0
   specifier_height (NamedType l n) = 0
 
   pub members_height : MemberTrees → ℕ
@@ -131,10 +131,10 @@ declarations_height (d ∷ ds) = max (declaration_height d) (declarations_height
 
 abbrev mutual
   pub statement_height : StatementTree → ℕ
-  statement_height (Labelled l n s) = statement_height s + 1
+  statement_height (Label l n s) = statement_height s + 1
   statement_height (Case l e s) = max (height e) (statement_height s) + 1
   statement_height (Default l s) = statement_height s + 1
-  statement_height (Evaluate l e) = maybe_height e + 1
+  statement_height (Expression l e) = maybe_height e + 1
   statement_height (Compound l b) = block_height b
   statement_height (If l e s) = max (height e) (statement_height s) + 1
   statement_height (IfElse l e s t) = max (max (height e) (statement_height s)) (statement_height t) + 1

@@ -4,27 +4,27 @@
 use Rattle.std.specs.Prelude.{◌≡◌, ◌≤◌, ◌+◌, ℕ, Bool, true, false, not, ◌&&◌, ◌||◌, Option, Some, None, List, [], ◌∷◌}
 use Rattle.c_ast.specs.Operators.{level_of, operand_level}
 use Rattle.c_ast.specs.ExprMarks.{no_pointers, no_suffixes}
-use Rattle.c_ast.specs.Trees.{ExprTree, Variable, IntegerConstant, CharacterConstant, Literal, Enclosed, Subscript, Called, Selected, Stepped, Prefixed, SizedExpr, SizedType, Converted, Combined, Chosen, Assigned, Sequence, ExprTrees, NoExprs, Exprs, MaybeExpr, NoExpr, AnExpr, TypeNameTree, TypeNamed, SpecifiersTree, Specified, SpecifierTree, Stored, Qualified, Basic, Record, RecordTag, Enumeration, EnumerationTag, NamedType, SpecifierTrees, NoSpecifiers, Specifiers, MemberTree, Members, MemberTrees, NoMembers, MoreMembers, FieldTree, Field, FieldTrees, NoFields, Fields, EnumeratorTree, Enumerator, EnumeratorTrees, NoEnumerators, Enumerators, DeclaratorTree, Declarator, MaybeDeclarator, NoDeclarator, ADeclarator, CoreTree, Named, Inner, Omitted, SuffixTree, ArraySuffix, Prototype, NameList, NoParameters, SuffixTrees, NoSuffixes, Suffixes, ParameterTree, Parameter, ParameterTrees, NoParameter, Parameters, InitialiserTree, ByExpr, Braced, InitialiserTrees, NoInitialisers, Initialisers, InitTree, DeclarationTree, StatementTree, Labelled, Case, Default, Evaluate, Compound, If, IfElse, Switch, While, Do, For, Goto, Continue, Break, Return, StatementTrees, NoStatements, Statements, BlockTree, Block, ExternalTree, Function, Declares, Empty, UnitTree}
+use Rattle.c_ast.specs.Trees.{ExprTree, Name, Integer, Character, Text, Enclosed, Index, Call, Member, Postfix, Prefix, SizeofExpr, SizeofType, Cast, Binary, Conditional, Assign, Comma, ExprTrees, NoExprs, Exprs, MaybeExpr, NoExpr, AnExpr, TypeNameTree, TypeNamed, SpecifiersTree, Specified, SpecifierTree, Stored, Qualified, Basic, Record, RecordTag, Enum, EnumTag, NamedType, SpecifierTrees, NoSpecifiers, Specifiers, MemberTree, Members, MemberTrees, NoMembers, MoreMembers, FieldTree, Field, FieldTrees, NoFields, Fields, EnumeratorTree, Enumerator, EnumeratorTrees, NoEnumerators, Enumerators, DeclaratorTree, Declarator, MaybeDeclarator, NoDeclarator, ADeclarator, CoreTree, Named, Inner, Omitted, SuffixTree, ArraySuffix, Prototype, NameList, NoParameters, SuffixTrees, NoSuffixes, Suffixes, ParameterTree, Parameter, ParameterTrees, NoParameter, Parameters, InitialiserTree, ByExpr, Braced, InitialiserTrees, NoInitialisers, Initialisers, InitTree, DeclarationTree, StatementTree, Label, Case, Default, Expression, Compound, If, IfElse, Switch, While, Do, For, Goto, Continue, Break, Return, StatementTrees, NoStatements, Statements, BlockTree, Block, ExternalTree, Function, Declares, Empty, UnitTree}
 
 -- the level of an expression: 0 expr, 1 assign, 2 cond, 3 to 12 binary, 13 cast, 14 unary, 15 postfix and primary
 abbrev pub rank : ExprTree → ℕ
-rank (Variable l n) = 15
-rank (IntegerConstant l v k) = 15
-rank (CharacterConstant l v) = 15
-rank (Literal l bs) = 15
+rank (Name l n) = 15
+rank (Integer l v k) = 15
+rank (Character l v) = 15
+rank (Text l bs) = 15
 rank (Enclosed l e) = 15
-rank (Subscript l a i) = 15
-rank (Called l f es) = 15
-rank (Selected l op a n) = 15
-rank (Stepped l op a) = 15
-rank (Prefixed l op a) = 14
-rank (SizedExpr l a) = 14
-rank (SizedType l t) = 14
-rank (Converted l t a) = 13
-rank (Combined l op a b) = level_of op
-rank (Chosen l a b c) = 2
-rank (Assigned l op a b) = 1
-rank (Sequence l es) = 0
+rank (Index l a i) = 15
+rank (Call l f es) = 15
+rank (Member l op a n) = 15
+rank (Postfix l op a) = 15
+rank (Prefix l op a) = 14
+rank (SizeofExpr l a) = 14
+rank (SizeofType l t) = 14
+rank (Cast l t a) = 13
+rank (Binary l op a b) = level_of op
+rank (Conditional l a b c) = 2
+rank (Assign l op a b) = 1
+rank (Comma l es) = 0
 
 -- ---- lists with something in them
 
@@ -97,23 +97,23 @@ abbrev mutual
 
 abbrev mutual
   pub Parts : ExprTree → Type 0
-  Parts (Variable l n) = Unit {0}
-  Parts (IntegerConstant l v k) = Unit {0}
-  Parts (CharacterConstant l v) = Unit {0}
-  Parts (Literal l bs) = IsSome bs
+  Parts (Name l n) = Unit {0}
+  Parts (Integer l v k) = Unit {0}
+  Parts (Character l v) = Unit {0}
+  Parts (Text l bs) = IsSome bs
   Parts (Enclosed l e) = Parts e
-  Parts (Subscript l a i) = (15 ≤ rank a) × Parts a × Parts i
-  Parts (Called l f es) = (15 ≤ rank f) × Parts f × AllAssign es
-  Parts (Selected l op a n) = (15 ≤ rank a) × Parts a
-  Parts (Stepped l op a) = (15 ≤ rank a) × Parts a
-  Parts (Prefixed l op a) = (operand_level op ≤ rank a) × Parts a
-  Parts (SizedExpr l a) = (14 ≤ rank a) × Parts a
-  Parts (SizedType l t) = FitsTypeName t
-  Parts (Converted l t a) = FitsTypeName t × (13 ≤ rank a) × Parts a
-  Parts (Combined l op a b) = (level_of op ≤ rank a) × Parts a × (level_of op + 1 ≤ rank b) × Parts b
-  Parts (Chosen l a b c) = (3 ≤ rank a) × Parts a × Parts b × (2 ≤ rank c) × Parts c
-  Parts (Assigned l op a b) = (14 ≤ rank a) × Parts a × (1 ≤ rank b) × Parts b
-  Parts (Sequence l es) = TwoExprs es × AllAssign es
+  Parts (Index l a i) = (15 ≤ rank a) × Parts a × Parts i
+  Parts (Call l f es) = (15 ≤ rank f) × Parts f × AllAssign es
+  Parts (Member l op a n) = (15 ≤ rank a) × Parts a
+  Parts (Postfix l op a) = (15 ≤ rank a) × Parts a
+  Parts (Prefix l op a) = (operand_level op ≤ rank a) × Parts a
+  Parts (SizeofExpr l a) = (14 ≤ rank a) × Parts a
+  Parts (SizeofType l t) = FitsTypeName t
+  Parts (Cast l t a) = FitsTypeName t × (13 ≤ rank a) × Parts a
+  Parts (Binary l op a b) = (level_of op ≤ rank a) × Parts a × (level_of op + 1 ≤ rank b) × Parts b
+  Parts (Conditional l a b c) = (3 ≤ rank a) × Parts a × Parts b × (2 ≤ rank c) × Parts c
+  Parts (Assign l op a b) = (14 ≤ rank a) × Parts a × (1 ≤ rank b) × Parts b
+  Parts (Comma l es) = TwoExprs es × AllAssign es
 
   pub AllAssign : ExprTrees → Type 0
   AllAssign NoExprs = Unit {0}
@@ -140,8 +140,8 @@ abbrev mutual
   FitsSpecifier (Basic l b) = Unit {0}
   FitsSpecifier (Record l k tag ms) = OneMember ms × FitsMembers ms
   FitsSpecifier (RecordTag l k n) = Unit {0}
-  FitsSpecifier (Enumeration l tag es comma) = OneEnumerator es × FitsEnumerators es
-  FitsSpecifier (EnumerationTag l n) = Unit {0}
+  FitsSpecifier (Enum l tag es comma) = OneEnumerator es × FitsEnumerators es
+  FitsSpecifier (EnumTag l n) = Unit {0}
   FitsSpecifier (NamedType l n) = Unit {0}
 
   pub FitsMembers : MemberTrees → Type 0
@@ -236,10 +236,10 @@ FitsDeclarations (d ∷ ds) = FitsDeclaration d × FitsDeclarations ds
 
 abbrev mutual
   pub FitsStatement : StatementTree → Type 0
-  FitsStatement (Labelled l n s) = FitsStatement s
+  FitsStatement (Label l n s) = FitsStatement s
   FitsStatement (Case l e s) = (2 ≤ rank e) × Parts e × FitsStatement s
   FitsStatement (Default l s) = FitsStatement s
-  FitsStatement (Evaluate l e) = FitsMaybe e 0
+  FitsStatement (Expression l e) = FitsMaybe e 0
   FitsStatement (Compound l b) = FitsBlock b
   FitsStatement (If l e s) = Parts e × FitsStatement s
   FitsStatement (IfElse l e s t) = Parts e × FitsStatement s × FitsStatement t

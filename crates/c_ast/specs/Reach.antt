@@ -11,7 +11,8 @@ use Rattle.c_ast.specs.declared.operator.MemberOperator.{MemberOperator}
 use Rattle.c_ast.specs.declared.operator.MemberOperator.TheVariants as member
 use Rattle.c_ast.specs.Lexemes.{Lexeme, Name, Keyword, Integer, Character, Text, Sign}
 use Rattle.c_ast.specs.Operators.{level_of, operand_level, binary_sign, assign_sign, postfix_sign, member_sign, assignment_level, conditional_level, cast_level, unary_level, postfix_level}
-use Rattle.c_ast.specs.Trees.{ExprTree, Variable, IntegerConstant, CharacterConstant, Literal, Enclosed, Subscript, Called, Selected, Stepped, Prefixed, SizedExpr, SizedType, Converted, Combined, Chosen, Assigned, Sequence, ExprTrees, NoExprs, Exprs}
+use Rattle.c_ast.specs.Trees.{ExprTree, Enclosed, Member, Postfix, Prefix, SizeofExpr, SizeofType, Cast, Binary, Conditional, Comma, ExprTrees, NoExprs, Exprs}
+use Rattle.c_ast.specs.Trees as tree
 use Rattle.c_ast.specs.Levels.{rank}
 use Rattle.c_ast.specs.Marks.{Mark, next, is_sign}
 use Rattle.c_ast.specs.Signs.{open_bracket, open_parenthesis, dot_sign, arrow_sign, increment_sign, decrement_sign, ampersand, star_sign, plus_sign, minus_sign, slash, percent_sign, shift_left_sign, shift_right_sign, less_sign, greater_sign, less_equal_sign, greater_equal_sign, equal_sign, not_equal_sign, caret, bar, and_sign, or_sign, question_mark, equals_sign, star_equals, slash_equals, percent_equals, plus_equals, minus_equals, shift_left_equals, shift_right_equals, ampersand_equals, caret_equals, bar_equals, comma_sign}
@@ -113,23 +114,23 @@ extends level rank l = links level rank (link_of l)
 abbrev mutual
   -- the token goes on from the last part of the expression
   pub behind : ExprTree → Lexeme → Bool
-  behind (Variable l n) t = false
-  behind (IntegerConstant l v k) t = false
-  behind (CharacterConstant l v) t = false
-  behind (Literal l bs) t = false
+  behind (tree.Name l n) t = false
+  behind (tree.Integer l v k) t = false
+  behind (tree.Character l v) t = false
+  behind (tree.Text l bs) t = false
   behind (Enclosed l e) t = false
-  behind (Subscript l a i) t = false
-  behind (Called l f es) t = false
-  behind (Selected l op a n) t = false
-  behind (Stepped l op a) t = false
-  behind (Prefixed l op a) t = extends (operand_level op) (rank a) t || behind a t
-  behind (SizedExpr l a) t = extends unary_level (rank a) t || behind a t
-  behind (SizedType l n) t = false
-  behind (Converted l n a) t = extends cast_level (rank a) t || behind a t
-  behind (Combined l op a b) t = extends (level_of op + 1) (rank b) t || behind b t
-  behind (Chosen l a b c) t = extends conditional_level (rank c) t || behind c t
-  behind (Assigned l op a b) t = extends assignment_level (rank b) t || behind b t
-  behind (Sequence l es) t = behind_last es t false
+  behind (tree.Index l a i) t = false
+  behind (tree.Call l f es) t = false
+  behind (Member l op a n) t = false
+  behind (Postfix l op a) t = false
+  behind (Prefix l op a) t = extends (operand_level op) (rank a) t || behind a t
+  behind (SizeofExpr l a) t = extends unary_level (rank a) t || behind a t
+  behind (SizeofType l n) t = false
+  behind (Cast l n a) t = extends cast_level (rank a) t || behind a t
+  behind (Binary l op a b) t = extends (level_of op + 1) (rank b) t || behind b t
+  behind (Conditional l a b c) t = extends conditional_level (rank c) t || behind c t
+  behind (tree.Assign l op a b) t = extends assignment_level (rank b) t || behind b t
+  behind (Comma l es) t = behind_last es t false
 
   -- the last one's, where there is one
   pub behind_last : ExprTrees → Lexeme → Bool → Bool

@@ -5,7 +5,8 @@ use Rattle.c_ast.specs.declared.specifier.Qualifier.{Qualifier}
 use Rattle.c_ast.specs.Lexemes.{Name, Keyword, Integer, Character, Text, Sign}
 use Rattle.c_ast.specs.Operators.{binary_sign, assign_sign, prefix_sign, postfix_sign, member_sign, storage_word, qualifier_word, basic_word, record_word}
 use Rattle.c_ast.specs.Printed.{token_text}
-use Rattle.c_ast.specs.Trees.{ExprTree, Variable, IntegerConstant, CharacterConstant, Literal, Enclosed, Subscript, Called, Selected, Stepped, Prefixed, SizedExpr, SizedType, Converted, Combined, Chosen, Assigned, Sequence, ExprTrees, NoExprs, Exprs, MaybeExpr, NoExpr, AnExpr, TypeNameTree, TypeNamed, SpecifiersTree, Specified, SpecifierTree, Stored, Qualified, Basic, Record, RecordTag, Enumeration, EnumerationTag, NamedType, SpecifierTrees, NoSpecifiers, Specifiers, MemberTree, Members, MemberTrees, NoMembers, MoreMembers, FieldTree, Field, FieldTrees, NoFields, Fields, EnumeratorTree, Enumerator, EnumeratorTrees, NoEnumerators, Enumerators, DeclaratorTree, Declarator, MaybeDeclarator, NoDeclarator, ADeclarator, CoreTree, Named, Inner, Omitted, SuffixTree, ArraySuffix, Prototype, NameList, NoParameters, SuffixTrees, NoSuffixes, Suffixes, ParameterTree, Parameter, ParameterTrees, NoParameter, Parameters, InitialiserTree, ByExpr, Braced, InitialiserTrees, NoInitialisers, Initialisers, InitTree, DeclarationTree, StatementTree, Labelled, Case, Default, Evaluate, Compound, If, IfElse, Switch, While, Do, For, Goto, Continue, Break, Return, StatementTrees, NoStatements, Statements, BlockTree, Block, ExternalTree, Function, Declares, Empty}
+use Rattle.c_ast.specs.Trees.{ExprTree, Enclosed, Index, Call, Member, Postfix, Prefix, SizeofExpr, SizeofType, Cast, Binary, Conditional, Assign, Comma, ExprTrees, NoExprs, Exprs, MaybeExpr, NoExpr, AnExpr, TypeNameTree, TypeNamed, SpecifiersTree, Specified, SpecifierTree, Stored, Qualified, Basic, Record, RecordTag, Enum, EnumTag, NamedType, SpecifierTrees, NoSpecifiers, Specifiers, MemberTree, Members, MemberTrees, NoMembers, MoreMembers, FieldTree, Field, FieldTrees, NoFields, Fields, EnumeratorTree, Enumerator, EnumeratorTrees, NoEnumerators, Enumerators, DeclaratorTree, Declarator, MaybeDeclarator, NoDeclarator, ADeclarator, CoreTree, Named, Inner, Omitted, SuffixTree, ArraySuffix, Prototype, NameList, NoParameters, SuffixTrees, NoSuffixes, Suffixes, ParameterTree, Parameter, ParameterTrees, NoParameter, Parameters, InitialiserTree, ByExpr, Braced, InitialiserTrees, NoInitialisers, Initialisers, InitTree, DeclarationTree, StatementTree, Label, Case, Default, Expression, Compound, If, IfElse, Switch, While, Do, For, Goto, Continue, Break, Return, StatementTrees, NoStatements, Statements, BlockTree, Block, ExternalTree, Function, Declares, Empty}
+use Rattle.c_ast.specs.Trees as tree
 use Rattle.c_ast.specs.Signs.{open_bracket, close_bracket, open_parenthesis, close_parenthesis, open_brace, close_brace, star_sign, question_mark, colon_sign, semicolon, ellipsis, equals_sign, comma_sign}
 use Rattle.c_ast.specs.Keywords.{break_word, case_word, continue_word, default_word, do_word, else_word, enum_word, for_word, goto_word, if_word, return_word, sizeof_word, switch_word, while_word}
 
@@ -52,23 +53,23 @@ dots_text false = sign_text close_parenthesis
 
 abbrev mutual
   pub expr_text : ExprTree → List ℕ
-  expr_text (Variable l n) = name_text n
-  expr_text (IntegerConstant l v k) = token_text (Integer v k)
-  expr_text (CharacterConstant l v) = token_text (Character v)
-  expr_text (Literal l bs) = flat_map literal_text bs
+  expr_text (tree.Name l n) = name_text n
+  expr_text (tree.Integer l v k) = token_text (Integer v k)
+  expr_text (tree.Character l v) = token_text (Character v)
+  expr_text (tree.Text l bs) = flat_map literal_text bs
   expr_text (Enclosed l e) = sign_text open_parenthesis ++ expr_text e ++ sign_text close_parenthesis
-  expr_text (Subscript l a i) = expr_text a ++ sign_text open_bracket ++ expr_text i ++ sign_text close_bracket
-  expr_text (Called l f es) = expr_text f ++ sign_text open_parenthesis ++ sequence_text es ++ sign_text close_parenthesis
-  expr_text (Selected l op a n) = expr_text a ++ sign_text (member_sign op) ++ name_text n
-  expr_text (Stepped l op a) = expr_text a ++ sign_text (postfix_sign op)
-  expr_text (Prefixed l op a) = sign_text (prefix_sign op) ++ expr_text a
-  expr_text (SizedExpr l a) = word_text sizeof_word ++ expr_text a
-  expr_text (SizedType l t) = word_text sizeof_word ++ sign_text open_parenthesis ++ type_name_text t ++ sign_text close_parenthesis
-  expr_text (Converted l t a) = sign_text open_parenthesis ++ type_name_text t ++ sign_text close_parenthesis ++ expr_text a
-  expr_text (Combined l op a b) = expr_text a ++ sign_text (binary_sign op) ++ expr_text b
-  expr_text (Chosen l a b c) = expr_text a ++ sign_text question_mark ++ expr_text b ++ sign_text colon_sign ++ expr_text c
-  expr_text (Assigned l op a b) = expr_text a ++ sign_text (assign_sign op) ++ expr_text b
-  expr_text (Sequence l es) = sequence_text es
+  expr_text (Index l a i) = expr_text a ++ sign_text open_bracket ++ expr_text i ++ sign_text close_bracket
+  expr_text (Call l f es) = expr_text f ++ sign_text open_parenthesis ++ sequence_text es ++ sign_text close_parenthesis
+  expr_text (Member l op a n) = expr_text a ++ sign_text (member_sign op) ++ name_text n
+  expr_text (Postfix l op a) = expr_text a ++ sign_text (postfix_sign op)
+  expr_text (Prefix l op a) = sign_text (prefix_sign op) ++ expr_text a
+  expr_text (SizeofExpr l a) = word_text sizeof_word ++ expr_text a
+  expr_text (SizeofType l t) = word_text sizeof_word ++ sign_text open_parenthesis ++ type_name_text t ++ sign_text close_parenthesis
+  expr_text (Cast l t a) = sign_text open_parenthesis ++ type_name_text t ++ sign_text close_parenthesis ++ expr_text a
+  expr_text (Binary l op a b) = expr_text a ++ sign_text (binary_sign op) ++ expr_text b
+  expr_text (Conditional l a b c) = expr_text a ++ sign_text question_mark ++ expr_text b ++ sign_text colon_sign ++ expr_text c
+  expr_text (Assign l op a b) = expr_text a ++ sign_text (assign_sign op) ++ expr_text b
+  expr_text (Comma l es) = sequence_text es
 
   -- expressions between commas
   pub sequence_text : ExprTrees → List ℕ
@@ -104,8 +105,8 @@ abbrev mutual
   specifier_text (Basic l b) = word_text (basic_word b)
   specifier_text (Record l k tag ms) = word_text (record_word k) ++ tag_text tag ++ sign_text open_brace ++ members_text ms ++ sign_text close_brace
   specifier_text (RecordTag l k n) = word_text (record_word k) ++ name_text n
-  specifier_text (Enumeration l tag es comma) = word_text enum_word ++ tag_text tag ++ sign_text open_brace ++ enumerators_text es ++ end_text comma
-  specifier_text (EnumerationTag l n) = word_text enum_word ++ name_text n
+  specifier_text (Enum l tag es comma) = word_text enum_word ++ tag_text tag ++ sign_text open_brace ++ enumerators_text es ++ end_text comma
+  specifier_text (EnumTag l n) = word_text enum_word ++ name_text n
   specifier_text (NamedType l n) = name_text n
 
   pub members_text : MemberTrees → List ℕ
@@ -199,10 +200,10 @@ test_text k e = word_text k ++ sign_text open_parenthesis ++ expr_text e ++ sign
 
 abbrev mutual
   pub statement_text : StatementTree → List ℕ
-  statement_text (Labelled l n s) = name_text n ++ sign_text colon_sign ++ statement_text s
+  statement_text (Label l n s) = name_text n ++ sign_text colon_sign ++ statement_text s
   statement_text (Case l e s) = word_text case_word ++ expr_text e ++ sign_text colon_sign ++ statement_text s
   statement_text (Default l s) = word_text default_word ++ sign_text colon_sign ++ statement_text s
-  statement_text (Evaluate l e) = maybe_expr_text e ++ sign_text semicolon
+  statement_text (Expression l e) = maybe_expr_text e ++ sign_text semicolon
   statement_text (Compound l b) = block_text b
   statement_text (If l e s) = test_text if_word e ++ statement_text s
   statement_text (IfElse l e s t) = test_text if_word e ++ statement_text s ++ word_text else_word ++ statement_text t

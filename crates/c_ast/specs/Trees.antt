@@ -15,23 +15,23 @@ use Rattle.c_ast.specs.declared.specifier.RecordKind.{RecordKind}
 
 mutual
   pub data ExprTree : Type 0 where
-    Variable : (line : ℕ) (name : List ℕ) → ExprTree
-    IntegerConstant : (line value : ℕ) (kind : IntKind) → ExprTree
-    CharacterConstant : (line : ℕ) (value : ℤ) → ExprTree
-    Literal : (line : ℕ) (texts : List (List ℕ)) → ExprTree
+    Name : (line : ℕ) (name : List ℕ) → ExprTree
+    Integer : (line value : ℕ) (kind : IntKind) → ExprTree
+    Character : (line : ℕ) (value : ℤ) → ExprTree
+    Text : (line : ℕ) (texts : List (List ℕ)) → ExprTree
     Enclosed : (line : ℕ) (e : ExprTree) → ExprTree
-    Subscript : (line : ℕ) (a i : ExprTree) → ExprTree
-    Called : (line : ℕ) (f : ExprTree) (args : ExprTrees) → ExprTree
-    Selected : (line : ℕ) (op : MemberOperator) (a : ExprTree) (name : List ℕ) → ExprTree
-    Stepped : (line : ℕ) (op : PostfixOperator) (a : ExprTree) → ExprTree
-    Prefixed : (line : ℕ) (op : PrefixOperator) (a : ExprTree) → ExprTree
-    SizedExpr : (line : ℕ) (a : ExprTree) → ExprTree
-    SizedType : (line : ℕ) (t : TypeNameTree) → ExprTree
-    Converted : (line : ℕ) (t : TypeNameTree) (a : ExprTree) → ExprTree
-    Combined : (line : ℕ) (op : BinaryOperator) (a b : ExprTree) → ExprTree
-    Chosen : (line : ℕ) (a b c : ExprTree) → ExprTree
-    Assigned : (line : ℕ) (op : AssignOperator) (a b : ExprTree) → ExprTree
-    Sequence : (line : ℕ) (parts : ExprTrees) → ExprTree
+    Index : (line : ℕ) (a i : ExprTree) → ExprTree
+    Call : (line : ℕ) (f : ExprTree) (args : ExprTrees) → ExprTree
+    Member : (line : ℕ) (op : MemberOperator) (a : ExprTree) (name : List ℕ) → ExprTree
+    Postfix : (line : ℕ) (op : PostfixOperator) (a : ExprTree) → ExprTree
+    Prefix : (line : ℕ) (op : PrefixOperator) (a : ExprTree) → ExprTree
+    SizeofExpr : (line : ℕ) (a : ExprTree) → ExprTree
+    SizeofType : (line : ℕ) (t : TypeNameTree) → ExprTree
+    Cast : (line : ℕ) (t : TypeNameTree) (a : ExprTree) → ExprTree
+    Binary : (line : ℕ) (op : BinaryOperator) (a b : ExprTree) → ExprTree
+    Conditional : (line : ℕ) (a b c : ExprTree) → ExprTree
+    Assign : (line : ℕ) (op : AssignOperator) (a b : ExprTree) → ExprTree
+    Comma : (line : ℕ) (parts : ExprTrees) → ExprTree
 
   pub data ExprTrees : Type 0 where
     NoExprs : ExprTrees
@@ -53,8 +53,8 @@ mutual
     Basic : (line : ℕ) (basic : BasicType) → SpecifierTree
     Record : (line : ℕ) (kind : RecordKind) (tag : Option (List ℕ)) (members : MemberTrees) → SpecifierTree
     RecordTag : (line : ℕ) (kind : RecordKind) (tag : List ℕ) → SpecifierTree
-    Enumeration : (line : ℕ) (tag : Option (List ℕ)) (enumerators : EnumeratorTrees) (comma : Bool) → SpecifierTree
-    EnumerationTag : (line : ℕ) (tag : List ℕ) → SpecifierTree
+    Enum : (line : ℕ) (tag : Option (List ℕ)) (enumerators : EnumeratorTrees) (comma : Bool) → SpecifierTree
+    EnumTag : (line : ℕ) (tag : List ℕ) → SpecifierTree
     NamedType : (line : ℕ) (name : List ℕ) → SpecifierTree
 
   pub data SpecifierTrees : Type 0 where
@@ -134,10 +134,10 @@ pub record DeclarationTree : Type 0 where
 
 mutual
   pub data StatementTree : Type 0 where
-    Labelled : (line : ℕ) (name : List ℕ) (s : StatementTree) → StatementTree
+    Label : (line : ℕ) (name : List ℕ) (s : StatementTree) → StatementTree
     Case : (line : ℕ) (e : ExprTree) (s : StatementTree) → StatementTree
     Default : (line : ℕ) (s : StatementTree) → StatementTree
-    Evaluate : (line : ℕ) (e : MaybeExpr) → StatementTree
+    Expression : (line : ℕ) (e : MaybeExpr) → StatementTree
     Compound : (line : ℕ) (b : BlockTree) → StatementTree
     If : (line : ℕ) (e : ExprTree) (s : StatementTree) → StatementTree
     IfElse : (line : ℕ) (e : ExprTree) (s t : StatementTree) → StatementTree

@@ -4,7 +4,7 @@ use Rattle.std.specs.Prelude.{Bool, true, false, Option, Some, None, List, [], �
 use Rattle.c_ast.specs.Lexemes.{Name, Keyword, Sign}
 use Rattle.c_ast.specs.Marks.{Mark, Tok, Here, Ask, Open, Close, Reopen, Forget, IsSpecifier, IsDeclaration, IsLabel, IsSign, IsKeyword}
 use Rattle.c_ast.specs.ExprMarks.{expr, maybe_expr, specifiers, declarator, declared_name, has_typedef, put_then, end_then}
-use Rattle.c_ast.specs.Trees.{DeclaratorTree, InitialiserTree, ByExpr, Braced, InitialiserTrees, NoInitialisers, Initialisers, InitTree, SpecifiersTree, DeclarationTree, StatementTree, Labelled, Case, Default, Evaluate, Compound, If, IfElse, Switch, While, Do, For, Goto, Continue, Break, Return, StatementTrees, NoStatements, Statements, BlockTree, Block, ExternalTree, Function, Declares, Empty, UnitTree}
+use Rattle.c_ast.specs.Trees.{DeclaratorTree, InitialiserTree, ByExpr, Braced, InitialiserTrees, NoInitialisers, Initialisers, InitTree, SpecifiersTree, DeclarationTree, StatementTree, Label, Case, Default, Expression, Compound, If, IfElse, Switch, While, Do, For, Goto, Continue, Break, Return, StatementTrees, NoStatements, Statements, BlockTree, Block, ExternalTree, Function, Declares, Empty, UnitTree}
 use Rattle.c_ast.specs.Signs.{open_parenthesis, close_parenthesis, open_brace, close_brace, colon_sign, semicolon, equals_sign, comma_sign}
 use Rattle.c_ast.specs.Keywords.{break_word, case_word, continue_word, default_word, do_word, else_word, for_word, goto_word, if_word, return_word, switch_word, while_word}
 
@@ -49,10 +49,10 @@ declarations (d ∷ ds) r = Ask IsDeclaration true ∷ declaration d (declaratio
 
 abbrev mutual
   pub statement : StatementTree → List Mark → List Mark
-  statement (Labelled l n s) r = Here l ∷ Ask IsLabel true ∷ Tok (Name n) ∷ Tok (Sign colon_sign) ∷ statement s r
+  statement (Label l n s) r = Here l ∷ Ask IsLabel true ∷ Tok (Name n) ∷ Tok (Sign colon_sign) ∷ statement s r
   statement (Case l e s) r = Here l ∷ Tok (Keyword case_word) ∷ expr e (Tok (Sign colon_sign) ∷ statement s r)
   statement (Default l s) r = Here l ∷ Tok (Keyword default_word) ∷ Tok (Sign colon_sign) ∷ statement s r
-  statement (Evaluate l e) r = Here l ∷ Ask IsLabel false ∷ maybe_expr e (Tok (Sign semicolon) ∷ r)
+  statement (Expression l e) r = Here l ∷ Ask IsLabel false ∷ maybe_expr e (Tok (Sign semicolon) ∷ r)
   statement (Compound l b) r = Here l ∷ block b r
   statement (If l e s) r = Here l ∷ Tok (Keyword if_word) ∷ Tok (Sign open_parenthesis) ∷ expr e (Tok (Sign close_parenthesis) ∷ statement s (Ask (IsKeyword else_word) false ∷ r))
   statement (IfElse l e s t) r = Here l ∷ Tok (Keyword if_word) ∷ Tok (Sign open_parenthesis) ∷ expr e (Tok (Sign close_parenthesis) ∷ statement s (Tok (Keyword else_word) ∷ statement t r))

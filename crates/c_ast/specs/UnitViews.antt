@@ -14,7 +14,7 @@ use Rattle.c_ast.specs.declared.unit.External.{External}
 use Rattle.c_ast.specs.declared.unit.Unit.{Unit as UnitValue}
 use Rattle.c_ast.specs.Views.{expr_of, specifiers_of, declarator_of}
 use Rattle.c_ast.specs.declared.expr.Expr.{Expr}
-use Rattle.c_ast.specs.Trees.{MaybeExpr, NoExpr, AnExpr, InitialiserTree, ByExpr, Braced, InitialiserTrees, NoInitialisers, Initialisers, InitTree, DeclarationTree, StatementTree, Labelled, Case, Default, Evaluate, Compound, If, IfElse, Switch, While, Do, For, Goto, Continue, Break, Return, StatementTrees, NoStatements, Statements, BlockTree, Block, ExternalTree, Function, Declares, Empty, UnitTree}
+use Rattle.c_ast.specs.Trees.{MaybeExpr, NoExpr, AnExpr, InitialiserTree, ByExpr, Braced, InitialiserTrees, NoInitialisers, Initialisers, InitTree, DeclarationTree, StatementTree, Label, Case, Default, Expression, Compound, If, IfElse, Switch, While, Do, For, Goto, Continue, Break, Return, StatementTrees, NoStatements, Statements, BlockTree, Block, ExternalTree, Function, Declares, Empty, UnitTree}
 
 -- ---- initialisers
 
@@ -61,10 +61,10 @@ maybe_of None = NoExpr
 maybe_of (Some e) = AnExpr (expr_of e)
 
 abbrev pub statement_form_layer : StatementForm-F (ℕ → StatementTree) BlockTree StatementTree → ℕ → StatementTree
-statement_form_layer (StatementForm-F.Label n s) line = Labelled line n s.value
+statement_form_layer (StatementForm-F.Label n s) line = Label line n s.value
 statement_form_layer (StatementForm-F.Case e s) line = Case line (expr_of e) s.value
 statement_form_layer (StatementForm-F.Default s) line = Default line s.value
-statement_form_layer (StatementForm-F.Expression e) line = Evaluate line (maybe_of e)
+statement_form_layer (StatementForm-F.Expression e) line = Expression line (maybe_of e)
 statement_form_layer (StatementForm-F.Block b) line = Compound line b.value
 statement_form_layer (StatementForm-F.If e s None) line = If line (expr_of e.value) s.value
 statement_form_layer (StatementForm-F.If e s (Some t)) line = IfElse line (expr_of e.value) s.value t.value

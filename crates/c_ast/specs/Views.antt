@@ -14,7 +14,8 @@ use Rattle.c_ast.specs.declared.expr.Specifier.{Specifier as SpecifierValue, Spe
 use Rattle.c_ast.specs.declared.expr.Specifiers.{Specifiers as SpecifiersValue, Specifiers-F, fold-Specifiers}
 use Rattle.c_ast.specs.declared.expr.Suffix.{Suffix as SuffixValue, Suffix-F, fold-Suffix}
 use Rattle.c_ast.specs.declared.expr.TypeName.{TypeName as TypeNameValue, TypeName-F, fold-TypeName}
-use Rattle.c_ast.specs.Trees.{ExprTree, Variable, IntegerConstant, CharacterConstant, Literal, Enclosed, Subscript, Called, Selected, Stepped, Prefixed, SizedExpr, SizedType, Converted, Combined, Chosen, Assigned, Sequence, ExprTrees, NoExprs, Exprs, MaybeExpr, NoExpr, AnExpr, TypeNameTree, TypeNamed, SpecifiersTree, Specified, SpecifierTree, Stored, Qualified, Basic, Record, RecordTag, Enumeration, EnumerationTag, NamedType, SpecifierTrees, NoSpecifiers, Specifiers, MemberTree, Members, MemberTrees, NoMembers, MoreMembers, FieldTree, Field, FieldTrees, NoFields, Fields, EnumeratorTree, Enumerator, EnumeratorTrees, NoEnumerators, Enumerators, DeclaratorTree, Declarator, MaybeDeclarator, NoDeclarator, ADeclarator, CoreTree, Named, Inner, Omitted, SuffixTree, ArraySuffix, Prototype, NameList, NoParameters, SuffixTrees, NoSuffixes, Suffixes, ParameterTree, Parameter, ParameterTrees, NoParameter, Parameters}
+use Rattle.c_ast.specs.Trees.{ExprTree, Name, Integer, Character, Text, Enclosed, Index, Call, Postfix, Prefix, SizeofExpr, SizeofType, Cast, Binary, Conditional, Assign, Comma, ExprTrees, NoExprs, Exprs, MaybeExpr, NoExpr, AnExpr, TypeNameTree, TypeNamed, SpecifiersTree, Specified, SpecifierTree, Stored, Qualified, Basic, Record, RecordTag, Enum, EnumTag, NamedType, SpecifierTrees, NoSpecifiers, Specifiers, MemberTree, Members, MemberTrees, NoMembers, MoreMembers, FieldTree, Field, FieldTrees, NoFields, Fields, EnumeratorTree, Enumerator, EnumeratorTrees, NoEnumerators, Enumerators, DeclaratorTree, Declarator, MaybeDeclarator, NoDeclarator, ADeclarator, CoreTree, Named, Inner, Omitted, SuffixTree, ArraySuffix, Prototype, NameList, NoParameters, SuffixTrees, NoSuffixes, Suffixes, ParameterTree, Parameter, ParameterTrees, NoParameter, Parameters}
+use Rattle.c_ast.specs.Trees as tree
 
 -- ---- lists and what may be left out
 
@@ -62,23 +63,23 @@ core_layer (DeclaratorCore-F.Parentheses d) = Inner d.value
 core_layer DeclaratorCore-F.Omitted = Omitted
 
 abbrev pub expr_form_layer : ExprForm-F CoreTree (ℕ → ExprTree) (ℕ → SpecifierTree) (ℕ → SuffixTree) DeclaratorTree EnumeratorTree ExprTree MemberTree FieldTree ParameterTree SpecifierTree SpecifiersTree SuffixTree TypeNameTree → ℕ → ExprTree
-expr_form_layer (ExprForm-F.Name n) line = Variable line n
-expr_form_layer (ExprForm-F.Integer v k) line = IntegerConstant line v k
-expr_form_layer (ExprForm-F.Character v) line = CharacterConstant line v
-expr_form_layer (ExprForm-F.Text bs) line = Literal line bs
+expr_form_layer (ExprForm-F.Name n) line = Name line n
+expr_form_layer (ExprForm-F.Integer v k) line = Integer line v k
+expr_form_layer (ExprForm-F.Character v) line = Character line v
+expr_form_layer (ExprForm-F.Text bs) line = Text line bs
 expr_form_layer (ExprForm-F.Enclosed e) line = Enclosed line e.value
-expr_form_layer (ExprForm-F.Index a i) line = Subscript line a.value i.value
-expr_form_layer (ExprForm-F.Call f es) line = Called line f.value (exprs_of es.value)
-expr_form_layer (ExprForm-F.Member op a n) line = Selected line op a.value n.value
-expr_form_layer (ExprForm-F.Postfix op a) line = Stepped line op a.value
-expr_form_layer (ExprForm-F.Prefix op a) line = Prefixed line op a.value
-expr_form_layer (ExprForm-F.SizeofExpr a) line = SizedExpr line a.value
-expr_form_layer (ExprForm-F.SizeofType t) line = SizedType line t.value
-expr_form_layer (ExprForm-F.Cast t a) line = Converted line t.value a.value
-expr_form_layer (ExprForm-F.Binary op a b) line = Combined line op a.value b.value
-expr_form_layer (ExprForm-F.Conditional a b c) line = Chosen line a.value b.value c.value
-expr_form_layer (ExprForm-F.Assign op a b) line = Assigned line op a.value b.value
-expr_form_layer (ExprForm-F.Comma es) line = Sequence line (exprs_of es)
+expr_form_layer (ExprForm-F.Index a i) line = Index line a.value i.value
+expr_form_layer (ExprForm-F.Call f es) line = Call line f.value (exprs_of es.value)
+expr_form_layer (ExprForm-F.Member op a n) line = tree.Member line op a.value n.value
+expr_form_layer (ExprForm-F.Postfix op a) line = Postfix line op a.value
+expr_form_layer (ExprForm-F.Prefix op a) line = Prefix line op a.value
+expr_form_layer (ExprForm-F.SizeofExpr a) line = SizeofExpr line a.value
+expr_form_layer (ExprForm-F.SizeofType t) line = SizeofType line t.value
+expr_form_layer (ExprForm-F.Cast t a) line = Cast line t.value a.value
+expr_form_layer (ExprForm-F.Binary op a b) line = Binary line op a.value b.value
+expr_form_layer (ExprForm-F.Conditional a b c) line = Conditional line a.value b.value c.value
+expr_form_layer (ExprForm-F.Assign op a b) line = Assign line op a.value b.value
+expr_form_layer (ExprForm-F.Comma es) line = Comma line (exprs_of es)
 
 abbrev pub specifier_form_layer : SpecifierForm-F CoreTree (ℕ → ExprTree) (ℕ → SpecifierTree) (ℕ → SuffixTree) DeclaratorTree EnumeratorTree ExprTree MemberTree FieldTree ParameterTree SpecifierTree SpecifiersTree SuffixTree TypeNameTree → ℕ → SpecifierTree
 specifier_form_layer (SpecifierForm-F.Storage s) line = Stored line s
@@ -86,8 +87,8 @@ specifier_form_layer (SpecifierForm-F.Qualifier q) line = Qualified line q
 specifier_form_layer (SpecifierForm-F.Basic b) line = Basic line b
 specifier_form_layer (SpecifierForm-F.Record k tag ms) line = Record line k tag (members_of ms)
 specifier_form_layer (SpecifierForm-F.RecordTag k tag) line = RecordTag line k tag
-specifier_form_layer (SpecifierForm-F.Enum tag es comma) line = Enumeration line tag (enumerators_of es) comma
-specifier_form_layer (SpecifierForm-F.EnumTag tag) line = EnumerationTag line tag
+specifier_form_layer (SpecifierForm-F.Enum tag es comma) line = Enum line tag (enumerators_of es) comma
+specifier_form_layer (SpecifierForm-F.EnumTag tag) line = EnumTag line tag
 specifier_form_layer (SpecifierForm-F.Named n) line = NamedType line n
 
 abbrev pub suffix_form_layer : SuffixForm-F CoreTree (ℕ → ExprTree) (ℕ → SpecifierTree) (ℕ → SuffixTree) DeclaratorTree EnumeratorTree ExprTree MemberTree FieldTree ParameterTree SpecifierTree SpecifiersTree SuffixTree TypeNameTree → ℕ → SuffixTree

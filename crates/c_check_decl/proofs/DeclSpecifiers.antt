@@ -54,8 +54,8 @@ typed_other s line (Specifiers (tree.Basic l word) ss) h = refl
 typed_other s line (Specifiers (tree.Record l k tag ms) ss) h = refl
 typed_other s line (Specifiers (tree.RecordTag l k tag) NoSpecifiers) h = absurd (cc)
 typed_other s line (Specifiers (tree.RecordTag l k tag) (Specifiers x ss)) h = refl
-typed_other s line (Specifiers (tree.Enumeration l tag es comma) ss) h = refl
-typed_other s line (Specifiers (tree.EnumerationTag l tag) ss) h = refl
+typed_other s line (Specifiers (tree.Enum l tag es comma) ss) h = refl
+typed_other s line (Specifiers (tree.EnumTag l tag) ss) h = refl
 typed_other s line (Specifiers (tree.NamedType l x) ss) h = refl
 
 inside_others : (s : Scoping) (a : Table) (line : ℕ) (ss : SpecifierTrees) → is_lone_tag ss ≡ false → inside_in s a (tree.Specified line ss) [] ≡ specifiers_in s a (tree.Specified line ss)

@@ -18,8 +18,8 @@ more_than_one (tree.Qualified l qualifier) y ss = refl
 more_than_one (tree.Basic l word) y ss = refl
 more_than_one (tree.Record l k tag ms) y ss = refl
 more_than_one (tree.RecordTag l k tag) y ss = refl
-more_than_one (tree.Enumeration l tag es comma) y ss = refl
-more_than_one (tree.EnumerationTag l tag) y ss = refl
+more_than_one (tree.Enum l tag es comma) y ss = refl
+more_than_one (tree.EnumTag l tag) y ss = refl
 more_than_one (tree.NamedType l x) y ss = refl
 
 pub not_one : (xs : List Specifier) → length xs ≢ 1 → is_lone_tag (specifier_list_of (map specifier_seen xs)) ≡ false

@@ -32,37 +32,37 @@ member_qualified tags q (Array of n) x = refl
 
 -- ---- `.`
 
-pub dot_broken : (s : State) (line : ℕ) (a : CoreTree) (x : List ℕ) → None ≡ member_of s.tags (type_of a) x → at_expr s line (node.Select member.Dot a x) ≡ Bad (Breaks 33 line)
-dot_broken s line a x e = node_broken s line 33 (node.Select member.Dot a x) (rw (← e) refl)
+pub dot_broken : (s : State) (line : ℕ) (a : CoreTree) (x : List ℕ) → None ≡ member_of s.tags (type_of a) x → at_expr s line (node.Member member.Dot a x) ≡ Bad (Breaks 33 line)
+dot_broken s line a x e = node_broken s line 33 (node.Member member.Dot a x) (rw (← e) refl)
 
-pub dot_fine : (s : State) (line : ℕ) (a : CoreTree) (x : List ℕ) (m : MemberAt) → Some m ≡ member_of s.tags (type_of a) x → IsSmall s.tags m.of → IsShallow m.of → at_expr s line (node.Select member.Dot a x) ≡ Fine s (selected_at line a m)
+pub dot_fine : (s : State) (line : ℕ) (a : CoreTree) (x : List ℕ) (m : MemberAt) → Some m ≡ member_of s.tags (type_of a) x → IsSmall s.tags m.of → IsShallow m.of → at_expr s line (node.Member member.Dot a x) ≡ Fine s (selected_at line a m)
 dot_fine s line a x m e n d =
-    let none : first_broken constraints s (Expression (node.Select member.Dot a x)) ≡ None = rw (← e) refl in
-    node_fine s line (node.Select member.Dot a x) none
-    (none_passed s line (node.Select member.Dot a x) (rw (← e) (qualified_small s.tags _ m.of n, tt)) (rw (← e) (qualified_shallow _ m.of d, tt)) refl)
+    let none : first_broken constraints s (Expression (node.Member member.Dot a x)) ≡ None = rw (← e) refl in
+    node_fine s line (node.Member member.Dot a x) none
+    (none_passed s line (node.Member member.Dot a x) (rw (← e) (qualified_small s.tags _ m.of n, tt)) (rw (← e) (qualified_shallow _ m.of d, tt)) refl)
     ∙ (rw (← e) refl)
 
 -- ---- `->`
 
-pub arrow_no_pointer : (s : State) (line : ℕ) (a : CoreTree) (x : List ℕ) → is_pointer (value_type a) ≡ false → at_expr s line (node.Select member.Arrow a x) ≡ Bad (Breaks 33 line)
-arrow_no_pointer s line a x e = node_broken s line 33 (node.Select member.Arrow a x) (rw e refl)
+pub arrow_no_pointer : (s : State) (line : ℕ) (a : CoreTree) (x : List ℕ) → is_pointer (value_type a) ≡ false → at_expr s line (node.Member member.Arrow a x) ≡ Bad (Breaks 33 line)
+arrow_no_pointer s line a x e = node_broken s line 33 (node.Member member.Arrow a x) (rw e refl)
 
-pub arrow_broken : (s : State) (line : ℕ) (a : CoreTree) (x : List ℕ) → is_pointer (value_type a) ≡ true → None ≡ member_of s.tags (target (value_type a)) x → at_expr s line (node.Select member.Arrow a x) ≡ Bad (Breaks 33 line)
-arrow_broken s line a x p e = node_broken s line 33 (node.Select member.Arrow a x) (rw (p, ← e) refl)
+pub arrow_broken : (s : State) (line : ℕ) (a : CoreTree) (x : List ℕ) → is_pointer (value_type a) ≡ true → None ≡ member_of s.tags (target (value_type a)) x → at_expr s line (node.Member member.Arrow a x) ≡ Bad (Breaks 33 line)
+arrow_broken s line a x p e = node_broken s line 33 (node.Member member.Arrow a x) (rw (p, ← e) refl)
 
-arrow_passes : (s : State) (a : CoreTree) (x : List ℕ) (m : MemberAt) → is_pointer (value_type a) ≡ true → Some m ≡ member_of s.tags (target (value_type a)) x → first_broken constraints s (Expression (node.Select member.Arrow a x)) ≡ None
+arrow_passes : (s : State) (a : CoreTree) (x : List ℕ) (m : MemberAt) → is_pointer (value_type a) ≡ true → Some m ≡ member_of s.tags (target (value_type a)) x → first_broken constraints s (Expression (node.Member member.Arrow a x)) ≡ None
 arrow_passes s a x m p e = rw (p, ← e) refl
 
-pub arrow_deep : (s : State) (line : ℕ) (a : CoreTree) (x : List ℕ) (m : MemberAt) (f : CheckFault) → is_pointer (value_type a) ≡ true → Some m ≡ member_of s.tags (target (value_type a)) x → IsSmall s.tags (type_of a) → IsSmall s.tags m.of → IsTooDeep f line (value_type a) → Tells f (at_expr s line (node.Select member.Arrow a x))
+pub arrow_deep : (s : State) (line : ℕ) (a : CoreTree) (x : List ℕ) (m : MemberAt) (f : CheckFault) → is_pointer (value_type a) ≡ true → Some m ≡ member_of s.tags (target (value_type a)) x → IsSmall s.tags (type_of a) → IsSmall s.tags m.of → IsTooDeep f line (value_type a) → Tells f (at_expr s line (node.Member member.Arrow a x))
 arrow_deep s line a x m f p e k n d =
-    deep_told s line (node.Select member.Arrow a x) f (value_type a) d (arrow_passes s a x m p e)
+    deep_told s line (node.Member member.Arrow a x) f (value_type a) d (arrow_passes s a x m p e)
     (rw (← e) (value_small s.tags a k, (qualified_small s.tags _ m.of n, tt)))
     (λ g. rw g refl)
 
-pub arrow_fine : (s : State) (line : ℕ) (a : CoreTree) (x : List ℕ) (m : MemberAt) → is_pointer (value_type a) ≡ true → Some m ≡ member_of s.tags (target (value_type a)) x → IsSmall s.tags (type_of a) → IsSmall s.tags m.of → IsShallow m.of → IsShallow (value_type a) → at_expr s line (node.Select member.Arrow a x) ≡ Fine s (selected_at line (pointed line (value a)) m)
+pub arrow_fine : (s : State) (line : ℕ) (a : CoreTree) (x : List ℕ) (m : MemberAt) → is_pointer (value_type a) ≡ true → Some m ≡ member_of s.tags (target (value_type a)) x → IsSmall s.tags (type_of a) → IsSmall s.tags m.of → IsShallow m.of → IsShallow (value_type a) → at_expr s line (node.Member member.Arrow a x) ≡ Fine s (selected_at line (pointed line (value a)) m)
 arrow_fine s line a x m p e k n d v =
-    node_fine s line (node.Select member.Arrow a x) (arrow_passes s a x m p e)
-    (none_passed s line (node.Select member.Arrow a x)
+    node_fine s line (node.Member member.Arrow a x) (arrow_passes s a x m p e)
+    (none_passed s line (node.Member member.Arrow a x)
     (rw (← e) (value_small s.tags a k, (qualified_small s.tags _ m.of n, tt)))
     (rw (← e) (v, (qualified_shallow _ m.of d, tt))) refl)
     ∙ (rw (← e) refl)

@@ -99,31 +99,31 @@ indirect_fine s line a b n w d =
 
 -- ---- subscripts
 
-subscript_passes : (s : State) (a i : CoreTree) → is_no_subscript s (node.Subscript a i) ≡ false → first_broken constraints s (Expression (node.Subscript a i)) ≡ None
+subscript_passes : (s : State) (a i : CoreTree) → is_no_subscript s (node.Index a i) ≡ false → first_broken constraints s (Expression (node.Index a i)) ≡ None
 subscript_passes s a i b = rw b refl
 
-pub subscript_broken : (s : State) (line : ℕ) (a i : CoreTree) → is_no_subscript s (node.Subscript a i) ≡ true → at_expr s line (node.Subscript a i) ≡ Bad (Breaks 32 line)
-subscript_broken s line a i b = node_broken s line 32 (node.Subscript a i) (rw b refl)
+pub subscript_broken : (s : State) (line : ℕ) (a i : CoreTree) → is_no_subscript s (node.Index a i) ≡ true → at_expr s line (node.Index a i) ≡ Bad (Breaks 32 line)
+subscript_broken s line a i b = node_broken s line 32 (node.Index a i) (rw b refl)
 
 -- the types of its operands, and of what is pointed to, pass no limit on sizes
 pub record IsSubscript (s : State) (a i : CoreTree) : Type 0 where
-  pub test : is_no_subscript s (node.Subscript a i) ≡ false
+  pub test : is_no_subscript s (node.Index a i) ≡ false
   pub first : IsSmall s.tags (type_of a)
   pub second : IsSmall s.tags (type_of i)
   pub within : IsWithin (known s.tags) (target (pointer_among (value_type a) (value_type i)))
 
-pub subscript_deep : (s : State) (line : ℕ) (a i : CoreTree) (e : CheckFault) → IsSubscript s a i → AreTooDeep e line (value_type a ∷ value_type i ∷ []) → Tells e (at_expr s line (node.Subscript a i))
+pub subscript_deep : (s : State) (line : ℕ) (a i : CoreTree) (e : CheckFault) → IsSubscript s a i → AreTooDeep e line (value_type a ∷ value_type i ∷ []) → Tells e (at_expr s line (node.Index a i))
 subscript_deep s line a i e h d =
     let of = target (pointer_among (value_type a) (value_type i)) in
-    node_deep s line (node.Subscript a i) e (subscript_passes s a i h.test)
+    node_deep s line (node.Index a i) e (subscript_passes s a i h.test)
     (value_small s.tags a h.first, (value_small s.tags i h.second, (within_small s.tags of h.within, tt)))
     (deep_more e line (value_type a ∷ value_type i ∷ []) (of ∷ []) d)
 
-pub subscript_fine : (s : State) (line : ℕ) (a i : CoreTree) → IsSubscript s a i → IsShallow (value_type a) → IsShallow (value_type i) → at_expr s line (node.Subscript a i) ≡ Fine s (pointed line (moved s.tags false line (value a) (value i)))
+pub subscript_fine : (s : State) (line : ℕ) (a i : CoreTree) → IsSubscript s a i → IsShallow (value_type a) → IsShallow (value_type i) → at_expr s line (node.Index a i) ≡ Fine s (pointed line (moved s.tags false line (value a) (value i)))
 subscript_fine s line a i h d k =
     let of = target (pointer_among (value_type a) (value_type i)) in
-    node_fine s line (node.Subscript a i) (subscript_passes s a i h.test)
-    (none_passed s line (node.Subscript a i)
+    node_fine s line (node.Index a i) (subscript_passes s a i h.test)
+    (none_passed s line (node.Index a i)
     (value_small s.tags a h.first, (value_small s.tags i h.second, (within_small s.tags of h.within, tt)))
     (d, (k, (within_shallow s.tags of h.within, tt))) refl)
 
@@ -156,14 +156,14 @@ not_false : (b : Bool) → not b ≡ false → b ≡ true
 not_false true h = refl
 not_false false h = sym h
 
-pub subscript_scalars : (s : State) (a i : CoreTree) → is_no_subscript s (node.Subscript a i) ≡ false → AreScalars (value_type a) (value_type i)
+pub subscript_scalars : (s : State) (a i : CoreTree) → is_no_subscript s (node.Index a i) ≡ false → AreScalars (value_type a) (value_type i)
 subscript_scalars s a i h =
     let t = value_type a in
     let u = value_type i in
     let m = among (is_pointer t) (has_size s.tags (target t)) (is_integer u) (is_integer t) (is_pointer u) (has_size s.tags (target u)) (not_false _ h) in
     record { first = m.0; second = m.1; pointer = pointer_by (is_pointer t) t u refl m.2 }
 
-pub subscript_is : (s : State) (t : Table) → s.tags ≡ tags t → AreLimited t → (a i : CoreOf ℕ) → IsIn (length t.forms) a → IsIn (length t.forms) i → is_no_subscript s (node.Subscript (seen (type_at t) a) (seen (type_at t) i)) ≡ false → IsWithin (known (tags t)) (target (pointer_among (value_type (seen (type_at t) a)) (value_type (seen (type_at t) i)))) → IsSubscript s (seen (type_at t) a) (seen (type_at t) i)
+pub subscript_is : (s : State) (t : Table) → s.tags ≡ tags t → AreLimited t → (a i : CoreOf ℕ) → IsIn (length t.forms) a → IsIn (length t.forms) i → is_no_subscript s (node.Index (seen (type_at t) a) (seen (type_at t) i)) ≡ false → IsWithin (known (tags t)) (target (pointer_among (value_type (seen (type_at t) a)) (value_type (seen (type_at t) i)))) → IsSubscript s (seen (type_at t) a) (seen (type_at t) i)
 subscript_is s t h w a i x y b l = record { test = b; first = small_in s t h w a x; second = small_in s t h w i y; within = rw h l }
 
 -- what is known where nothing is declared

@@ -57,7 +57,7 @@ unfolding part_in
 whole_stops {s = s} {u = u} {a = a} {b = b} x e r h f k = passed {view = part_seen} {IsWithin = IsPartIn} {o = typed_part (state_of s a) x} {s = s} {u = u} {a = a} {b = b} {e = e} r h (record { ok = tt; err = f; within = tt; keeps = k })
 
 -- a comma behind the last enumerator says nothing
-pub without_comma : {s u : Scoping} {a b : Table} {r : Result Part CheckFault} (line : ℕ) (tag : Option (List ℕ)) (es : EnumeratorTrees) (comma : Bool) → Walks part_seen IsPartIn (part_in s a (tree.Enumeration line tag es true)) s a u b r → Walks part_seen IsPartIn (part_in s a (tree.Enumeration line tag es comma)) s a u b r
+pub without_comma : {s u : Scoping} {a b : Table} {r : Result Part CheckFault} (line : ℕ) (tag : Option (List ℕ)) (es : EnumeratorTrees) (comma : Bool) → Walks part_seen IsPartIn (part_in s a (tree.Enum line tag es true)) s a u b r → Walks part_seen IsPartIn (part_in s a (tree.Enum line tag es comma)) s a u b r
 unfolding part_in
 without_comma line tag es comma w = w
 
@@ -115,10 +115,10 @@ module _ (line : ℕ) (tag : Option (List ℕ)) (es : EnumeratorTrees) (s m : Sc
   abbrev ends : State → ℤ → Outcome node.Part
   ends t next = at_tag t line (node.Enumeration tag) (enumerated t line tag)
 
-  pub enumeration_stops : {u : Scoping} {c : Table} {e : CheckFault} (r : Result Part CheckFault) → IsErrAnd r (λ d. d ≡ e) → Walks next_number IsAnyNumber (enumerators_in m b (pos 0) es) m b u c (Err e) → Walks part_seen IsPartIn (part_in s a (tree.Enumeration line tag es true)) s a u c r
+  pub enumeration_stops : {u : Scoping} {c : Table} {e : CheckFault} (r : Result Part CheckFault) → IsErrAnd r (λ d. d ≡ e) → Walks next_number IsAnyNumber (enumerators_in m b (pos 0) es) m b u c (Err e) → Walks part_seen IsPartIn (part_in s a (tree.Enum line tag es true)) s a u c r
   unfolding part_in enumerators_in
   enumeration_stops {u = u} {c = c} {e = e} r h w =
-      passed {view = part_seen} {IsWithin = IsPartIn} {o = typed_part (state_of s a) (tree.Enumeration line tag es true)} {s = s} {u = u} {a = a} {b = c} {e = e} r h
+      passed {view = part_seen} {IsWithin = IsPartIn} {o = typed_part (state_of s a) (tree.Enum line tag es true)} {s = s} {u = u} {a = a} {b = c} {e = e} r h
       (record {
         ok = tt;
         err = tells_first e (typed_enumerators (awaited (state_of s a) line tag) (pos 0) es) ends (subst (λ x. Tells e (typed_enumerators x (pos 0) es)) begun w.err);
@@ -126,20 +126,20 @@ module _ (line : ℕ) (tag : Option (List ℕ)) (es : EnumeratorTrees) (s m : Sc
         keeps = keeps_on s m u a b c kept w.keeps;
       })
 
-  enumerators_fine : {u : Scoping} {c : Table} {v : EnumeratorList} → Walks next_number IsAnyNumber (enumerators_in m b (pos 0) es) m b u c (Ok v) → typed_part (state_of s a) (tree.Enumeration line tag es true) ≡ at_tag (state_of u c) line (node.Enumeration tag) (enumerated (state_of u c) line tag)
+  enumerators_fine : {u : Scoping} {c : Table} {v : EnumeratorList} → Walks next_number IsAnyNumber (enumerators_in m b (pos 0) es) m b u c (Ok v) → typed_part (state_of s a) (tree.Enum line tag es true) ≡ at_tag (state_of u c) line (node.Enumeration tag) (enumerated (state_of u c) line tag)
   unfolding enumerators_in
   enumerators_fine {u = u} {c = c} {v = v} w = ap (λ o. then_do o ends) (subst (λ x. typed_enumerators x (pos 0) es ≡ Fine (state_of u c) v.next) begun w.ok)
 
   pub enumeration_stops_behind : {u z : Scoping} {c d : Table} {v : EnumeratorList} (e : CheckFault) (r : Result Part CheckFault) → IsErrAnd r (λ x. x ≡ e) → Walks next_number IsAnyNumber (enumerators_in m b (pos 0) es) m b u c (Ok v)
-      → Tells e (at_tag (state_of u c) line (node.Enumeration tag) (enumerated (state_of u c) line tag)) → Keeps u c z d → Walks part_seen IsPartIn (part_in s a (tree.Enumeration line tag es true)) s a z d r
+      → Tells e (at_tag (state_of u c) line (node.Enumeration tag) (enumerated (state_of u c) line tag)) → Keeps u c z d → Walks part_seen IsPartIn (part_in s a (tree.Enum line tag es true)) s a z d r
   unfolding part_in
   enumeration_stops_behind {u = u} {z = z} {c = c} {d = d} {v = v} e r h w f g =
-      whole_stops {s = s} {u = z} {a = a} {b = d} (tree.Enumeration line tag es true) e r h (subst (λ o. Tells e o) (sym (enumerators_fine w)) f) (keeps_on s u z a c d (keeps_on s m u a b c kept w.keeps) g)
+      whole_stops {s = s} {u = z} {a = a} {b = d} (tree.Enum line tag es true) e r h (subst (λ o. Tells e o) (sym (enumerators_fine w)) f) (keeps_on s u z a c d (keeps_on s m u a b c kept w.keeps) g)
 
   pub enumeration_goes : {u z : Scoping} {c d : Table} {v : EnumeratorList} (id : ℕ) → Walks next_number IsAnyNumber (enumerators_in m b (pos 0) es) m b u c (Ok v)
-      → at_tag (state_of u c) line (node.Enumeration tag) (enumerated (state_of u c) line tag) ≡ Fine (state_of z d) (node.Whole (type_at d id)) → id < length d.forms → Keeps u c z d → Walks part_seen IsPartIn (part_in s a (tree.Enumeration line tag es true)) s a z d (Ok (part.Whole id))
+      → at_tag (state_of u c) line (node.Enumeration tag) (enumerated (state_of u c) line tag) ≡ Fine (state_of z d) (node.Whole (type_at d id)) → id < length d.forms → Keeps u c z d → Walks part_seen IsPartIn (part_in s a (tree.Enum line tag es true)) s a z d (Ok (part.Whole id))
   enumeration_goes {u = u} {z = z} {c = c} {d = d} {v = v} id w f l g =
-      whole_goes {s = s} {u = z} {a = a} {b = d} (tree.Enumeration line tag es true) id (enumerators_fine w ∙ f) l (keeps_on s u z a c d (keeps_on s m u a b c kept w.keeps) g)
+      whole_goes {s = s} {u = z} {a = a} {b = d} (tree.Enum line tag es true) id (enumerators_fine w ∙ f) l (keeps_on s u z a c d (keeps_on s m u a b c kept w.keeps) g)
 
 -- ---- typedef names
 

@@ -38,8 +38,8 @@ pub(crate) fn subscript(
 ) -> Result<CoreExpr, CheckFault>
     requires a { IsIn (length types.old.forms) a }
     requires i { IsIn (length types.old.forms) i }
-    ensures ok { IfOk result (λ core. Becomes types.old line (node.Subscript (seen (type_at types.old) a) (seen (type_at types.old) i)) types.new core) }
-    ensures err { IfErr result (λ e. IsRefused types.old line (node.Subscript (seen (type_at types.old) a) (seen (type_at types.old) i)) e) }
+    ensures ok { IfOk result (λ core. Becomes types.old line (node.Index (seen (type_at types.old) a) (seen (type_at types.old) i)) types.new core) }
+    ensures err { IfErr result (λ e. IsRefused types.old line (node.Index (seen (type_at types.old) a) (seen (type_at types.old) i)) e) }
     ensures within { IfOk result (λ core. IsIn (length types.new.forms) core) }
     ensures grows { Grows types.old types.new }
 {
@@ -77,7 +77,7 @@ fn element(
 fn is_subscript(types: &TypeTable, a: &CoreExpr, i: &CoreExpr) -> bool
     requires a { IsIn (length types.now.forms) a.now }
     requires i { IsIn (length types.now.forms) i.now }
-    ensures is { (s : State) → s.tags ≡ tags types.now → result ≡ not (no_subscript s (node.Subscript (seen (type_at types.now) a.now) (seen (type_at types.now) i.now))) }
+    ensures is { (s : State) → s.tags ≡ tags types.now → result ≡ not (no_subscript s (node.Index (seen (type_at types.now) a.now) (seen (type_at types.now) i.now))) }
     ensures limits { result ≡ true → IsWithin (known (tags types.now)) (pointed_type (pointer_among (type_of_value (seen (type_at types.now) a.now)) (type_of_value (seen (type_at types.now) i.now)))) }
 {
     let first = value_type(types, a);
@@ -127,8 +127,8 @@ pub(crate) fn select(
     name: &[u8],
 ) -> Result<CoreExpr, CheckFault>
     requires { IsIn (length types.old.forms) a }
-    ensures ok { IfOk result (λ core. Becomes types.old line (node.Select op (seen (type_at types.old) a) name.now) types.new core) }
-    ensures err { IfErr result (λ e. IsRefused types.old line (node.Select op (seen (type_at types.old) a) name.now) e) }
+    ensures ok { IfOk result (λ core. Becomes types.old line (node.Member op (seen (type_at types.old) a) name.now) types.new core) }
+    ensures err { IfErr result (λ e. IsRefused types.old line (node.Member op (seen (type_at types.old) a) name.now) e) }
     ensures within { IfOk result (λ core. IsIn (length types.new.forms) core) }
     ensures grows { Grows types.old types.new }
 {

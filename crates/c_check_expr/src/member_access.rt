@@ -28,8 +28,8 @@ pub(crate) fn member_of_place(
 ) -> Result<CoreExpr, CheckFault>
     requires within { IsIn (length types.old.forms) a }
     requires name { name.now ≢ [] }
-    ensures ok { IfOk result (λ core. Becomes types.old line (node.Select member.Dot (seen (type_at types.old) a) name.now) types.new core) }
-    ensures err { IfErr result (λ e. IsRefused types.old line (node.Select member.Dot (seen (type_at types.old) a) name.now) e) }
+    ensures ok { IfOk result (λ core. Becomes types.old line (node.Member member.Dot (seen (type_at types.old) a) name.now) types.new core) }
+    ensures err { IfErr result (λ e. IsRefused types.old line (node.Member member.Dot (seen (type_at types.old) a) name.now) e) }
     ensures within { IfOk result (λ core. IsIn (length types.new.forms) core) }
     ensures grows { Grows types.old types.new }
 {
@@ -50,8 +50,8 @@ pub(crate) fn member_through_pointer(
 ) -> Result<CoreExpr, CheckFault>
     requires within { IsIn (length types.old.forms) a }
     requires name { name.now ≢ [] }
-    ensures ok { IfOk result (λ core. Becomes types.old line (node.Select member.Arrow (seen (type_at types.old) a) name.now) types.new core) }
-    ensures err { IfErr result (λ e. IsRefused types.old line (node.Select member.Arrow (seen (type_at types.old) a) name.now) e) }
+    ensures ok { IfOk result (λ core. Becomes types.old line (node.Member member.Arrow (seen (type_at types.old) a) name.now) types.new core) }
+    ensures err { IfErr result (λ e. IsRefused types.old line (node.Member member.Arrow (seen (type_at types.old) a) name.now) e) }
     ensures within { IfOk result (λ core. IsIn (length types.new.forms) core) }
     ensures grows { Grows types.old types.new }
 {

@@ -1,7 +1,8 @@
 //! The walk over expressions: their parts in order, and then they themselves (C89 3.3). It goes as deep as
 //! an expression is high.
 ghost use Rattle.std.specs.Prelude.{◌≡◌, Some, None, length, map, IfErr, IfNone, IfOk, IfSome};
-ghost use Rattle.c_ast.specs.Trees.{Called, Converted, ExprTree, Prefixed, Sequence, SizedExpr, SizedType, Stepped, Subscript, Variable};
+ghost use Rattle.c_ast.specs.Trees.{ExprTree};
+ghost use Rattle.c_ast.specs.Trees as tree;
 ghost use Rattle.c_ast.specs.Views.{exprs_of};
 ghost use Rattle.c_ast.specs.declared.expr.Expr.{out-Expr};
 ghost use Rattle.c_ast.specs.Seen.{expr_seen, maybe_expr_seen, type_name_seen};
@@ -160,7 +161,7 @@ fn subscript(
     i: &Expr,
 ) -> Result<CoreExpr, CheckFault>
     requires { AreSymbolsIn (length types.old.forms) scopes.old.symbols }
-    ensures { Walks core IsIn (expr_in scopes.old types.old (Subscript line (expr_seen a.now) (expr_seen i.now))) scopes.old types.old scopes.new types.new result }
+    ensures { Walks core IsIn (expr_in scopes.old types.old (tree.Index line (expr_seen a.now) (expr_seen i.now))) scopes.old types.old scopes.new types.new result }
 {
     let (a, i) = two(alloc, scopes, types, a, i)?;
     access::subscript(alloc, types, line, a, i)
@@ -169,7 +170,7 @@ fn subscript(
 /// The name that the expression is, where it is just a name.
 #[tactic(auto, using(c_ast::proofs::lemmas::SeenExprs::expr_forms))]
 fn bare_name(e: &Expr) -> Option<&Bytes>
-    ensures name { IfSome result (λ x. expr_seen e.now ≡ Variable (out-Expr e.now).line x.now) }
+    ensures name { IfSome result (λ x. expr_seen e.now ≡ tree.Name (out-Expr e.now).line x.now) }
     ensures none { IfNone result ((s : State) → (o : Outcome CoreTree) → callee_typed s (expr_seen e.now) o ≡ o) }
 {
     match &e.form {
@@ -219,7 +220,7 @@ fn named_callee(
     name: &Bytes,
 ) -> Result<CoreExpr, CheckFault>
     requires symbols { AreSymbolsIn (length types.old.forms) scopes.old.symbols }
-    requires name { expr_seen f.now ≡ Variable (out-Expr f.now).line name.now }
+    requires name { expr_seen f.now ≡ tree.Name (out-Expr f.now).line name.now }
     ensures { Walks core IsIn (callee_in scopes.old types.old (expr_seen f.now)) scopes.old types.old scopes.new types.new result }
 {
     match scopes.find(name.as_slice()) {
@@ -239,7 +240,7 @@ fn call(
     arguments: &[Expr],
 ) -> Result<CoreExpr, CheckFault>
     requires { AreSymbolsIn (length types.old.forms) scopes.old.symbols }
-    ensures { Walks core IsIn (expr_in scopes.old types.old (Called line (expr_seen f.now) (exprs_of (map expr_seen arguments.now)))) scopes.old types.old scopes.new types.new result }
+    ensures { Walks core IsIn (expr_in scopes.old types.old (tree.Call line (expr_seen f.now) (exprs_of (map expr_seen arguments.now)))) scopes.old types.old scopes.new types.new result }
 {
     let f = callee(alloc, scopes, types, f)?;
     let arguments = expressions(alloc, scopes, types, arguments)?;
@@ -257,7 +258,7 @@ fn postfix(
     a: &Expr,
 ) -> Result<CoreExpr, CheckFault>
     requires { AreSymbolsIn (length types.old.forms) scopes.old.symbols }
-    ensures { Walks core IsIn (expr_in scopes.old types.old (Stepped line op (expr_seen a.now))) scopes.old types.old scopes.new types.new result }
+    ensures { Walks core IsIn (expr_in scopes.old types.old (tree.Postfix line op (expr_seen a.now))) scopes.old types.old scopes.new types.new result }
 {
     let a = expression(alloc, scopes, types, a)?;
     assign::postfix(alloc, types, line, op, a)
@@ -274,7 +275,7 @@ fn prefix(
     a: &Expr,
 ) -> Result<CoreExpr, CheckFault>
     requires { AreSymbolsIn (length types.old.forms) scopes.old.symbols }
-    ensures { Walks core IsIn (expr_in scopes.old types.old (Prefixed line op (expr_seen a.now))) scopes.old types.old scopes.new types.new result }
+    ensures { Walks core IsIn (expr_in scopes.old types.old (tree.Prefix line op (expr_seen a.now))) scopes.old types.old scopes.new types.new result }
 {
     let a = expression(alloc, scopes, types, a)?;
     unary::prefix(alloc, types, line, op, a)
@@ -290,7 +291,7 @@ fn sizeof_expr(
     a: &Expr,
 ) -> Result<CoreExpr, CheckFault>
     requires { AreSymbolsIn (length types.old.forms) scopes.old.symbols }
-    ensures { Walks core IsIn (expr_in scopes.old types.old (SizedExpr line (expr_seen a.now))) scopes.old types.old scopes.new types.new result }
+    ensures { Walks core IsIn (expr_in scopes.old types.old (tree.SizeofExpr line (expr_seen a.now))) scopes.old types.old scopes.new types.new result }
 {
     let a = expression(alloc, scopes, types, a)?;
     unary::sizeof_expr(alloc, types, line, a)
@@ -306,7 +307,7 @@ fn sizeof_type(
     of: &TypeName,
 ) -> Result<CoreExpr, CheckFault>
     requires { AreSymbolsIn (length types.old.forms) scopes.old.symbols }
-    ensures { Walks core IsIn (expr_in scopes.old types.old (SizedType line (type_name_seen of.now))) scopes.old types.old scopes.new types.new result }
+    ensures { Walks core IsIn (expr_in scopes.old types.old (tree.SizeofType line (type_name_seen of.now))) scopes.old types.old scopes.new types.new result }
 {
     let of = type_name(alloc, scopes, types, of)?;
     unary::sizeof_type(alloc, types, line, of)
@@ -323,7 +324,7 @@ fn cast(
     a: &Expr,
 ) -> Result<CoreExpr, CheckFault>
     requires { AreSymbolsIn (length types.old.forms) scopes.old.symbols }
-    ensures { Walks core IsIn (expr_in scopes.old types.old (Converted line (type_name_seen to.now) (expr_seen a.now))) scopes.old types.old scopes.new types.new result }
+    ensures { Walks core IsIn (expr_in scopes.old types.old (tree.Cast line (type_name_seen to.now) (expr_seen a.now))) scopes.old types.old scopes.new types.new result }
 {
     let to = type_name(alloc, scopes, types, to)?;
     let a = expression(alloc, scopes, types, a)?;
@@ -340,7 +341,7 @@ fn comma(
     parts: &[Expr],
 ) -> Result<CoreExpr, CheckFault>
     requires { AreSymbolsIn (length types.old.forms) scopes.old.symbols }
-    ensures { Walks core IsIn (expr_in scopes.old types.old (Sequence line (exprs_of (map expr_seen parts.now)))) scopes.old types.old scopes.new types.new result }
+    ensures { Walks core IsIn (expr_in scopes.old types.old (tree.Comma line (exprs_of (map expr_seen parts.now)))) scopes.old types.old scopes.new types.new result }
 {
     let parts = expressions(alloc, scopes, types, parts)?;
     calls::comma(alloc, types, line, parts)

@@ -295,7 +295,7 @@ fn enumeration(
     list: &[Enumerator],
 ) -> Result<Part, CheckFault>
     requires { AreSymbolsIn (length types.old.forms) scopes.old.symbols }
-    ensures { Walks part_seen IsPartIn (part_in scopes.old types.old (tree.Enumeration line tag.now (enumerators_of (map enumerator_seen list.now)) true)) scopes.old types.old scopes.new types.new result }
+    ensures { Walks part_seen IsPartIn (part_in scopes.old types.old (tree.Enum line tag.now (enumerators_of (map enumerator_seen list.now)) true)) scopes.old types.old scopes.new types.new result }
 {
     tags::open_enumeration(alloc, scopes, types, line, tag)?;
     let all = enumerators(alloc, scopes, types, list)?;

@@ -3,7 +3,7 @@ use Rattle.std.proofs.Common.{◌≡◌, ℕ, ◌<◌, Option, None, length, sym
 use Rattle.std.specs.Prelude.{Result, Ok, Err, IsErrAnd}
 use Rattle.c_ast.specs.Seen.{maybe_expr_seen}
 use Rattle.c_ast.specs.declared.expr.Expr.{Expr}
-use Rattle.c_ast.specs.Trees.{AnExpr, Evaluate, ExprTree, MaybeExpr, Return}
+use Rattle.c_ast.specs.Trees.{AnExpr, Expression, ExprTree, MaybeExpr, Return}
 use Rattle.c_symbols.specs.Scoping.{Scoping}
 use Rattle.c_types.specs.Table.{Table, Grows, type_at}
 use Rattle.c_meaning.specs.CoreTrees.{CoreOf, IsIn}
@@ -34,24 +34,24 @@ use Rattle.c_stmt_parts.proofs.lemmas.StatementWalks.{single_goes, single_stops,
 -- ---- an expression
 
 module _ (w : Within) (around : AroundTrees) (s : Scoping) (a : Table) (x : Body) (line : ℕ) (e : ExprTree) where
-  pub evaluate_stops : {u : Scoping} {c : Table} {d : CheckFault} (r : Result CoreStmt CheckFault) → IsErrAnd r (λ y. y ≡ d) → Walks core IsIn (expr_in s a e) s a u c (Err d) → WalksStmt (statement_in (within_in a w) around s a (body_in a x) (Evaluate line (AnExpr e))) s a u c x r
-  evaluate_stops r h p = single_stops (expr_in s a e) line (λ m. node.Evaluate m) (λ m. done (body_in a x) (code.Expression (value m))) (evaluate_is (within_in a w) around s a (body_in a x) line e) x r h p
+  pub evaluate_stops : {u : Scoping} {c : Table} {d : CheckFault} (r : Result CoreStmt CheckFault) → IsErrAnd r (λ y. y ≡ d) → Walks core IsIn (expr_in s a e) s a u c (Err d) → WalksStmt (statement_in (within_in a w) around s a (body_in a x) (Expression line (AnExpr e))) s a u c x r
+  evaluate_stops r h p = single_stops (expr_in s a e) line (λ m. node.Expression m) (λ m. done (body_in a x) (code.Expression (value m))) (evaluate_is (within_in a w) around s a (body_in a x) line e) x r h p
 
   module _ {m : Scoping} {t : Table} {v : CoreOf ℕ} (first : Walks core IsIn (expr_in s a e) s a m t (Ok v)) where
-    pub evaluate_told : {q : Table} (d : CheckFault) (r : Result CoreStmt CheckFault) → IsErrAnd r (λ y. y ≡ d) → Grows t q → IsToldAt t line (node.Evaluate (core t v)) d → WalksStmt (statement_in (within_in a w) around s a (body_in a x) (Evaluate line (AnExpr e))) s a m q x r
-    evaluate_told d r h g told = single_told (expr_in s a e) line (λ m. node.Evaluate m) (λ m. done (body_in a x) (code.Expression (value m))) (evaluate_is (within_in a w) around s a (body_in a x) line e) first d x r h g told
+    pub evaluate_told : {q : Table} (d : CheckFault) (r : Result CoreStmt CheckFault) → IsErrAnd r (λ y. y ≡ d) → Grows t q → IsToldAt t line (node.Expression (core t v)) d → WalksStmt (statement_in (within_in a w) around s a (body_in a x) (Expression line (AnExpr e))) s a m q x r
+    evaluate_told d r h g told = single_told (expr_in s a e) line (λ m. node.Expression m) (λ m. done (body_in a x) (code.Expression (value m))) (evaluate_is (within_in a w) around s a (body_in a x) line e) first d x r h g told
 
-    pub evaluate_goes : {q : Table} (i : IsBodyIn (length a.forms) x) (full : CoreOf ℕ) → Grows t q → IsSound t line (node.Evaluate (core t v)) → core q full ≡ value (core t v) → IsIn (length q.forms) full → WalksStmt (statement_in (within_in a w) around s a (body_in a x) (Evaluate line (AnExpr e))) s a m q x (Ok (stmt.Expression full))
+    pub evaluate_goes : {q : Table} (i : IsBodyIn (length a.forms) x) (full : CoreOf ℕ) → Grows t q → IsSound t line (node.Expression (core t v)) → core q full ≡ value (core t v) → IsIn (length q.forms) full → WalksStmt (statement_in (within_in a w) around s a (body_in a x) (Expression line (AnExpr e))) s a m q x (Ok (stmt.Expression full))
     evaluate_goes {q = q} i full g sound k within =
         let h = extends_on a t q first.keeps.extends g.extends in
-        single_goes (expr_in s a e) line (λ m. node.Evaluate m) (λ m. done (body_in a x) (code.Expression (value m))) (evaluate_is (within_in a w) around s a (body_in a x) line e) first x (stmt.Expression full) g sound
+        single_goes (expr_in s a e) line (λ m. node.Expression m) (λ m. done (body_in a x) (code.Expression (value m))) (evaluate_is (within_in a w) around s a (body_in a x) line e) first x (stmt.Expression full) g sound
         (expression_code a q h x i (value (core t v)) full k) (expression_code_within a q h x i full within)
 
 -- no expression
 pub evaluate_none : (w : Within) (around : AroundTrees) (s : Scoping) (a : Table) (x : Body) (line : ℕ) (e : Option Expr) → e ≡ None → AreSymbolsIn (length a.forms) s.symbols → IsBodyIn (length a.forms) x
-    → WalksStmt (statement_in (within_in a w) around s a (body_in a x) (Evaluate line (maybe_expr_seen e))) s a s a x (Ok stmt.Nothing)
+    → WalksStmt (statement_in (within_in a w) around s a (body_in a x) (Expression line (maybe_expr_seen e))) s a s a x (Ok stmt.Nothing)
 evaluate_none w around s a x line e h known within =
-    subst (λ m. WalksStmt (statement_in (within_in a w) around s a (body_in a x) (Evaluate line m)) s a s a x (Ok stmt.Nothing)) (sym (ap maybe_expr_seen h)) (nothing_walk (within_in a w) around s a x line known within)
+    subst (λ m. WalksStmt (statement_in (within_in a w) around s a (body_in a x) (Expression line m)) s a s a x (Ok stmt.Nothing)) (sym (ap maybe_expr_seen h)) (nothing_walk (within_in a w) around s a x line known within)
 
 -- ---- what is returned
 

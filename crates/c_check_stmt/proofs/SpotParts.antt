@@ -1,7 +1,7 @@
 -- Statements with one part before a statement, at the place where they stand.
 use Rattle.std.proofs.Common.{◌≡◌, ℕ, List}
 use Rattle.c_ast.specs.Seen.{expr_seen, maybe_expr_seen}
-use Rattle.c_ast.specs.Trees.{Case, Default, For, If, Labelled, Switch, While}
+use Rattle.c_ast.specs.Trees.{Case, Default, For, If, Label, Switch, While}
 use Rattle.c_ast.specs.declared.expr.Expr.{Expr}
 use Rattle.c_ast.specs.declared.statement.Statement.{Statement}
 use Rattle.std.specs.Prelude.{Option}
@@ -20,7 +20,7 @@ use Rattle.c_stmt_parts.proofs.lemmas.StatementWalks.{Parts}
 use Rattle.c_check_stmt.specs.declared.spot.Spot.{Spot}
 
 module _ (p : Spot) (s : Scoping) (a : Table) (x : Body) (st : Statement) where
-  abbrev pub labelled_at : (name : List ℕ) → Parts ℕ p.within.now a (statement_in (within_in a p.within.now) (around_seen p.around) s a (body_in a x) (Labelled p.line name (statement_seen st)))
+  abbrev pub labelled_at : (name : List ℕ) → Parts ℕ p.within.now a (statement_in (within_in a p.within.now) (around_seen p.around) s a (body_in a x) (Label p.line name (statement_seen st)))
   labelled_at name = labelled_parts p.within.now (around_seen p.around) s a x p.line (statement_seen st) name
 
   abbrev pub default_at : Parts ℕ p.within.now a (statement_in (within_in a p.within.now) (around_seen p.around) s a (body_in a x) (Default p.line (statement_seen st)))

@@ -36,7 +36,7 @@ pub(crate) fn end_label(
     mark: Mark,
     code: CoreStmt,
 ) -> Result<CoreStmt, CheckFault>
-    ensures { (t : Table) → IsStmtIn (length t.forms) (stmt_of code) → Ends t line (node.Labelled mark.again) (tree.Label mark.number (stmt_in t code)) t result }
+    ensures { (t : Table) → IsStmtIn (length t.forms) (stmt_of code) → Ends t line (node.Label mark.again) (tree.Label mark.number (stmt_in t code)) t result }
 {
     label(mark.again, line)?;
     let boxed = Box::new(alloc, code)?;

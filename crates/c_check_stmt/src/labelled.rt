@@ -1,6 +1,6 @@
 //! Labels, cases and defaults (C89 3.6.1).
 ghost use Rattle.std.specs.Prelude.{length};
-ghost use Rattle.c_ast.specs.Trees.{Case, Default, Labelled};
+ghost use Rattle.c_ast.specs.Trees.{Case, Default, Label};
 ghost use Rattle.c_ast.specs.Seen.{expr_seen};
 ghost use Rattle.c_check_expr.specs.Known.{AreSymbolsIn};
 ghost use Rattle.c_stmt_parts.specs.BodiesSeen.{around_seen, body_in, within_in};
@@ -31,7 +31,7 @@ pub(crate) fn labelled(
 ) -> Result<CoreStmt, CheckFault>
     requires symbols { AreSymbolsIn (length types.old.forms) scopes.old.symbols }
     requires ready { IsReady types.old spot.now.within.now body.old }
-    ensures { WalksStmt (statement_in (within_in types.old spot.now.within.now) (around_seen spot.now.around) scopes.old types.old (body_in types.old body.old) (Labelled spot.now.line name.now (statement_seen s.now))) scopes.old types.old scopes.new types.new body.new result }
+    ensures { WalksStmt (statement_in (within_in types.old spot.now.within.now) (around_seen spot.now.around) scopes.old types.old (body_in types.old body.old) (Label spot.now.line name.now (statement_seen s.now))) scopes.old types.old scopes.new types.new body.new result }
 {
     let again = is_again(body, spot.within, name);
     let number = body.mark()?;

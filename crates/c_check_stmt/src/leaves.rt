@@ -1,6 +1,7 @@
 //! Statements without statements in them that have an expression (C89 3.6.3, 3.6.6.4).
 ghost use Rattle.std.specs.Prelude.{length};
-ghost use Rattle.c_ast.specs.Trees.{AnExpr, Evaluate, Return};
+ghost use Rattle.c_ast.specs.Trees.{AnExpr, Return};
+ghost use Rattle.c_ast.specs.Trees as tree;
 ghost use Rattle.c_ast.specs.Seen.{expr_seen, maybe_expr_seen};
 ghost use Rattle.c_check_expr.specs.Known.{AreSymbolsIn};
 ghost use Rattle.c_stmt_parts.specs.BodiesSeen.{around_seen, body_in, within_in};
@@ -26,7 +27,7 @@ pub(crate) fn evaluate(
 ) -> Result<CoreStmt, CheckFault>
     requires symbols { AreSymbolsIn (length types.old.forms) scopes.old.symbols }
     requires ready { IsReady types.old spot.now.within.now body.old }
-    ensures { WalksStmt (statement_in (within_in types.old spot.now.within.now) (around_seen spot.now.around) scopes.old types.old (body_in types.old body.old) (Evaluate spot.now.line (maybe_expr_seen e.now))) scopes.old types.old scopes.new types.new body.new result }
+    ensures { WalksStmt (statement_in (within_in types.old spot.now.within.now) (around_seen spot.now.around) scopes.old types.old (body_in types.old body.old) (tree.Expression spot.now.line (maybe_expr_seen e.now))) scopes.old types.old scopes.new types.new body.new result }
 {
     match e {
         Some(e) => evaluate_expression(scopes, types, body, spot, e),
@@ -44,7 +45,7 @@ fn evaluate_expression(
 ) -> Result<CoreStmt, CheckFault>
     requires symbols { AreSymbolsIn (length types.old.forms) scopes.old.symbols }
     requires ready { IsReady types.old spot.now.within.now body.old }
-    ensures { WalksStmt (statement_in (within_in types.old spot.now.within.now) (around_seen spot.now.around) scopes.old types.old (body_in types.old body.old) (Evaluate spot.now.line (AnExpr (expr_seen e.now)))) scopes.old types.old scopes.new types.new body.new result }
+    ensures { WalksStmt (statement_in (within_in types.old spot.now.within.now) (around_seen spot.now.around) scopes.old types.old (body_in types.old body.old) (tree.Expression spot.now.line (AnExpr (expr_seen e.now)))) scopes.old types.old scopes.new types.new body.new result }
 {
     let alloc = body.alloc;
     let c = expression(alloc, scopes, types, e)?;

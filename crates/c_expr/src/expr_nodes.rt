@@ -1,6 +1,7 @@
 //! Expressions made of their parts.
 ghost use Rattle.std.specs.Prelude.{◌≡◌, map, IfOk};
-ghost use Rattle.c_ast.specs.Trees.{Variable, IntegerConstant, CharacterConstant, Literal, Enclosed, Prefixed, SizedExpr, SizedType, Converted, Sequence};
+ghost use Rattle.c_ast.specs.Trees.{Enclosed};
+ghost use Rattle.c_ast.specs.Trees as tree;
 ghost use Rattle.c_ast.specs.Views.{exprs_of};
 ghost use Rattle.c_readings.specs.Links.{linked};
 ghost use Rattle.c_expr.specs.Links.{link_of};
@@ -14,7 +15,7 @@ use std::alloc::Global;
 /// A name.
 #[tactic(auto, using(c_ast::proofs::lemmas::SeenExprs::expr_forms))]
 pub(crate) fn variable(line: u32, name: Bytes) -> Expr
-    ensures { expr_seen result ≡ Variable line name }
+    ensures { expr_seen result ≡ tree.Name line name }
 {
     Expr {
         line,
@@ -25,7 +26,7 @@ pub(crate) fn variable(line: u32, name: Bytes) -> Expr
 /// An integer constant.
 #[tactic(auto, using(c_ast::proofs::lemmas::SeenExprs::expr_forms))]
 pub(crate) fn integer(line: u32, value: u32, kind: IntKind) -> Expr
-    ensures { expr_seen result ≡ IntegerConstant line value kind }
+    ensures { expr_seen result ≡ tree.Integer line value kind }
 {
     Expr {
         line,
@@ -36,7 +37,7 @@ pub(crate) fn integer(line: u32, value: u32, kind: IntKind) -> Expr
 /// A character constant.
 #[tactic(auto, using(c_ast::proofs::lemmas::SeenExprs::expr_forms))]
 pub(crate) fn character(line: u32, value: i32) -> Expr
-    ensures { expr_seen result ≡ CharacterConstant line value }
+    ensures { expr_seen result ≡ tree.Character line value }
 {
     Expr {
         line,
@@ -47,7 +48,7 @@ pub(crate) fn character(line: u32, value: i32) -> Expr
 /// String literals side by side.
 #[tactic(auto, using(c_ast::proofs::lemmas::SeenExprs::expr_forms))]
 pub(crate) fn literal(line: u32, texts: Items<Bytes>) -> Expr
-    ensures { expr_seen result ≡ Literal line texts }
+    ensures { expr_seen result ≡ tree.Text line texts }
 {
     Expr {
         line,
@@ -58,7 +59,7 @@ pub(crate) fn literal(line: u32, texts: Items<Bytes>) -> Expr
 /// Expressions with commas between.
 #[tactic(auto, using(c_ast::proofs::lemmas::SeenExprs::expr_forms))]
 pub(crate) fn sequence(line: u32, parts: Items<Expr>) -> Expr
-    ensures { expr_seen result ≡ Sequence line (exprs_of (map expr_seen parts)) }
+    ensures { expr_seen result ≡ tree.Comma line (exprs_of (map expr_seen parts)) }
 {
     Expr {
         line,
@@ -83,7 +84,7 @@ pub(crate) fn prefixed(
     operator: PrefixOperator,
     inside: Expr,
 ) -> Result<Expr, Memory>
-    ensures { IfOk result (λ e. expr_seen e ≡ Prefixed line operator (expr_seen inside)) }
+    ensures { IfOk result (λ e. expr_seen e ≡ tree.Prefix line operator (expr_seen inside)) }
 {
     let form = ExprForm::Prefix(operator, Box::new(alloc, inside)?);
     Ok(Expr { line, form })
@@ -92,7 +93,7 @@ pub(crate) fn prefixed(
 /// `sizeof` before an operand.
 #[tactic(auto, using(c_ast::proofs::lemmas::SeenExprs::expr_forms))]
 pub(crate) fn sized_expr(alloc: Global, line: u32, inside: Expr) -> Result<Expr, Memory>
-    ensures { IfOk result (λ e. expr_seen e ≡ SizedExpr line (expr_seen inside)) }
+    ensures { IfOk result (λ e. expr_seen e ≡ tree.SizeofExpr line (expr_seen inside)) }
 {
     let form = ExprForm::SizeofExpr(Box::new(alloc, inside)?);
     Ok(Expr { line, form })
@@ -101,7 +102,7 @@ pub(crate) fn sized_expr(alloc: Global, line: u32, inside: Expr) -> Result<Expr,
 /// `sizeof` before a type's name in parentheses.
 #[tactic(auto, using(c_ast::proofs::lemmas::SeenExprs::expr_forms))]
 pub(crate) fn sized_type(alloc: Global, line: u32, name: TypeName) -> Result<Expr, Memory>
-    ensures { IfOk result (λ e. expr_seen e ≡ SizedType line (type_name_seen name)) }
+    ensures { IfOk result (λ e. expr_seen e ≡ tree.SizeofType line (type_name_seen name)) }
 {
     let form = ExprForm::SizeofType(Box::new(alloc, name)?);
     Ok(Expr { line, form })
@@ -110,7 +111,7 @@ pub(crate) fn sized_type(alloc: Global, line: u32, name: TypeName) -> Result<Exp
 /// A cast.
 #[tactic(auto, using(c_ast::proofs::lemmas::SeenExprs::expr_forms))]
 pub(crate) fn cast(alloc: Global, line: u32, name: TypeName, inside: Expr) -> Result<Expr, Memory>
-    ensures { IfOk result (λ e. expr_seen e ≡ Converted line (type_name_seen name) (expr_seen inside)) }
+    ensures { IfOk result (λ e. expr_seen e ≡ tree.Cast line (type_name_seen name) (expr_seen inside)) }
 {
     let name = Box::new(alloc, name)?;
     let form = ExprForm::Cast(name, Box::new(alloc, inside)?);

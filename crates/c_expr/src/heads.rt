@@ -5,7 +5,7 @@ ghost use Rattle.c_lexer.specs.PlacedTokens.{placed};
 ghost use Rattle.c_readings.specs.Readers.{cast, enclosed, head, prefixed_by, readers, signed_by, sized, texts_on};
 ghost use Rattle.c_ast.specs.InForce.{is_typedef};
 ghost use Rattle.c_ast.specs.Marks.{IsSized};
-ghost use Rattle.c_ast.specs.Trees.{Variable};
+ghost use Rattle.c_ast.specs.Trees as tree;
 ghost use Rattle.c_lexer.specs.SourceUnits.{bytes_of};
 ghost use Rattle.c_lexer.specs.Texts.{text_of};
 ghost use Rattle.c_readings.specs.Reading.{answer};
@@ -123,7 +123,7 @@ fn variable_at<'t>(
     rest: &'t [Token],
 ) -> Result<Found<'t, Expr>, Stop>
     ensures plain { IfOk result (λ f. is_typedef names.now (bytes_of text.now token) ≡ false) }
-    ensures tree { IfOk result (λ f. expr_seen f.tree ≡ Variable token.line (bytes_of text.now token)) }
+    ensures tree { IfOk result (λ f. expr_seen f.tree ≡ tree.Name token.line (bytes_of text.now token)) }
     ensures rest { IfOk result (λ f. f.rest.now ≡ rest.now) }
     ensures height { IfOk result (λ f. f.height ≡ 1) }
     ensures err { IfErr result (λ e. (e ≡ NoMemory) ⊎ (is_typedef names.now (bytes_of text.now token) ≡ true)) }

@@ -1,6 +1,7 @@
 //! Specifiers, members, declarators and parameters made of their parts.
 ghost use Rattle.std.specs.Prelude.{◌≡◌, map, IfOk};
-ghost use Rattle.c_ast.specs.Trees.{TypeNamed, Specified, Stored, Qualified, Basic, Record, RecordTag, Enumeration, EnumerationTag, NamedType, Members, Field, Named, Inner, ArraySuffix, Prototype, NameList, NoParameters};
+ghost use Rattle.c_ast.specs.Trees.{TypeNamed, Specified, Stored, Qualified, Basic, Record, RecordTag, NamedType, Members, Field, Named, Inner, ArraySuffix, Prototype, NameList, NoParameters};
+ghost use Rattle.c_ast.specs.Trees as tree;
 ghost use Rattle.c_ast.specs.Trees.{Declarator as DeclaratorNode, Enumerator as EnumeratorNode, Omitted as NoName, Parameter as ParameterNode};
 ghost use Rattle.c_ast.specs.Views.{enumerators_of, fields_of, members_of, parameters_of, specifier_list_of, suffixes_of};
 ghost use Rattle.c_ast.specs.Seen.{core_seen, declarator_seen, enumerator_seen, field_seen, maybe_declarator_seen, maybe_expr_seen, member_seen, parameter_seen, specifier_seen, specifiers_seen, suffix_seen, type_name_seen};
@@ -92,7 +93,7 @@ pub(crate) fn enumeration(
     enumerators: Items<Enumerator>,
     comma: bool,
 ) -> Specifier
-    ensures { specifier_seen result ≡ Enumeration line tag (enumerators_of (map enumerator_seen enumerators)) comma }
+    ensures { specifier_seen result ≡ tree.Enum line tag (enumerators_of (map enumerator_seen enumerators)) comma }
 {
     Specifier {
         line,
@@ -107,7 +108,7 @@ pub(crate) fn enumeration(
 /// The tag of an enumeration.
 #[tactic(auto, using(c_ast::proofs::lemmas::SeenTypes::specifier_forms))]
 pub(crate) fn enumeration_tag(line: u32, tag: Bytes) -> Specifier
-    ensures { specifier_seen result ≡ EnumerationTag line tag }
+    ensures { specifier_seen result ≡ tree.EnumTag line tag }
 {
     Specifier {
         line,

@@ -88,9 +88,9 @@ value_types (Cores c cs) = value_type c ∷ value_types cs
 
 -- the types of the values of the parts of an expression whose values it uses
 abbrev pub operand_types : ExprNode → List CType
-operand_types (node.Subscript a i) = value_type a ∷ value_type i ∷ []
+operand_types (node.Index a i) = value_type a ∷ value_type i ∷ []
 operand_types (node.Call f arguments) = value_type f ∷ value_types arguments
-operand_types (node.Select member.Arrow a x) = value_type a ∷ []
+operand_types (node.Member member.Arrow a x) = value_type a ∷ []
 operand_types (node.Prefix op a) = value_type a ∷ []
 operand_types (node.Cast to a) = value_type a ∷ []
 operand_types (node.Binary op a b) = value_type a ∷ value_type b ∷ []

@@ -4,7 +4,7 @@ use Rattle.c_ast.specs.declared.class.IntKind.TheVariants as int_kind
 use Rattle.c_ast.specs.declared.specifier.BasicType.TheVariants as word
 use Rattle.c_ast.specs.declared.specifier.RecordKind.TheVariants as record_kind
 use Rattle.c_ast.specs.declared.specifier.Storage.{Storage as StorageClass}
-use Rattle.c_ast.specs.Trees.{ExprTree, IntegerConstant, Specified, SpecifierTree, Stored, Basic, Record, RecordTag, SpecifierTrees, NoSpecifiers, Specifiers, Members, NoMembers, MoreMembers, Field, NoFields, Fields, NoExpr, AnExpr, ADeclarator, DeclaratorTree, Declarator, Named, SuffixTree, ArraySuffix, NoParameters, NoSuffixes, Suffixes, InitialiserTree, ByExpr, Braced, InitialiserTrees, NoInitialisers, Initialisers, InitTree, DeclarationTree}
+use Rattle.c_ast.specs.Trees.{ExprTree, Integer, Specified, SpecifierTree, Stored, Basic, Record, RecordTag, SpecifierTrees, NoSpecifiers, Specifiers, Members, NoMembers, MoreMembers, Field, NoFields, Fields, NoExpr, AnExpr, ADeclarator, DeclaratorTree, Declarator, Named, SuffixTree, ArraySuffix, NoParameters, NoSuffixes, Suffixes, InitialiserTree, ByExpr, Braced, InitialiserTrees, NoInitialisers, Initialisers, InitTree, DeclarationTree}
 use Rattle.c_symbols.specs.Scoping.{symbol_named}
 use Rattle.c_types.specs.CType.{CType}
 use Rattle.c_meaning.specs.StmtTrees.{StmtOf, Initialise}
@@ -38,7 +38,7 @@ abbrev pub formed : List ℕ → SuffixTree → DeclaratorTree
 formed x suffix = Declarator 1 [] (Named x) (Suffixes suffix NoSuffixes)
 
 abbrev pub number : ℕ → ExprTree
-number n = IntegerConstant 1 n int_kind.Int
+number n = Integer 1 n int_kind.Int
 
 abbrev pub array : List ℕ → ℕ → DeclaratorTree
 array x n = formed x (ArraySuffix 1 (AnExpr (number n)))

@@ -118,8 +118,8 @@ typed_inits s line b (i ∷ is) = then_do (typed_init s line b i) (λ s one. the
 abbrev pub declares_tag : SpecifierTree → Bool
 declares_tag (tree.Record line k tag ms) = is_some tag
 declares_tag (tree.RecordTag line k tag) = true
-declares_tag (tree.Enumeration line tag es comma) = true
-declares_tag (tree.EnumerationTag line tag) = true
+declares_tag (tree.Enum line tag es comma) = true
+declares_tag (tree.EnumTag line tag) = true
 declares_tag s = false
 
 abbrev pub declare_tag : SpecifierTrees → Bool

@@ -107,7 +107,7 @@ points_to_object tags t = is_pointer t && has_size tags (target t)
 
 -- 32: a subscript isn't a pointer to an object and an integer
 abbrev pub is_no_subscript : State → ExprNode → Bool
-is_no_subscript s (node.Subscript a i) =
+is_no_subscript s (node.Index a i) =
     not
     ((points_to_object s.tags (value_type a) && is_integer (value_type i))
     || (is_integer (value_type a) && points_to_object s.tags (value_type i)))
@@ -119,7 +119,7 @@ has_no_member tags member.Arrow a x = not (is_pointer (value_type a)) || is_none
 
 -- 33: `.` or `->` has no structure or union before it, or no such member
 abbrev pub selects_nothing : State → ExprNode → Bool
-selects_nothing s (node.Select op a x) = has_no_member s.tags op a x
+selects_nothing s (node.Member op a x) = has_no_member s.tags op a x
 selects_nothing s n = false
 
 -- an lvalue of an object that may be changed: no array, not incomplete, and nothing of it const (C89 3.2.2.1)

@@ -3,7 +3,7 @@
 -- aggregate, that aggregate's parts stand in its stead.
 -- Source: C89 3.5.7.
 use Rattle.std.specs.Prelude.{ℕ, zero, suc, ◌+◌, ◌*◌, ◌==◌, ◌&&◌, ◌||◌, not, Bool, true, false, Option, Some, None, List, [], ◌∷◌, ◌++◌, length, map, is_none, if◌then◌else◌}
-use Rattle.c_ast.specs.Trees.{ExprTree, Literal, Enclosed, ByExpr, InitialiserTrees, Initialisers}
+use Rattle.c_ast.specs.Trees.{ExprTree, Text, Enclosed, ByExpr, InitialiserTrees, Initialisers}
 use Rattle.c_meaning.specs.declared.core_expr.CoreKind.{CoreKind}
 use Rattle.c_meaning.specs.declared.core_expr.CoreKind.TheVariants as kind
 use Rattle.c_types.specs.CType.{Char, SignedChar, UnsignedChar, CType, Plain, Array, Kind, Simple, Structure, Union}
@@ -159,7 +159,7 @@ next tags (Elements of begin index count ∷ ws) =
 -- ---- lists in braces
 
 abbrev pub is_literal : ExprTree → Bool
-is_literal (Literal line texts) = true
+is_literal (Text line texts) = true
 is_literal (Enclosed line e) = is_literal e
 is_literal e = false
 

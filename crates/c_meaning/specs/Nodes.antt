@@ -23,9 +23,9 @@ pub data ExprNode : Type 0 where
   Integer : (value : ℕ) (kind : IntKind) → ExprNode
   Character : (value : ℤ) → ExprNode
   Text : (texts : List (List ℕ)) → ExprNode
-  Subscript : (a i : CoreTree) → ExprNode
+  Index : (a i : CoreTree) → ExprNode
   Call : (callee : CoreTree) (arguments : CoreTrees) → ExprNode
-  Select : (op : MemberOperator) (a : CoreTree) (name : List ℕ) → ExprNode
+  Member : (op : MemberOperator) (a : CoreTree) (name : List ℕ) → ExprNode
   Postfix : (op : PostfixOperator) (a : CoreTree) → ExprNode
   Prefix : (op : PrefixOperator) (a : CoreTree) → ExprNode
   SizeofExpr : (a : CoreTree) → ExprNode

@@ -1,7 +1,7 @@
 -- The nodes of a construct in postorder, each behind its parts, as far as these are typed, and the first of them that breaks
 -- a constraint or passes a limit.
 use Rattle.std.specs.Prelude.{ℕ, ℤ, pos, ◌+◌, ◌+ℤ◌, Bool, true, false, Option, Some, None, List, [], ◌∷◌, ◌++◌, is_none}
-use Rattle.c_ast.specs.Trees.{ExprTree, Variable, IntegerConstant, CharacterConstant, Literal, Enclosed, Subscript, Called, Selected, Stepped, Prefixed, SizedExpr, SizedType, Converted, Combined, Chosen, Assigned, Sequence, ExprTrees, NoExprs, Exprs, MaybeExpr, NoExpr, AnExpr, TypeNameTree, TypeNamed, SpecifiersTree, SpecifierTree, SpecifierTrees, NoSpecifiers, Specifiers, MemberTree, Members, MemberTrees, NoMembers, MoreMembers, FieldTree, Field, FieldTrees, NoFields, Fields, EnumeratorTree, Enumerator, EnumeratorTrees, NoEnumerators, Enumerators, DeclaratorTree, Declarator, MaybeDeclarator, NoDeclarator, ADeclarator, CoreTree, Named, Inner, Omitted, SuffixTree, ArraySuffix, Prototype, NameList, NoParameters, SuffixTrees, NoSuffixes, Suffixes, ParameterTree, Parameter, ParameterTrees, NoParameter, Parameters}
+use Rattle.c_ast.specs.Trees.{ExprTree, Name, Integer, Character, Text, Enclosed, Index, Call, Member, Postfix, Prefix, SizeofExpr, SizeofType, Cast, Binary, Conditional, Assign, Comma, ExprTrees, NoExprs, Exprs, MaybeExpr, NoExpr, AnExpr, TypeNameTree, TypeNamed, SpecifiersTree, SpecifierTree, SpecifierTrees, NoSpecifiers, Specifiers, MemberTree, Members, MemberTrees, NoMembers, MoreMembers, FieldTree, Field, FieldTrees, NoFields, Fields, EnumeratorTree, Enumerator, EnumeratorTrees, NoEnumerators, Enumerators, DeclaratorTree, Declarator, MaybeDeclarator, NoDeclarator, ADeclarator, CoreTree, Named, Inner, Omitted, SuffixTree, ArraySuffix, Prototype, NameList, NoParameters, SuffixTrees, NoSuffixes, Suffixes, ParameterTree, Parameter, ParameterTrees, NoParameter, Parameters}
 use Rattle.c_ast.specs.Trees as tree
 use Rattle.c_types.specs.CType.{CType}
 use Rattle.c_types.specs.Layout.{MemberType}
@@ -41,28 +41,28 @@ callee_places s l x true places = expr_place s l (node.NewFunction x)
 callee_places s l x false places = places
 
 abbrev pub callee_nodes : State → ExprTree → List Place → List Place
-callee_nodes s (Variable l x) places = callee_places s l x (is_none (place_of s x)) places
+callee_nodes s (Name l x) places = callee_places s l x (is_none (place_of s x)) places
 callee_nodes s e places = places
 
 abbrev mutual
   pub nodes : State → ExprTree → List Place
-  nodes s (Variable l x) = expr_place s l (node.Name x)
-  nodes s (IntegerConstant l n k) = expr_place s l (node.Integer n k)
-  nodes s (CharacterConstant l z) = expr_place s l (node.Character z)
-  nodes s (Literal l texts) = expr_place s l (node.Text texts)
+  nodes s (Name l x) = expr_place s l (node.Name x)
+  nodes s (Integer l n k) = expr_place s l (node.Integer n k)
+  nodes s (Character l z) = expr_place s l (node.Character z)
+  nodes s (Text l texts) = expr_place s l (node.Text texts)
   nodes s (Enclosed l e) = nodes s e
-  nodes s (Subscript l a i) = visit (nodes s a) (typed s a) (λ s c. visit (nodes s i) (typed s i) (λ s d. expr_place s l (node.Subscript c d)))
-  nodes s (Called l f es) = visit (callee_nodes s f (nodes s f)) (callee s f (typed s f)) (λ s c. visit (all_nodes s es) (all_typed s es) (λ s cs. expr_place s l (node.Call c cs)))
-  nodes s (Selected l op a x) = visit (nodes s a) (typed s a) (λ s c. expr_place s l (node.Select op c x))
-  nodes s (Stepped l op a) = visit (nodes s a) (typed s a) (λ s c. expr_place s l (node.Postfix op c))
-  nodes s (Prefixed l op a) = visit (nodes s a) (typed s a) (λ s c. expr_place s l (node.Prefix op c))
-  nodes s (SizedExpr l a) = visit (nodes s a) (typed s a) (λ s c. expr_place s l (node.SizeofExpr c))
-  nodes s (SizedType l t) = visit (name_nodes s t) (typed_name s t) (λ s of. expr_place s l (node.SizeofType of))
-  nodes s (Converted l t a) = visit (name_nodes s t) (typed_name s t) (λ s to. visit (nodes s a) (typed s a) (λ s c. expr_place s l (node.Cast to c)))
-  nodes s (Combined l op a b) = visit (nodes s a) (typed s a) (λ s c. visit (nodes s b) (typed s b) (λ s d. expr_place s l (node.Binary op c d)))
-  nodes s (Chosen l a b c) = visit (nodes s a) (typed s a) (λ s u. visit (nodes s b) (typed s b) (λ s v. visit (nodes s c) (typed s c) (λ s w. expr_place s l (node.Conditional u v w))))
-  nodes s (Assigned l op a b) = visit (nodes s a) (typed s a) (λ s c. visit (nodes s b) (typed s b) (λ s d. expr_place s l (node.Assign op c d)))
-  nodes s (Sequence l es) = visit (all_nodes s es) (all_typed s es) (λ s cs. expr_place s l (node.Comma cs))
+  nodes s (Index l a i) = visit (nodes s a) (typed s a) (λ s c. visit (nodes s i) (typed s i) (λ s d. expr_place s l (node.Index c d)))
+  nodes s (Call l f es) = visit (callee_nodes s f (nodes s f)) (callee s f (typed s f)) (λ s c. visit (all_nodes s es) (all_typed s es) (λ s cs. expr_place s l (node.Call c cs)))
+  nodes s (Member l op a x) = visit (nodes s a) (typed s a) (λ s c. expr_place s l (node.Member op c x))
+  nodes s (Postfix l op a) = visit (nodes s a) (typed s a) (λ s c. expr_place s l (node.Postfix op c))
+  nodes s (Prefix l op a) = visit (nodes s a) (typed s a) (λ s c. expr_place s l (node.Prefix op c))
+  nodes s (SizeofExpr l a) = visit (nodes s a) (typed s a) (λ s c. expr_place s l (node.SizeofExpr c))
+  nodes s (SizeofType l t) = visit (name_nodes s t) (typed_name s t) (λ s of. expr_place s l (node.SizeofType of))
+  nodes s (Cast l t a) = visit (name_nodes s t) (typed_name s t) (λ s to. visit (nodes s a) (typed s a) (λ s c. expr_place s l (node.Cast to c)))
+  nodes s (Binary l op a b) = visit (nodes s a) (typed s a) (λ s c. visit (nodes s b) (typed s b) (λ s d. expr_place s l (node.Binary op c d)))
+  nodes s (Conditional l a b c) = visit (nodes s a) (typed s a) (λ s u. visit (nodes s b) (typed s b) (λ s v. visit (nodes s c) (typed s c) (λ s w. expr_place s l (node.Conditional u v w))))
+  nodes s (Assign l op a b) = visit (nodes s a) (typed s a) (λ s c. visit (nodes s b) (typed s b) (λ s d. expr_place s l (node.Assign op c d)))
+  nodes s (Comma l es) = visit (all_nodes s es) (all_typed s es) (λ s cs. expr_place s l (node.Comma cs))
 
   pub all_nodes : State → ExprTrees → List Place
   all_nodes s NoExprs = []
@@ -95,8 +95,8 @@ abbrev mutual
   part_nodes s (tree.Basic l word) = []
   part_nodes s (tree.NamedType l x) = []
   part_nodes s (tree.RecordTag l k tag) = type_place s l (node.RecordTag k tag)
-  part_nodes s (tree.EnumerationTag l tag) = type_place s l (node.EnumerationTag tag)
-  part_nodes s (tree.Enumeration l tag es comma) = visit (enumerators_nodes (awaited s l tag) (pos 0) es) (typed_enumerators (awaited s l tag) (pos 0) es) (λ s next. type_place s l (node.Enumeration tag))
+  part_nodes s (tree.EnumTag l tag) = type_place s l (node.EnumerationTag tag)
+  part_nodes s (tree.Enum l tag es comma) = visit (enumerators_nodes (awaited s l tag) (pos 0) es) (typed_enumerators (awaited s l tag) (pos 0) es) (λ s next. type_place s l (node.Enumeration tag))
   part_nodes s (tree.Record l k tag ms) = visit (members_nodes (opened s l k tag).state [] ms) (typed_members (opened s l k tag).state [] ms) (λ t members. type_place t l (node.Record k tag (number_of (opened s l k tag).of) members))
 
   -- the members behind others

@@ -193,7 +193,7 @@ abbrev pub pointed : CoreTree → CoreTree
 pointed e = row sample 1 (node.Prefix prefix.Indirect e)
 
 abbrev pub select : CoreTree → List ℕ → CoreTree
-select e n = row sample 1 (node.Select member.Dot e n)
+select e n = row sample 1 (node.Member member.Dot e n)
 
 abbrev pub cast : CType → CoreTree → CoreTree
 cast to e = row sample 1 (node.Cast to e)

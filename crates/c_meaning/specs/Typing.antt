@@ -2,7 +2,7 @@
 -- Source: C89 3.3, 3.5.2 to 3.5.5.
 use Rattle.std.specs.Prelude.{ℕ, ℤ, pos, ◌+◌, ◌+ℤ◌, Bool, true, false, not, Option, Some, None, List, [], ◌∷◌, ◌++◌, reverse, is_none}
 use Rattle.c_ast.specs.declared.specifier.RecordKind.{RecordKind}
-use Rattle.c_ast.specs.Trees.{ExprTree, Variable, IntegerConstant, CharacterConstant, Literal, Enclosed, Subscript, Called, Selected, Stepped, Prefixed, SizedExpr, SizedType, Converted, Combined, Chosen, Assigned, Sequence, ExprTrees, NoExprs, Exprs, MaybeExpr, NoExpr, AnExpr, TypeNameTree, TypeNamed, SpecifiersTree, SpecifierTree, SpecifierTrees, NoSpecifiers, Specifiers, MemberTree, Members, MemberTrees, NoMembers, MoreMembers, FieldTree, Field, FieldTrees, NoFields, Fields, EnumeratorTree, Enumerator, EnumeratorTrees, NoEnumerators, Enumerators, DeclaratorTree, Declarator, MaybeDeclarator, NoDeclarator, ADeclarator, CoreTree, Named, Inner, Omitted, SuffixTree, ArraySuffix, Prototype, NameList, NoParameters, SuffixTrees, NoSuffixes, Suffixes, ParameterTree, Parameter, ParameterTrees, NoParameter, Parameters}
+use Rattle.c_ast.specs.Trees.{ExprTree, Name, Integer, Character, Text, Enclosed, Index, Call, Member, Postfix, Prefix, SizeofExpr, SizeofType, Cast, Binary, Conditional, Assign, Comma, ExprTrees, NoExprs, Exprs, MaybeExpr, NoExpr, AnExpr, TypeNameTree, TypeNamed, SpecifiersTree, SpecifierTree, SpecifierTrees, NoSpecifiers, Specifiers, MemberTree, Members, MemberTrees, NoMembers, MoreMembers, FieldTree, Field, FieldTrees, NoFields, Fields, EnumeratorTree, Enumerator, EnumeratorTrees, NoEnumerators, Enumerators, DeclaratorTree, Declarator, MaybeDeclarator, NoDeclarator, ADeclarator, CoreTree, Named, Inner, Omitted, SuffixTree, ArraySuffix, Prototype, NameList, NoParameters, SuffixTrees, NoSuffixes, Suffixes, ParameterTree, Parameter, ParameterTrees, NoParameter, Parameters}
 use Rattle.c_ast.specs.Trees as tree
 use Rattle.c_types.specs.CType.{CType, basic, Int}
 use Rattle.c_types.specs.Layout.{MemberType}
@@ -73,7 +73,7 @@ callee_named s l x false typed = typed
 
 -- what is called, where it is this without its being called
 abbrev pub callee : State → ExprTree → Outcome values.CoreTree → Outcome values.CoreTree
-callee s (Variable l x) typed = callee_named s l x (is_none (place_of s x)) typed
+callee s (Name l x) typed = callee_named s l x (is_none (place_of s x)) typed
 callee s e typed = typed
 
 -- what a tag names, at its node
@@ -87,23 +87,23 @@ at_record s line k tag number ms =
 
 abbrev mutual
   pub typed : State → ExprTree → Outcome values.CoreTree
-  typed s (Variable l x) = at_expr s l (node.Name x)
-  typed s (IntegerConstant l n k) = at_expr s l (node.Integer n k)
-  typed s (CharacterConstant l z) = at_expr s l (node.Character z)
-  typed s (Literal l texts) = at_expr s l (node.Text texts)
+  typed s (Name l x) = at_expr s l (node.Name x)
+  typed s (Integer l n k) = at_expr s l (node.Integer n k)
+  typed s (Character l z) = at_expr s l (node.Character z)
+  typed s (Text l texts) = at_expr s l (node.Text texts)
   typed s (Enclosed l e) = typed s e
-  typed s (Subscript l a i) = then_do (typed s a) (λ s c. then_do (typed s i) (λ s d. at_expr s l (node.Subscript c d)))
-  typed s (Called l f es) = then_do (callee s f (typed s f)) (λ s c. then_do (all_typed s es) (λ s cs. at_expr s l (node.Call c cs)))
-  typed s (Selected l op a x) = then_do (typed s a) (λ s c. at_expr s l (node.Select op c x))
-  typed s (Stepped l op a) = then_do (typed s a) (λ s c. at_expr s l (node.Postfix op c))
-  typed s (Prefixed l op a) = then_do (typed s a) (λ s c. at_expr s l (node.Prefix op c))
-  typed s (SizedExpr l a) = then_do (typed s a) (λ s c. at_expr s l (node.SizeofExpr c))
-  typed s (SizedType l t) = then_do (typed_name s t) (λ s of. at_expr s l (node.SizeofType of))
-  typed s (Converted l t a) = then_do (typed_name s t) (λ s to. then_do (typed s a) (λ s c. at_expr s l (node.Cast to c)))
-  typed s (Combined l op a b) = then_do (typed s a) (λ s c. then_do (typed s b) (λ s d. at_expr s l (node.Binary op c d)))
-  typed s (Chosen l a b c) = then_do (typed s a) (λ s u. then_do (typed s b) (λ s v. then_do (typed s c) (λ s w. at_expr s l (node.Conditional u v w))))
-  typed s (Assigned l op a b) = then_do (typed s a) (λ s c. then_do (typed s b) (λ s d. at_expr s l (node.Assign op c d)))
-  typed s (Sequence l es) = then_do (all_typed s es) (λ s cs. at_expr s l (node.Comma cs))
+  typed s (Index l a i) = then_do (typed s a) (λ s c. then_do (typed s i) (λ s d. at_expr s l (node.Index c d)))
+  typed s (Call l f es) = then_do (callee s f (typed s f)) (λ s c. then_do (all_typed s es) (λ s cs. at_expr s l (node.Call c cs)))
+  typed s (Member l op a x) = then_do (typed s a) (λ s c. at_expr s l (node.Member op c x))
+  typed s (Postfix l op a) = then_do (typed s a) (λ s c. at_expr s l (node.Postfix op c))
+  typed s (Prefix l op a) = then_do (typed s a) (λ s c. at_expr s l (node.Prefix op c))
+  typed s (SizeofExpr l a) = then_do (typed s a) (λ s c. at_expr s l (node.SizeofExpr c))
+  typed s (SizeofType l t) = then_do (typed_name s t) (λ s of. at_expr s l (node.SizeofType of))
+  typed s (Cast l t a) = then_do (typed_name s t) (λ s to. then_do (typed s a) (λ s c. at_expr s l (node.Cast to c)))
+  typed s (Binary l op a b) = then_do (typed s a) (λ s c. then_do (typed s b) (λ s d. at_expr s l (node.Binary op c d)))
+  typed s (Conditional l a b c) = then_do (typed s a) (λ s u. then_do (typed s b) (λ s v. then_do (typed s c) (λ s w. at_expr s l (node.Conditional u v w))))
+  typed s (Assign l op a b) = then_do (typed s a) (λ s c. then_do (typed s b) (λ s d. at_expr s l (node.Assign op c d)))
+  typed s (Comma l es) = then_do (all_typed s es) (λ s cs. at_expr s l (node.Comma cs))
 
   pub all_typed : State → ExprTrees → Outcome CoreTrees
   all_typed s NoExprs = Fine s NoCore
@@ -136,8 +136,8 @@ abbrev mutual
   typed_part s (tree.Basic l word) = Fine s (node.Word word)
   typed_part s (tree.NamedType l x) = Fine s (node.Whole (named_type s (place_of s x)))
   typed_part s (tree.RecordTag l k tag) = at_tag s l (node.RecordTag k tag) (named s l tag (record_type k s.count))
-  typed_part s (tree.EnumerationTag l tag) = at_tag s l (node.EnumerationTag tag) (named s l tag (enumeration_type s.count))
-  typed_part s (tree.Enumeration l tag es comma) = then_do (typed_enumerators (awaited s l tag) (pos 0) es) (λ s next. at_tag s l (node.Enumeration tag) (enumerated s l tag))
+  typed_part s (tree.EnumTag l tag) = at_tag s l (node.EnumerationTag tag) (named s l tag (enumeration_type s.count))
+  typed_part s (tree.Enum l tag es comma) = then_do (typed_enumerators (awaited s l tag) (pos 0) es) (λ s next. at_tag s l (node.Enumeration tag) (enumerated s l tag))
   typed_part s (tree.Record l k tag ms) = then_do (typed_members (opened s l k tag).state [] ms) (λ t members. at_record t l k tag (number_of (opened s l k tag).of) members)
 
   -- the members behind others

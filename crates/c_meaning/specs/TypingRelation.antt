@@ -3,7 +3,7 @@
 -- Source: C89 3.3, 3.5.2 to 3.5.5.
 use Rattle.std.specs.Prelude.{◌≡◌, ℕ, ℤ, pos, ◌+◌, ◌+ℤ◌, Bool, true, false, Option, Some, None, List, [], ◌∷◌, ◌++◌, is_none}
 use Rattle.c_ast.specs.declared.specifier.RecordKind.{RecordKind}
-use Rattle.c_ast.specs.Trees.{ExprTree, Variable, IntegerConstant, CharacterConstant, Literal, Enclosed, Subscript, Called, Selected, Stepped, Prefixed, SizedExpr, SizedType, Converted, Combined, Chosen, Assigned, Sequence, ExprTrees, NoExprs, Exprs, MaybeExpr, NoExpr, AnExpr, TypeNameTree, TypeNamed, SpecifiersTree, SpecifierTree, SpecifierTrees, NoSpecifiers, Specifiers, MemberTree, Members, MemberTrees, NoMembers, MoreMembers, FieldTree, Field, FieldTrees, NoFields, Fields, EnumeratorTree, Enumerator, EnumeratorTrees, NoEnumerators, Enumerators, DeclaratorTree, Declarator, MaybeDeclarator, NoDeclarator, ADeclarator, CoreTree, Named, Inner, Omitted, SuffixTree, ArraySuffix, Prototype, NameList, NoParameters, SuffixTrees, NoSuffixes, Suffixes, ParameterTree, Parameter, ParameterTrees, NoParameter, Parameters}
+use Rattle.c_ast.specs.Trees.{ExprTree, Name, Integer, Character, Text, Enclosed, Index, Call, Member, Postfix, Prefix, SizeofExpr, SizeofType, Cast, Binary, Conditional, Assign, Comma, ExprTrees, NoExprs, Exprs, MaybeExpr, NoExpr, AnExpr, TypeNameTree, TypeNamed, SpecifiersTree, SpecifierTree, SpecifierTrees, NoSpecifiers, Specifiers, MemberTree, Members, MemberTrees, NoMembers, MoreMembers, FieldTree, Field, FieldTrees, NoFields, Fields, EnumeratorTree, Enumerator, EnumeratorTrees, NoEnumerators, Enumerators, DeclaratorTree, Declarator, MaybeDeclarator, NoDeclarator, ADeclarator, CoreTree, Named, Inner, Omitted, SuffixTree, ArraySuffix, Prototype, NameList, NoParameters, SuffixTrees, NoSuffixes, Suffixes, ParameterTree, Parameter, ParameterTrees, NoParameter, Parameters}
 use Rattle.c_ast.specs.Trees as tree
 use Rattle.c_types.specs.CType.{CType}
 use Rattle.c_types.specs.Layout.{MemberType}
@@ -46,28 +46,28 @@ IsCallee s l x true types = IsAt s l (Expression (node.NewFunction x)) (with_fun
 IsCallee s l x false types = types
 
 abbrev pub TypesCallee : State → ExprTree → (State → values.CoreTree → Type 0) → State → values.CoreTree → Type 0
-TypesCallee s (Variable l x) types = IsCallee s l x (is_none (place_of s x)) types
+TypesCallee s (Name l x) types = IsCallee s l x (is_none (place_of s x)) types
 TypesCallee s e types = types
 
 abbrev mutual
   pub Types : State → ExprTree → State → values.CoreTree → Type 0
-  Types s (Variable l x) = IsExpr s l (node.Name x)
-  Types s (IntegerConstant l n k) = IsExpr s l (node.Integer n k)
-  Types s (CharacterConstant l z) = IsExpr s l (node.Character z)
-  Types s (Literal l texts) = IsExpr s l (node.Text texts)
+  Types s (Name l x) = IsExpr s l (node.Name x)
+  Types s (Integer l n k) = IsExpr s l (node.Integer n k)
+  Types s (Character l z) = IsExpr s l (node.Character z)
+  Types s (Text l texts) = IsExpr s l (node.Text texts)
   Types s (Enclosed l e) = Types s e
-  Types s (Subscript l a i) = Then (Types s a) (λ s c. Then (Types s i) (λ s d. IsExpr s l (node.Subscript c d)))
-  Types s (Called l f es) = Then (TypesCallee s f (Types s f)) (λ s c. Then (TypesAll s es) (λ s cs. IsExpr s l (node.Call c cs)))
-  Types s (Selected l op a x) = Then (Types s a) (λ s c. IsExpr s l (node.Select op c x))
-  Types s (Stepped l op a) = Then (Types s a) (λ s c. IsExpr s l (node.Postfix op c))
-  Types s (Prefixed l op a) = Then (Types s a) (λ s c. IsExpr s l (node.Prefix op c))
-  Types s (SizedExpr l a) = Then (Types s a) (λ s c. IsExpr s l (node.SizeofExpr c))
-  Types s (SizedType l t) = Then (TypesName s t) (λ s of. IsExpr s l (node.SizeofType of))
-  Types s (Converted l t a) = Then (TypesName s t) (λ s to. Then (Types s a) (λ s c. IsExpr s l (node.Cast to c)))
-  Types s (Combined l op a b) = Then (Types s a) (λ s c. Then (Types s b) (λ s d. IsExpr s l (node.Binary op c d)))
-  Types s (Chosen l a b c) = Then (Types s a) (λ s u. Then (Types s b) (λ s v. Then (Types s c) (λ s w. IsExpr s l (node.Conditional u v w))))
-  Types s (Assigned l op a b) = Then (Types s a) (λ s c. Then (Types s b) (λ s d. IsExpr s l (node.Assign op c d)))
-  Types s (Sequence l es) = Then (TypesAll s es) (λ s cs. IsExpr s l (node.Comma cs))
+  Types s (Index l a i) = Then (Types s a) (λ s c. Then (Types s i) (λ s d. IsExpr s l (node.Index c d)))
+  Types s (Call l f es) = Then (TypesCallee s f (Types s f)) (λ s c. Then (TypesAll s es) (λ s cs. IsExpr s l (node.Call c cs)))
+  Types s (Member l op a x) = Then (Types s a) (λ s c. IsExpr s l (node.Member op c x))
+  Types s (Postfix l op a) = Then (Types s a) (λ s c. IsExpr s l (node.Postfix op c))
+  Types s (Prefix l op a) = Then (Types s a) (λ s c. IsExpr s l (node.Prefix op c))
+  Types s (SizeofExpr l a) = Then (Types s a) (λ s c. IsExpr s l (node.SizeofExpr c))
+  Types s (SizeofType l t) = Then (TypesName s t) (λ s of. IsExpr s l (node.SizeofType of))
+  Types s (Cast l t a) = Then (TypesName s t) (λ s to. Then (Types s a) (λ s c. IsExpr s l (node.Cast to c)))
+  Types s (Binary l op a b) = Then (Types s a) (λ s c. Then (Types s b) (λ s d. IsExpr s l (node.Binary op c d)))
+  Types s (Conditional l a b c) = Then (Types s a) (λ s u. Then (Types s b) (λ s v. Then (Types s c) (λ s w. IsExpr s l (node.Conditional u v w))))
+  Types s (Assign l op a b) = Then (Types s a) (λ s c. Then (Types s b) (λ s d. IsExpr s l (node.Assign op c d)))
+  Types s (Comma l es) = Then (TypesAll s es) (λ s cs. IsExpr s l (node.Comma cs))
 
   pub TypesAll : State → ExprTrees → State → CoreTrees → Type 0
   TypesAll s NoExprs = Is s NoCore
@@ -100,8 +100,8 @@ abbrev mutual
   TypesPart s (tree.Basic l word) = Is s (node.Word word)
   TypesPart s (tree.NamedType l x) = Is s (node.Whole (named_type s (place_of s x)))
   TypesPart s (tree.RecordTag l k tag) = IsTag s l (node.RecordTag k tag) (named s l tag (record_type k s.count))
-  TypesPart s (tree.EnumerationTag l tag) = IsTag s l (node.EnumerationTag tag) (named s l tag (enumeration_type s.count))
-  TypesPart s (tree.Enumeration l tag es comma) = Then (TypesEnumerators (awaited s l tag) (pos 0) es) (λ s next. IsTag s l (node.Enumeration tag) (enumerated s l tag))
+  TypesPart s (tree.EnumTag l tag) = IsTag s l (node.EnumerationTag tag) (named s l tag (enumeration_type s.count))
+  TypesPart s (tree.Enum l tag es comma) = Then (TypesEnumerators (awaited s l tag) (pos 0) es) (λ s next. IsTag s l (node.Enumeration tag) (enumerated s l tag))
   TypesPart s (tree.Record l k tag ms) = Then (TypesMembers (opened s l k tag).state [] ms) (λ t members. IsRecord t l k tag (number_of (opened s l k tag).of) members)
 
   -- the members behind others

@@ -7,7 +7,8 @@ use Rattle.c_ast.specs.ExprMarks as marks
 use Rattle.c_ast.specs.Levels.{rank, Parts, AllAssign, TwoExprs, FitsTypeName}
 use Rattle.c_ast.specs.Heights.{height, tallest, type_name_height}
 use Rattle.c_ast.specs.Reach.{LinkKind, sign_of_link, link_of, needed, links, behind, behind_last, goes_on, goes_on_whole}
-use Rattle.c_ast.specs.Trees.{ExprTree, Variable, IntegerConstant, CharacterConstant, Literal, Enclosed, Subscript, Called, Selected, Stepped, Prefixed, SizedExpr, SizedType, Converted, Combined, Chosen, Assigned, Sequence, ExprTrees, NoExprs, Exprs}
+use Rattle.c_ast.specs.Trees.{ExprTree, Name, Integer, Character, Text, Enclosed, Index, Call, Prefix, SizeofExpr, SizeofType, Cast, Binary, Conditional, Assign, Comma, ExprTrees, NoExprs, Exprs}
+use Rattle.c_ast.specs.Trees as tree
 use Rattle.c_ast.specs.Views.{exprs_of}
 use Rattle.c_readings.specs.Links.{LinkTree, Indexed, Arguments, Member, Postfix, Operand, Choices, Value, linked}
 use Rattle.c_readings.specs.Reading.{State, gives, bind, answer, ask, here, commas}
@@ -51,23 +52,23 @@ behind_link R e level l a m q r z s o p h st u g found =
 
 -- an expression is its first part and the links behind it
 chain_found : (R : Readers) → AreExact R → TypeNames R → (x : ExprTree) (level : ℕ) (q r : List Mark) (z : ExprTree) (s : State) → 1 ≤ level → level ≤ rank x → Parts x → height x ≤ suc R.limit → Stops behind x q → RunsOn (marks.expr x q) s → Goes R level s x q r z → Reads R level s r z
-chain_found R e n (Variable l v) level q r z s o p f h st u g = from_head R level s (Variable l v) q r z (variable_found R level l v q s u) g
-chain_found R e n (IntegerConstant l v k) level q r z s o p f h st u g = from_head R level s (IntegerConstant l v k) q r z (integer_found R level l v k q s u) g
-chain_found R e n (CharacterConstant l v) level q r z s o p f h st u g = from_head R level s (CharacterConstant l v) q r z (character_found R level l v q s u) g
-chain_found R e n (Literal l bs) level q r z s o p f h st u g = from_head R level s (Literal l bs) q r z (literal_found R level l bs q s f u) g
+chain_found R e n (Name l v) level q r z s o p f h st u g = from_head R level s (Name l v) q r z (variable_found R level l v q s u) g
+chain_found R e n (Integer l v k) level q r z s o p f h st u g = from_head R level s (Integer l v k) q r z (integer_found R level l v k q s u) g
+chain_found R e n (Character l v) level q r z s o p f h st u g = from_head R level s (Character l v) q r z (character_found R level l v q s u) g
+chain_found R e n (Text l bs) level q r z s o p f h st u g = from_head R level s (Text l bs) q r z (literal_found R level l bs q s f u) g
 chain_found R e n (Enclosed l a) level q r z s o p f h st u g = from_head R level s (Enclosed l a) q r z (enclosed_found R e level l a q s f (omega arith) u) g
-chain_found R e n (Prefixed l op a) level q r z s o p f h st u g = from_head R level s (Prefixed l op a) q r z (prefix_found R e level l op a q s p f (omega arith) st u) g
-chain_found R e n (SizedExpr l a) level q r z s o p f h st u g = from_head R level s (SizedExpr l a) q r z (sized_found R e level l a q s p f (omega arith) st u) g
-chain_found R e n (SizedType l x) level q r z s o p f h st u g = from_head R level s (SizedType l x) q r z (sized_type_found R n level l x q s p f (omega arith) u) g
-chain_found R e n (Converted l x a) level q r z s o p f h st u g = from_head R level s (Converted l x a) q r z (cast_found R e n level l x a q s p f.0 (omega arith) (f.1, f.2) (omega arith) st u) g
-chain_found R e n (Subscript l a i) level q r z s o p f h st u g = behind_link R e level l a (Indexed i) q r z s p f h st u g (chain_found R e n a level (after (Indexed i) q) r z s o)
-chain_found R e n (Called l a es) level q r z s o p f h st u g = behind_link R e level l a (Arguments es) q r z s p f h st u g (chain_found R e n a level (after (Arguments es) q) r z s o)
-chain_found R e n (Selected l op a v) level q r z s o p f h st u g = behind_link R e level l a (Member op v) q r z s p f h st u g (chain_found R e n a level (after (Member op v) q) r z s o)
-chain_found R e n (Stepped l op a) level q r z s o p f h st u g = behind_link R e level l a (Postfix op) q r z s p f h st u g (chain_found R e n a level (after (Postfix op) q) r z s o)
-chain_found R e n (Combined l op a b) level q r z s o p f h st u g = behind_link R e level l a (Operand op b) q r z s p f h st u g (chain_found R e n a level (after (Operand op b) q) r z s o)
-chain_found R e n (Chosen l a b c) level q r z s o p f h st u g = behind_link R e level l a (Choices b c) q r z s p f h st u g (chain_found R e n a level (after (Choices b c) q) r z s o)
-chain_found R e n (Assigned l op a b) level q r z s o p f h st u g = behind_link R e level l a (Value op b) q r z s p f h st u g (chain_found R e n a level (after (Value op b) q) r z s o)
-chain_found R e n (Sequence l es) level q r z s o p f h st u g = absurd (omega arith)
+chain_found R e n (Prefix l op a) level q r z s o p f h st u g = from_head R level s (Prefix l op a) q r z (prefix_found R e level l op a q s p f (omega arith) st u) g
+chain_found R e n (SizeofExpr l a) level q r z s o p f h st u g = from_head R level s (SizeofExpr l a) q r z (sized_found R e level l a q s p f (omega arith) st u) g
+chain_found R e n (SizeofType l x) level q r z s o p f h st u g = from_head R level s (SizeofType l x) q r z (sized_type_found R n level l x q s p f (omega arith) u) g
+chain_found R e n (Cast l x a) level q r z s o p f h st u g = from_head R level s (Cast l x a) q r z (cast_found R e n level l x a q s p f.0 (omega arith) (f.1, f.2) (omega arith) st u) g
+chain_found R e n (Index l a i) level q r z s o p f h st u g = behind_link R e level l a (Indexed i) q r z s p f h st u g (chain_found R e n a level (after (Indexed i) q) r z s o)
+chain_found R e n (Call l a es) level q r z s o p f h st u g = behind_link R e level l a (Arguments es) q r z s p f h st u g (chain_found R e n a level (after (Arguments es) q) r z s o)
+chain_found R e n (tree.Member l op a v) level q r z s o p f h st u g = behind_link R e level l a (Member op v) q r z s p f h st u g (chain_found R e n a level (after (Member op v) q) r z s o)
+chain_found R e n (tree.Postfix l op a) level q r z s o p f h st u g = behind_link R e level l a (Postfix op) q r z s p f h st u g (chain_found R e n a level (after (Postfix op) q) r z s o)
+chain_found R e n (Binary l op a b) level q r z s o p f h st u g = behind_link R e level l a (Operand op b) q r z s p f h st u g (chain_found R e n a level (after (Operand op b) q) r z s o)
+chain_found R e n (Conditional l a b c) level q r z s o p f h st u g = behind_link R e level l a (Choices b c) q r z s p f h st u g (chain_found R e n a level (after (Choices b c) q) r z s o)
+chain_found R e n (Assign l op a b) level q r z s o p f h st u g = behind_link R e level l a (Value op b) q r z s p f h st u g (chain_found R e n a level (after (Value op b) q) r z s o)
+chain_found R e n (Comma l es) level q r z s o p f h st u g = absurd (omega arith)
 
 piece_yields : (R : Readers) → AreExact R → TypeNames R → (level : ℕ) → level ≤ 15 → (s : State) → Yields (piece_above R level s) (Ended R level s)
 unfolding piece_above
@@ -104,11 +105,11 @@ ends_last : (x : ExprTree) (xs : List ExprTree) (t : Lexeme) (other : Bool) → 
 ends_last x [] t other h = h
 ends_last x (y ∷ ys) t other h = ends_last y ys t (goes_on 1 x t) h
 
-ends_sequence : (l : ℕ) (a x : ExprTree) (xs : List ExprTree) (ts : List Placed) → first_is (is_sign 45) (lexemes ts) ≡ false → Last (λ y. Ends (goes_on 1) y ts) (x ∷ xs) → Ends goes_on_whole (Sequence l (exprs_of (a ∷ x ∷ xs))) ts
+ends_sequence : (l : ℕ) (a x : ExprTree) (xs : List ExprTree) (ts : List Placed) → first_is (is_sign 45) (lexemes ts) ≡ false → Last (λ y. Ends (goes_on 1) y ts) (x ∷ xs) → Ends goes_on_whole (Comma l (exprs_of (a ∷ x ∷ xs))) ts
 ends_sequence l a x xs [] h e = tt
 ends_sequence l a x xs (t ∷ ts) h e = or_none _ _ h (or_none _ _ (no_link (link_of t.lexeme)) (ends_last x xs t.lexeme (goes_on 1 a t.lexeme) e))
 
-sequence_is : (R : Readers) (s : State) (a : ExprTree) (t : State) (xs : List ExprTree) (u : State) → Ended R 1 s a t → answer (IsSign 45) t ≡ true → height a ≤ R.limit → IsListed marks.expr (FitsAt 1) (goes_on 1) height R.limit (λ b t. answer (IsSign 45) t) t xs u → Whole R s (Sequence (here s) (exprs_of (a ∷ xs))) u
+sequence_is : (R : Readers) (s : State) (a : ExprTree) (t : State) (xs : List ExprTree) (u : State) → Ended R 1 s a t → answer (IsSign 45) t ≡ true → height a ≤ R.limit → IsListed marks.expr (FitsAt 1) (goes_on 1) height R.limit (λ b t. answer (IsSign 45) t) t xs u → Whole R s (Comma (here s) (exprs_of (a ∷ xs))) u
 sequence_is R s a t [] u p c low k = absurd (let d : true ≡ false = sym c ∙ (ap (λ v. answer (IsSign 45) v) (sym k.none) ∙ k.stopped.1) in cc)
 sequence_is R s a t (x ∷ xs) u p c low k =
     let w : FitsList R.limit (a ∷ x ∷ xs) = ((p.fits, low), k.kept) in
@@ -123,10 +124,10 @@ sequence_is R s a t (x ∷ xs) u p c low k =
 whole_yields : (R : Readers) → AreExact R → TypeNames R → (s : State) → Yields (whole_above R s) (Whole R s)
 unfolding whole_above
 whole_yields R e n s =
-    bind_yields (piece_above R 1 s) (λ a t. ask (IsSign 45) t (if nat_le (height a) R.limit then bind (commas (R.piece 1) t) (λ es u. gives (Sequence (here s) (exprs_of (a ∷ es))) u) else None) (gives a t)) _ (Whole R s) (piece_yields R e n 1 (omega arith) s) (λ a t p.
-    if_yields (answer (IsSign 45) t) (if nat_le (height a) R.limit then bind (commas (R.piece 1) t) (λ es u. gives (Sequence (here s) (exprs_of (a ∷ es))) u) else None) (gives a t) (Whole R s)
-    (λ c. if_yields (nat_le (height a) R.limit) (bind (commas (R.piece 1) t) (λ es u. gives (Sequence (here s) (exprs_of (a ∷ es))) u)) None (Whole R s)
-    (λ low. bind_yields (commas (R.piece 1) t) (λ es u. gives (Sequence (here s) (exprs_of (a ∷ es))) u) _ (Whole R s) (behind_commas_yields R e t) (λ xs u k. sequence_is R s a t xs u p c (le_known (height a) R.limit low) k))
+    bind_yields (piece_above R 1 s) (λ a t. ask (IsSign 45) t (if nat_le (height a) R.limit then bind (commas (R.piece 1) t) (λ es u. gives (Comma (here s) (exprs_of (a ∷ es))) u) else None) (gives a t)) _ (Whole R s) (piece_yields R e n 1 (omega arith) s) (λ a t p.
+    if_yields (answer (IsSign 45) t) (if nat_le (height a) R.limit then bind (commas (R.piece 1) t) (λ es u. gives (Comma (here s) (exprs_of (a ∷ es))) u) else None) (gives a t) (Whole R s)
+    (λ c. if_yields (nat_le (height a) R.limit) (bind (commas (R.piece 1) t) (λ es u. gives (Comma (here s) (exprs_of (a ∷ es))) u)) None (Whole R s)
+    (λ low. bind_yields (commas (R.piece 1) t) (λ es u. gives (Comma (here s) (exprs_of (a ∷ es))) u) _ (Whole R s) (behind_commas_yields R e t) (λ xs u k. sequence_is R s a t xs u p c (le_known (height a) R.limit low) k))
     (λ low. tt))
     (λ c. record { fits = p.fits.1; low = p.low; ends = ends_whole a t.rest c p.ends; used = p.used; runs = p.runs }))
 
@@ -141,25 +142,25 @@ last_stops NoExprs r other h = tt
 last_stops (Exprs e NoExprs) r other h = h
 last_stops (Exprs e (Exprs a es)) r other h = last_stops (Exprs a es) r (λ t. goes_on 1 e t) h
 
-whole_sequence : (R : Readers) → AreExact R → TypeNames R → (l : ℕ) (es : ExprTrees) (r : List Mark) (s : State) → TwoExprs es → AllAssign es → tallest es ≤ R.limit → Stops goes_on_whole (Sequence l es) r → RunsOn (marks.expr (Sequence l es) r) s → Finds (whole_above R s) (Sequence l es) r
+whole_sequence : (R : Readers) → AreExact R → TypeNames R → (l : ℕ) (es : ExprTrees) (r : List Mark) (s : State) → TwoExprs es → AllAssign es → tallest es ≤ R.limit → Stops goes_on_whole (Comma l es) r → RunsOn (marks.expr (Comma l es) r) s → Finds (whole_above R s) (Comma l es) r
 unfolding whole_above
 whole_sequence R e n l NoExprs r s f w h st g = absurd f
 whole_sequence R e n l (Exprs x NoExprs) r s f w h st g = absurd f
 whole_sequence R e n l (Exprs x (Exprs a es)) r s f w h st g =
-    let z : ExprTree = Sequence l (Exprs x (Exprs a es)) in
+    let z : ExprTree = Comma l (Exprs x (Exprs a es)) in
     let xs : List ExprTree = a ∷ list_of es in
     let y : FitsList R.limit (x ∷ xs) = fits_list R.limit (Exprs x (Exprs a es)) w h in
     let m : RunsOn (separated (x ∷ xs) r) s = subst (λ i. RunsOn i s) (ap (λ i. marks.sequence i r) (sym (list_is (Exprs x (Exprs a es)))) ∙ sequence_marks (x ∷ xs) r) g.1 in
     let c : (t : State) → RunsOn r t → answer (IsSign 45) t ≡ false = λ t u. fails_next (is_sign 45) r t (λ v i. or_first _ _ (st v i)) u in
-    here_finds l (marks.sequence (Exprs x (Exprs a es)) r) r s (λ j. bind (piece_above R 1 s) (λ b t. ask (IsSign 45) t (if nat_le (height b) R.limit then bind (commas (R.piece 1) t) (λ ys u. gives (Sequence j (exprs_of (b ∷ ys))) u) else None) (gives b t))) z g (λ j.
+    here_finds l (marks.sequence (Exprs x (Exprs a es)) r) r s (λ j. bind (piece_above R 1 s) (λ b t. ask (IsSign 45) t (if nat_le (height b) R.limit then bind (commas (R.piece 1) t) (λ ys u. gives (Comma j (exprs_of (b ∷ ys))) u) else None) (gives b t))) z g (λ j.
     bind_finds (piece_above R 1 s) x (listed marks.expr xs r) r _ z (piece_found R e n 1 (omega arith) s x (listed marks.expr xs r) y.0.0 (omega (arith, y.0.1)) (stops_at x 1 (Sign 45) (marks.expr a (listed marks.expr (list_of es) r)) refl) m) (λ t u.
     asked_yes (IsSign 45) t _ (gives x t) z r (sign_next 45 (marks.expr a (listed marks.expr (list_of es) r)) t u)
-    (if_finds_yes (nat_le (height x) R.limit) (bind (commas (R.piece 1) t) (λ ys v. gives (Sequence l (exprs_of (x ∷ ys))) v)) None z r (known_le (height x) R.limit y.0.1)
-    (bind_finds (commas (R.piece 1) t) xs r r (λ ys v. gives (Sequence l (exprs_of (x ∷ ys))) v) z (behind_commas_found R e t xs r y.1 (last_stops (Exprs a es) r (λ t. goes_on 1 x t) (λ t i. or_second _ _ (or_second _ _ (st t i)))) c u) (λ v i. (ap (λ ys. Sequence l (Exprs x ys)) (list_is (Exprs a es)), i))))))
+    (if_finds_yes (nat_le (height x) R.limit) (bind (commas (R.piece 1) t) (λ ys v. gives (Comma l (exprs_of (x ∷ ys))) v)) None z r (known_le (height x) R.limit y.0.1)
+    (bind_finds (commas (R.piece 1) t) xs r r (λ ys v. gives (Comma l (exprs_of (x ∷ ys))) v) z (behind_commas_found R e t xs r y.1 (last_stops (Exprs a es) r (λ t. goes_on 1 x t) (λ t i. or_second _ _ (or_second _ _ (st t i)))) c u) (λ v i. (ap (λ ys. Comma l (Exprs x ys)) (list_is (Exprs a es)), i))))))
 
 whole_found : (R : Readers) → AreExact R → TypeNames R → (x : ExprTree) (r : List Mark) (s : State) → Parts x → height x ≤ suc R.limit → Stops goes_on_whole x r → RunsOn (marks.expr x r) s → Finds (whole_above R s) x r
-whole_found R e n (Sequence l es) r s f h st g = whole_sequence R e n l es r s f.0 f.1 (omega arith) st g
-whole_found R e n (Combined l op a b) r s f h st g = whole_single R e n (Combined l op a b) r s (let d = (op_level op).0 in omega arith) f h st g
+whole_found R e n (Comma l es) r s f h st g = whole_sequence R e n l es r s f.0 f.1 (omega arith) st g
+whole_found R e n (Binary l op a b) r s f h st g = whole_single R e n (Binary l op a b) r s (let d = (op_level op).0 in omega arith) f h st g
 whole_found R e n x r s f h st g = whole_single R e n x r s (omega arith) f h st g
 
 pub whole_above_exact : (R : Readers) → AreExact R → Exact marks.type_name FitsTypeName nothing_more type_name_height R.limit 1 (type_name R) → Exact marks.expr Parts goes_on_whole height (suc R.limit) 1 (whole_above R)

@@ -8,7 +8,8 @@ use Rattle.c_ast.specs.Operators.{prefix_sign, binary_sign, assign_sign, postfix
 use Rattle.c_ast.specs.Marks.{Mark, Tok, Ask, IsSized, first_is, is_sign, is_specifier, lexemes, IsSpecifier}
 use Rattle.c_ast.specs.ExprMarks as marks
 use Rattle.c_ast.specs.Levels.{IsSome, Parts, TwoExprs, AllAssign}
-use Rattle.c_ast.specs.Trees.{ExprTree, Variable, IntegerConstant, CharacterConstant, Literal, Enclosed, Subscript, Called, Selected, Stepped, Prefixed, SizedExpr, SizedType, Converted, Combined, Chosen, Assigned, Sequence, ExprTrees, NoExprs, Exprs, SpecifiersTree, Specified}
+use Rattle.c_ast.specs.Trees.{ExprTree, Enclosed, Index, Call, Member, Postfix, Prefix, SizeofExpr, SizeofType, Cast, Binary, Conditional, Assign, Comma, ExprTrees, NoExprs, Exprs, SpecifiersTree, Specified}
+use Rattle.c_ast.specs.Trees as tree
 use Rattle.c_readings.specs.Reading.{State, answer}
 use Rattle.c_readings.specs.Exact.{RunsOn}
 use Rattle.c_readings.proofs.Steps.{first_is_at, first_is_plain, same_number}
@@ -41,23 +42,23 @@ texts_first (b ∷ bs) r s f h = first_is_at (starts_expr s.names) (Text b) (mar
 
 mutual
   pub expr_first : (e : ExprTree) (r : List Mark) (s : State) → Parts e → RunsOn (marks.expr e r) s → Starts s
-  expr_first (Variable l n) r s f h = first_is_plain (starts_expr s.names) n r s h.1 ∙ ap not h.1.0
-  expr_first (IntegerConstant l v k) r s f h = first_is_at (starts_expr s.names) (Integer v k) r s h.1
-  expr_first (CharacterConstant l v) r s f h = first_is_at (starts_expr s.names) (Character v) r s h.1
-  expr_first (Literal l bs) r s f h = texts_first bs r s f h.1
+  expr_first (tree.Name l n) r s f h = first_is_plain (starts_expr s.names) n r s h.1 ∙ ap not h.1.0
+  expr_first (tree.Integer l v k) r s f h = first_is_at (starts_expr s.names) (Integer v k) r s h.1
+  expr_first (tree.Character l v) r s f h = first_is_at (starts_expr s.names) (Character v) r s h.1
+  expr_first (tree.Text l bs) r s f h = texts_first bs r s f h.1
   expr_first (Enclosed l e) r s f h = first_is_at (starts_expr s.names) (Sign 2) (marks.expr e (Tok (Sign 3) ∷ r)) s h.1
-  expr_first (Subscript l a i) r s f h = expr_first a (Tok (Sign 0) ∷ marks.expr i (Tok (Sign 1) ∷ r)) s f.1 h.1
-  expr_first (Called l a es) r s f h = expr_first a (Tok (Sign 2) ∷ marks.arguments es r) s f.1 h.1
-  expr_first (Selected l op a n) r s f h = expr_first a (Tok (Sign (member_sign op)) ∷ Tok (Name n) ∷ r) s f.1 h.1
-  expr_first (Stepped l op a) r s f h = expr_first a (Tok (Sign (postfix_sign op)) ∷ r) s f.1 h.1
-  expr_first (Prefixed l op a) r s f h = first_is_at (starts_expr s.names) (Sign (prefix_sign op)) (marks.expr a r) s h.1 ∙ prefix_starts s.names op
-  expr_first (SizedExpr l a) r s f h = first_is_at (starts_expr s.names) (Keyword 22) (Ask IsSized false ∷ marks.expr a r) s h.1
-  expr_first (SizedType l t) r s f h = first_is_at (starts_expr s.names) (Keyword 22) (Ask IsSized true ∷ Tok (Sign 2) ∷ marks.type_name t (Tok (Sign 3) ∷ r)) s h.1
-  expr_first (Converted l t a) r s f h = first_is_at (starts_expr s.names) (Sign 2) (marks.type_name t (Tok (Sign 3) ∷ marks.expr a r)) s h.1
-  expr_first (Combined l op a b) r s f h = expr_first a (Tok (Sign (binary_sign op)) ∷ marks.expr b r) s f.1 h.1
-  expr_first (Chosen l a b c) r s f h = expr_first a (Tok (Sign 30) ∷ marks.expr b (Tok (Sign 31) ∷ marks.expr c r)) s f.1 h.1
-  expr_first (Assigned l op a b) r s f h = expr_first a (Tok (Sign (assign_sign op)) ∷ marks.expr b r) s f.1 h.1
-  expr_first (Sequence l es) r s f h = sequence_first es r s f.0 f.1 h.1
+  expr_first (Index l a i) r s f h = expr_first a (Tok (Sign 0) ∷ marks.expr i (Tok (Sign 1) ∷ r)) s f.1 h.1
+  expr_first (Call l a es) r s f h = expr_first a (Tok (Sign 2) ∷ marks.arguments es r) s f.1 h.1
+  expr_first (Member l op a n) r s f h = expr_first a (Tok (Sign (member_sign op)) ∷ Tok (Name n) ∷ r) s f.1 h.1
+  expr_first (Postfix l op a) r s f h = expr_first a (Tok (Sign (postfix_sign op)) ∷ r) s f.1 h.1
+  expr_first (Prefix l op a) r s f h = first_is_at (starts_expr s.names) (Sign (prefix_sign op)) (marks.expr a r) s h.1 ∙ prefix_starts s.names op
+  expr_first (SizeofExpr l a) r s f h = first_is_at (starts_expr s.names) (Keyword 22) (Ask IsSized false ∷ marks.expr a r) s h.1
+  expr_first (SizeofType l t) r s f h = first_is_at (starts_expr s.names) (Keyword 22) (Ask IsSized true ∷ Tok (Sign 2) ∷ marks.type_name t (Tok (Sign 3) ∷ r)) s h.1
+  expr_first (Cast l t a) r s f h = first_is_at (starts_expr s.names) (Sign 2) (marks.type_name t (Tok (Sign 3) ∷ marks.expr a r)) s h.1
+  expr_first (Binary l op a b) r s f h = expr_first a (Tok (Sign (binary_sign op)) ∷ marks.expr b r) s f.1 h.1
+  expr_first (Conditional l a b c) r s f h = expr_first a (Tok (Sign 30) ∷ marks.expr b (Tok (Sign 31) ∷ marks.expr c r)) s f.1 h.1
+  expr_first (Assign l op a b) r s f h = expr_first a (Tok (Sign (assign_sign op)) ∷ marks.expr b r) s f.1 h.1
+  expr_first (Comma l es) r s f h = sequence_first es r s f.0 f.1 h.1
 
   sequence_first : (es : ExprTrees) (r : List Mark) (s : State) → TwoExprs es → AllAssign es → RunsOn (marks.sequence es r) s → Starts s
   sequence_first NoExprs r s f g h = absurd f

@@ -7,7 +7,8 @@ use Rattle.c_ast.specs.Operators.{binary_sign, assign_sign, prefix_sign, postfix
 use Rattle.c_ast.specs.Marks.{Mark, Test, Tok, Plain, Typed, Here, Ask, Put, Open, Close, Keep, Runs, IsSpecifier, IsSized, IsDeclarator, IsCore, IsSuffix, IsQualifier, IsText, IsSign, next_line}
 use Rattle.c_ast.specs.ExprMarks as marks
 use Rattle.c_ast.specs.ExprMarks.{says_type, has_typedef, is_own, maybe_name}
-use Rattle.c_ast.specs.Trees.{ExprTree, Variable, IntegerConstant, CharacterConstant, Literal, Enclosed, Subscript, Called, Selected, Stepped, Prefixed, SizedExpr, SizedType, Converted, Combined, Chosen, Assigned, Sequence, ExprTrees, NoExprs, Exprs, MaybeExpr, NoExpr, AnExpr, TypeNameTree, TypeNamed, SpecifiersTree, Specified, SpecifierTree, Stored, Qualified, Basic, Record, RecordTag, Enumeration, EnumerationTag, NamedType, SpecifierTrees, NoSpecifiers, Specifiers, MemberTree, Members, MemberTrees, NoMembers, MoreMembers, FieldTree, Field, FieldTrees, NoFields, Fields, EnumeratorTree, Enumerator, EnumeratorTrees, NoEnumerators, Enumerators, DeclaratorTree, Declarator, MaybeDeclarator, NoDeclarator, ADeclarator, CoreTree, Named, Inner, Omitted, SuffixTree, ArraySuffix, Prototype, NameList, NoParameters, SuffixTrees, NoSuffixes, Suffixes, ParameterTree, Parameter, ParameterTrees, NoParameter, Parameters}
+use Rattle.c_ast.specs.Trees.{ExprTree, Enclosed, Index, Call, Member, Postfix, Prefix, SizeofExpr, SizeofType, Cast, Binary, Conditional, Assign, Comma, ExprTrees, NoExprs, Exprs, MaybeExpr, NoExpr, AnExpr, TypeNameTree, TypeNamed, SpecifiersTree, Specified, SpecifierTree, Stored, Qualified, Basic, Record, RecordTag, Enum, EnumTag, NamedType, SpecifierTrees, NoSpecifiers, Specifiers, MemberTree, Members, MemberTrees, NoMembers, MoreMembers, FieldTree, Field, FieldTrees, NoFields, Fields, EnumeratorTree, Enumerator, EnumeratorTrees, NoEnumerators, Enumerators, DeclaratorTree, Declarator, MaybeDeclarator, NoDeclarator, ADeclarator, CoreTree, Named, Inner, Omitted, SuffixTree, ArraySuffix, Prototype, NameList, NoParameters, SuffixTrees, NoSuffixes, Suffixes, ParameterTree, Parameter, ParameterTrees, NoParameter, Parameters}
+use Rattle.c_ast.specs.Trees as tree
 use Rattle.c_ast.specs.Levels.{is_named}
 use Rattle.c_readings.specs.Reading.{State, beyond, tail}
 use Rattle.c_readings.specs.Exact.{RunsOn}
@@ -125,23 +126,23 @@ asked false answer = nothing
 
 mutual
   expr : (e : ExprTree) → Front (marks.expr e)
-  expr (Variable l n) = here l ▸ plain n
-  expr (IntegerConstant l v k) = here l ▸ tok (Integer v k)
-  expr (CharacterConstant l v) = here l ▸ tok (Character v)
-  expr (Literal l bs) = here l ▸ texts bs
+  expr (tree.Name l n) = here l ▸ plain n
+  expr (tree.Integer l v k) = here l ▸ tok (Integer v k)
+  expr (tree.Character l v) = here l ▸ tok (Character v)
+  expr (tree.Text l bs) = here l ▸ texts bs
   expr (Enclosed l e) = here l ▸ tok (Sign 2) ▸ expr e ▸ tok (Sign 3)
-  expr (Subscript l a i) = here l ▸ expr a ▸ tok (Sign 0) ▸ expr i ▸ tok (Sign 1)
-  expr (Called l f es) = here l ▸ expr f ▸ tok (Sign 2) ▸ arguments es
-  expr (Selected l op a n) = here l ▸ expr a ▸ tok (Sign (member_sign op)) ▸ tok (Name n)
-  expr (Stepped l op a) = here l ▸ expr a ▸ tok (Sign (postfix_sign op))
-  expr (Prefixed l op a) = here l ▸ tok (Sign (prefix_sign op)) ▸ expr a
-  expr (SizedExpr l a) = here l ▸ tok (Keyword 22) ▸ ask IsSized false ▸ expr a
-  expr (SizedType l t) = here l ▸ tok (Keyword 22) ▸ ask IsSized true ▸ tok (Sign 2) ▸ type_name t ▸ tok (Sign 3)
-  expr (Converted l t a) = here l ▸ tok (Sign 2) ▸ type_name t ▸ tok (Sign 3) ▸ expr a
-  expr (Combined l op a b) = here l ▸ expr a ▸ tok (Sign (binary_sign op)) ▸ expr b
-  expr (Chosen l a b c) = here l ▸ expr a ▸ tok (Sign 30) ▸ expr b ▸ tok (Sign 31) ▸ expr c
-  expr (Assigned l op a b) = here l ▸ expr a ▸ tok (Sign (assign_sign op)) ▸ expr b
-  expr (Sequence l es) = here l ▸ sequence es
+  expr (Index l a i) = here l ▸ expr a ▸ tok (Sign 0) ▸ expr i ▸ tok (Sign 1)
+  expr (Call l f es) = here l ▸ expr f ▸ tok (Sign 2) ▸ arguments es
+  expr (Member l op a n) = here l ▸ expr a ▸ tok (Sign (member_sign op)) ▸ tok (Name n)
+  expr (Postfix l op a) = here l ▸ expr a ▸ tok (Sign (postfix_sign op))
+  expr (Prefix l op a) = here l ▸ tok (Sign (prefix_sign op)) ▸ expr a
+  expr (SizeofExpr l a) = here l ▸ tok (Keyword 22) ▸ ask IsSized false ▸ expr a
+  expr (SizeofType l t) = here l ▸ tok (Keyword 22) ▸ ask IsSized true ▸ tok (Sign 2) ▸ type_name t ▸ tok (Sign 3)
+  expr (Cast l t a) = here l ▸ tok (Sign 2) ▸ type_name t ▸ tok (Sign 3) ▸ expr a
+  expr (Binary l op a b) = here l ▸ expr a ▸ tok (Sign (binary_sign op)) ▸ expr b
+  expr (Conditional l a b c) = here l ▸ expr a ▸ tok (Sign 30) ▸ expr b ▸ tok (Sign 31) ▸ expr c
+  expr (Assign l op a b) = here l ▸ expr a ▸ tok (Sign (assign_sign op)) ▸ expr b
+  expr (Comma l es) = here l ▸ sequence es
 
   sequence : (es : ExprTrees) → Front (marks.sequence es)
   sequence NoExprs = nothing
@@ -183,8 +184,8 @@ mutual
   specifier (Basic l b) = here l ▸ tok (Keyword (basic_word b))
   specifier (Record l k t ms) = here l ▸ tok (Keyword (record_word k)) ▸ tag t ▸ tok (Sign 4) ▸ members ms
   specifier (RecordTag l k n) = here l ▸ tok (Keyword (record_word k)) ▸ tok (Name n) ▸ ask (IsSign 4) false
-  specifier (Enumeration l t es comma) = here l ▸ tok (Keyword 10) ▸ tag t ▸ tok (Sign 4) ▸ enumerators es comma
-  specifier (EnumerationTag l n) = here l ▸ tok (Keyword 10) ▸ tok (Name n) ▸ ask (IsSign 4) false
+  specifier (Enum l t es comma) = here l ▸ tok (Keyword 10) ▸ tag t ▸ tok (Sign 4) ▸ enumerators es comma
+  specifier (EnumTag l n) = here l ▸ tok (Keyword 10) ▸ tok (Name n) ▸ ask (IsSign 4) false
   specifier (NamedType l n) = here l ▸ typed n
 
   members : (ms : MemberTrees) → Front (marks.members ms)

@@ -8,7 +8,7 @@ use Rattle.c_ast.specs.UnitMarks as unit_marks
 use Rattle.c_ast.specs.Levels.{rank, Parts, FitsTypeName, FitsSpecifiers, FitsDeclarator, FitsInitialiser, FitsDeclaration, FitsDeclarations, FitsStatement, FitsUnit, FitsExternal, is_named}
 use Rattle.c_ast.specs.Heights.{height, type_name_height, specifiers_height, declarator_height, initialiser_height, declaration_height, declarations_height, statement_height, external_height, unit_height}
 use Rattle.c_ast.specs.Reach.{Stops as StopsAt, StopsWhole, goes_on, goes_on_whole}
-use Rattle.c_ast.specs.Trees.{ExprTree, Variable, IntegerConstant, CharacterConstant, Literal, Enclosed, Subscript, Called, Selected, Stepped, Prefixed, SizedExpr, SizedType, Converted, Combined, Chosen, Assigned, Sequence, TypeNameTree, SpecifiersTree, DeclaratorTree, InitialiserTree, DeclarationTree, StatementTree, ExternalTree, UnitTree}
+use Rattle.c_ast.specs.Trees.{ExprTree, Name, Integer, Character, Text, Enclosed, Index, Call, Member, Postfix, Prefix, SizeofExpr, SizeofType, Cast, Binary, Conditional, Assign, Comma, TypeNameTree, SpecifiersTree, DeclaratorTree, InitialiserTree, DeclarationTree, StatementTree, ExternalTree, UnitTree}
 use Rattle.c_readings.specs.Reading.{State, Read}
 use Rattle.c_readings.specs.Readers.{readers, type_name as read_type_name, specifiers as read_specifiers}
 use Rattle.c_readings.specs.Exact.{Finds, Stops, Exact, FitsAt, FitsFree, nothing_more, where_left}
@@ -46,23 +46,23 @@ one_alone spelled Fits high least read e x y r t names ts f g h k = one_of spell
 -- ---- expressions
 
 rank_low : (e : ExprTree) → rank e ≤ 15
-rank_low (Variable l n) = omega arith
-rank_low (IntegerConstant l v k) = omega arith
-rank_low (CharacterConstant l v) = omega arith
-rank_low (Literal l bs) = omega arith
+rank_low (Name l n) = omega arith
+rank_low (Integer l v k) = omega arith
+rank_low (Character l v) = omega arith
+rank_low (Text l bs) = omega arith
 rank_low (Enclosed l e) = omega arith
-rank_low (Subscript l a i) = omega arith
-rank_low (Called l f es) = omega arith
-rank_low (Selected l op a n) = omega arith
-rank_low (Stepped l op a) = omega arith
-rank_low (Prefixed l op a) = omega arith
-rank_low (SizedExpr l a) = omega arith
-rank_low (SizedType l t) = omega arith
-rank_low (Converted l t a) = omega arith
-rank_low (Combined l op a b) = let g = op_level op in omega (arith, g.1)
-rank_low (Chosen l a b c) = omega arith
-rank_low (Assigned l op a b) = omega arith
-rank_low (Sequence l es) = omega arith
+rank_low (Index l a i) = omega arith
+rank_low (Call l f es) = omega arith
+rank_low (Member l op a n) = omega arith
+rank_low (Postfix l op a) = omega arith
+rank_low (Prefix l op a) = omega arith
+rank_low (SizeofExpr l a) = omega arith
+rank_low (SizeofType l t) = omega arith
+rank_low (Cast l t a) = omega arith
+rank_low (Binary l op a b) = let g = op_level op in omega (arith, g.1)
+rank_low (Conditional l a b c) = omega arith
+rank_low (Assign l op a b) = omega arith
+rank_low (Comma l es) = omega arith
 
 pub expression : (level : ℕ) → OnePiece marks.expr (λ (x : ExprTree) (r : List Mark). (1 ≤ level) × (level ≤ rank x) × Parts x × StopsAt level x r)
 expression level x y r t names ts f g h k =

@@ -13,7 +13,8 @@ use Rattle.c_ast.specs.Operators.{level_of, operand_level, prefix_sign}
 use Rattle.c_ast.specs.Marks.{Mark, Tok, next, is_sign}
 use Rattle.c_ast.specs.Levels.{rank, Parts}
 use Rattle.c_ast.specs.Reach.{LinkKind, Index, Call, Select, Step, Operate, Question, Assign, sign_of_link, link_of, needed, made, links, extends, behind, behind_last, goes_on, goes_on_whole}
-use Rattle.c_ast.specs.Trees.{ExprTree, Variable, IntegerConstant, CharacterConstant, Literal, Enclosed, Subscript, Called, Selected, Stepped, Prefixed, SizedExpr, SizedType, Converted, Combined, Chosen, Assigned, Sequence, ExprTrees, NoExprs, Exprs}
+use Rattle.c_ast.specs.Trees.{ExprTree, Name, Integer, Character, Text, Enclosed, Member, Postfix, Prefix, SizeofExpr, SizeofType, Cast, Binary, Conditional, Comma, ExprTrees, NoExprs, Exprs}
+use Rattle.c_ast.specs.Trees as tree
 use Rattle.c_readings.specs.Words.{prefix_of}
 use Rattle.c_readings.specs.Exact.{Stops}
 
@@ -166,50 +167,50 @@ does_extend k level rank h p =
 -- ---- a token of a lower level goes on from no part within
 
 pub closed : (e : ExprTree) (k : LinkKind) (level : ℕ) → 1 ≤ level → level ≤ rank e → Parts e → made k < level → behind e (Sign (sign_of_link k)) ≡ false
-closed (Variable l n) k level o p f h = refl
-closed (IntegerConstant l v i) k level o p f h = refl
-closed (CharacterConstant l v) k level o p f h = refl
-closed (Literal l bs) k level o p f h = refl
+closed (Name l n) k level o p f h = refl
+closed (Integer l v i) k level o p f h = refl
+closed (Character l v) k level o p f h = refl
+closed (Text l bs) k level o p f h = refl
 closed (Enclosed l e) k level o p f h = refl
-closed (Subscript l a i) k level o p f h = refl
-closed (Called l a es) k level o p f h = refl
-closed (Selected l op a n) k level o p f h = refl
-closed (Stepped l op a) k level o p f h = refl
-closed (Prefixed l op a) k level o p f h =
+closed (tree.Index l a i) k level o p f h = refl
+closed (tree.Call l a es) k level o p f h = refl
+closed (Member l op a n) k level o p f h = refl
+closed (Postfix l op a) k level o p f h = refl
+closed (Prefix l op a) k level o p f h =
     let g = made_below k level h (omega arith) in let d = operand_levels op in
     or_none _ _ (not_low k (operand_level op) (rank a) (omega (arith, d.0, g))) (closed a k (operand_level op) (omega (arith, d.0)) f.0 f.1 (omega (arith, d.0, g)))
-closed (SizedExpr l a) k level o p f h =
+closed (SizeofExpr l a) k level o p f h =
     let g = made_below k level h (omega arith) in
     or_none _ _ (not_low k 14 (rank a) (omega arith)) (closed a k 14 (omega arith) f.0 f.1 (omega arith))
-closed (SizedType l t) k level o p f h = refl
-closed (Converted l t a) k level o p f h = or_none _ _ (not_low k 13 (rank a) (omega arith)) (closed a k 13 (omega arith) f.1 f.2 (omega arith))
-closed (Combined l op a b) k level o p f h = or_none _ _ (not_low k (level_of op + 1) (rank b) (omega arith)) (closed b k (level_of op + 1) (omega arith) f.2 f.3 (omega arith))
-closed (Chosen l a b c) k level o p f h = or_none _ _ (not_low k 2 (rank c) (omega arith)) (closed c k 2 (omega arith) f.3 f.4 (omega arith))
-closed (Assigned l op a b) k level o p f h = or_none _ _ (not_low k 1 (rank b) (omega arith)) (closed b k 1 (omega arith) f.2 f.3 (omega arith))
-closed (Sequence l es) k level o p f h = absurd (omega arith)
+closed (SizeofType l t) k level o p f h = refl
+closed (Cast l t a) k level o p f h = or_none _ _ (not_low k 13 (rank a) (omega arith)) (closed a k 13 (omega arith) f.1 f.2 (omega arith))
+closed (Binary l op a b) k level o p f h = or_none _ _ (not_low k (level_of op + 1) (rank b) (omega arith)) (closed b k (level_of op + 1) (omega arith) f.2 f.3 (omega arith))
+closed (Conditional l a b c) k level o p f h = or_none _ _ (not_low k 2 (rank c) (omega arith)) (closed c k 2 (omega arith) f.3 f.4 (omega arith))
+closed (tree.Assign l op a b) k level o p f h = or_none _ _ (not_low k 1 (rank b) (omega arith)) (closed b k 1 (omega arith) f.2 f.3 (omega arith))
+closed (Comma l es) k level o p f h = absurd (omega arith)
 
 closed_at : (e : ExprTree) (k : LinkKind) (level : ℕ) → 1 ≤ level → level ≤ rank e → Parts e → made k < level → goes_on level e (Sign (sign_of_link k)) ≡ false
 closed_at e k level o p f h = or_none _ _ (not_low k level (rank e) h) (closed e k level o p f h)
 
 -- an operator that may stand behind an expression goes on from no part within it
 pub behind_left : (e : ExprTree) (k : LinkKind) → Parts e → needed k ≤ rank e → behind e (Sign (sign_of_link k)) ≡ false
-behind_left (Variable l n) k f h = refl
-behind_left (IntegerConstant l v i) k f h = refl
-behind_left (CharacterConstant l v) k f h = refl
-behind_left (Literal l bs) k f h = refl
+behind_left (Name l n) k f h = refl
+behind_left (Integer l v i) k f h = refl
+behind_left (Character l v) k f h = refl
+behind_left (Text l bs) k f h = refl
 behind_left (Enclosed l e) k f h = refl
-behind_left (Subscript l a i) k f h = refl
-behind_left (Called l a es) k f h = refl
-behind_left (Selected l op a n) k f h = refl
-behind_left (Stepped l op a) k f h = refl
-behind_left (Prefixed l op a) k f h = let g = made_low k h in let d = operand_levels op in closed_at a k (operand_level op) (omega (arith, d.0)) f.0 f.1 (omega (arith, d.0, g))
-behind_left (SizedExpr l a) k f h = let g = made_low k h in closed_at a k 14 (omega arith) f.0 f.1 (omega arith)
-behind_left (SizedType l t) k f h = refl
-behind_left (Converted l t a) k f h = let g = made_low k (omega arith) in closed_at a k 13 (omega arith) f.1 f.2 (omega arith)
-behind_left (Combined l op a b) k f h = let g = made_needed k in closed_at b k (level_of op + 1) (omega arith) f.2 f.3 (omega arith)
-behind_left (Chosen l a b c) k f h = absurd (let g = needed_some k in omega arith)
-behind_left (Assigned l op a b) k f h = absurd (let g = needed_some k in omega arith)
-behind_left (Sequence l es) k f h = absurd (let g = needed_some k in omega arith)
+behind_left (tree.Index l a i) k f h = refl
+behind_left (tree.Call l a es) k f h = refl
+behind_left (Member l op a n) k f h = refl
+behind_left (Postfix l op a) k f h = refl
+behind_left (Prefix l op a) k f h = let g = made_low k h in let d = operand_levels op in closed_at a k (operand_level op) (omega (arith, d.0)) f.0 f.1 (omega (arith, d.0, g))
+behind_left (SizeofExpr l a) k f h = let g = made_low k h in closed_at a k 14 (omega arith) f.0 f.1 (omega arith)
+behind_left (SizeofType l t) k f h = refl
+behind_left (Cast l t a) k f h = let g = made_low k (omega arith) in closed_at a k 13 (omega arith) f.1 f.2 (omega arith)
+behind_left (Binary l op a b) k f h = let g = made_needed k in closed_at b k (level_of op + 1) (omega arith) f.2 f.3 (omega arith)
+behind_left (Conditional l a b c) k f h = absurd (let g = needed_some k in omega arith)
+behind_left (tree.Assign l op a b) k f h = absurd (let g = needed_some k in omega arith)
+behind_left (Comma l es) k f h = absurd (let g = needed_some k in omega arith)
 
 -- ---- what is no operator goes on from nothing
 
@@ -218,23 +219,23 @@ not_linked t level rank h = ap (links level rank) h
 
 mutual
   pub none_behind : (e : ExprTree) (t : Lexeme) → link_of t ≡ None → behind e t ≡ false
-  none_behind (Variable l n) t h = refl
-  none_behind (IntegerConstant l v i) t h = refl
-  none_behind (CharacterConstant l v) t h = refl
-  none_behind (Literal l bs) t h = refl
+  none_behind (Name l n) t h = refl
+  none_behind (Integer l v i) t h = refl
+  none_behind (Character l v) t h = refl
+  none_behind (Text l bs) t h = refl
   none_behind (Enclosed l e) t h = refl
-  none_behind (Subscript l a i) t h = refl
-  none_behind (Called l a es) t h = refl
-  none_behind (Selected l op a n) t h = refl
-  none_behind (Stepped l op a) t h = refl
-  none_behind (Prefixed l op a) t h = or_none _ _ (not_linked t (operand_level op) (rank a) h) (none_behind a t h)
-  none_behind (SizedExpr l a) t h = or_none _ _ (not_linked t 14 (rank a) h) (none_behind a t h)
-  none_behind (SizedType l n) t h = refl
-  none_behind (Converted l n a) t h = or_none _ _ (not_linked t 13 (rank a) h) (none_behind a t h)
-  none_behind (Combined l op a b) t h = or_none _ _ (not_linked t (level_of op + 1) (rank b) h) (none_behind b t h)
-  none_behind (Chosen l a b c) t h = or_none _ _ (not_linked t 2 (rank c) h) (none_behind c t h)
-  none_behind (Assigned l op a b) t h = or_none _ _ (not_linked t 1 (rank b) h) (none_behind b t h)
-  none_behind (Sequence l es) t h = none_last es t false h refl
+  none_behind (tree.Index l a i) t h = refl
+  none_behind (tree.Call l a es) t h = refl
+  none_behind (Member l op a n) t h = refl
+  none_behind (Postfix l op a) t h = refl
+  none_behind (Prefix l op a) t h = or_none _ _ (not_linked t (operand_level op) (rank a) h) (none_behind a t h)
+  none_behind (SizeofExpr l a) t h = or_none _ _ (not_linked t 14 (rank a) h) (none_behind a t h)
+  none_behind (SizeofType l n) t h = refl
+  none_behind (Cast l n a) t h = or_none _ _ (not_linked t 13 (rank a) h) (none_behind a t h)
+  none_behind (Binary l op a b) t h = or_none _ _ (not_linked t (level_of op + 1) (rank b) h) (none_behind b t h)
+  none_behind (Conditional l a b c) t h = or_none _ _ (not_linked t 2 (rank c) h) (none_behind c t h)
+  none_behind (tree.Assign l op a b) t h = or_none _ _ (not_linked t 1 (rank b) h) (none_behind b t h)
+  none_behind (Comma l es) t h = none_last es t false h refl
 
   none_last : (es : ExprTrees) (t : Lexeme) (other : Bool) → link_of t ≡ None → other ≡ false → behind_last es t other ≡ false
   none_last NoExprs t other h o = o

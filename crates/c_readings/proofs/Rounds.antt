@@ -2,7 +2,7 @@
 use Rattle.std.proofs.Common.{◌≡◌, ◌≤◌, ℕ, zero, suc, Bool, None, List, [], ◌∷◌, refl, sym, subst, ap, ◌∙◌, arith}
 use Rattle.c_ast.specs.Lexemes.{Lexeme, Placed}
 use Rattle.c_ast.specs.Marks.{Mark}
-use Rattle.c_ast.specs.Trees.{ExprTree, Variable, IntegerConstant, CharacterConstant, Literal, Enclosed, Subscript, Called, Selected, Stepped, Prefixed, SizedExpr, SizedType, Converted, Combined, Chosen, Assigned, Sequence, MemberTree, Members, DeclaratorTree, Declarator}
+use Rattle.c_ast.specs.Trees.{ExprTree, Name, Integer, Character, Text, Enclosed, Index, Call, Member, Postfix, Prefix, SizeofExpr, SizeofType, Cast, Binary, Conditional, Assign, Comma, MemberTree, Members, DeclaratorTree, Declarator}
 use Rattle.c_ast.specs.ExprMarks as marks
 use Rattle.c_ast.specs.Levels.{Parts, FitsMember}
 use Rattle.c_ast.specs.Heights.{height, declarator_height, member_height}
@@ -17,23 +17,23 @@ use Rattle.c_readings.proofs.Expressions.{piece_above_exact, whole_above_exact}
 -- ---- no tree is of height 0
 
 height_some : (e : ExprTree) → 1 ≤ height e
-height_some (Variable l n) = omega arith
-height_some (IntegerConstant l v k) = omega arith
-height_some (CharacterConstant l v) = omega arith
-height_some (Literal l bs) = omega arith
+height_some (Name l n) = omega arith
+height_some (Integer l v k) = omega arith
+height_some (Character l v) = omega arith
+height_some (Text l bs) = omega arith
 height_some (Enclosed l e) = omega arith
-height_some (Subscript l a i) = omega arith
-height_some (Called l f es) = omega arith
-height_some (Selected l op a n) = omega arith
-height_some (Stepped l op a) = omega arith
-height_some (Prefixed l op a) = omega arith
-height_some (SizedExpr l a) = omega arith
-height_some (SizedType l t) = omega arith
-height_some (Converted l t a) = omega arith
-height_some (Combined l op a b) = omega arith
-height_some (Chosen l a b c) = omega arith
-height_some (Assigned l op a b) = omega arith
-height_some (Sequence l es) = omega arith
+height_some (Index l a i) = omega arith
+height_some (Call l f es) = omega arith
+height_some (Member l op a n) = omega arith
+height_some (Postfix l op a) = omega arith
+height_some (Prefix l op a) = omega arith
+height_some (SizeofExpr l a) = omega arith
+height_some (SizeofType l t) = omega arith
+height_some (Cast l t a) = omega arith
+height_some (Binary l op a b) = omega arith
+height_some (Conditional l a b c) = omega arith
+height_some (Assign l op a b) = omega arith
+height_some (Comma l es) = omega arith
 
 declarator_height_some : (d : DeclaratorTree) → 1 ≤ declarator_height d
 declarator_height_some (Declarator l ps c ss) = omega arith

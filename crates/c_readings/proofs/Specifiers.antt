@@ -11,7 +11,7 @@ use Rattle.c_ast.specs.InForce.{is_typedef}
 use Rattle.c_ast.specs.Marks.{Mark, Tok, Typed, Here, Ask, IsSign, IsSpecifier, first_is, is_specifier, lexemes}
 use Rattle.c_ast.specs.ExprMarks as marks
 use Rattle.c_ast.specs.ExprMarks.{says_type}
-use Rattle.c_ast.specs.Trees.{SpecifiersTree, Specified, SpecifierTree, Stored, Qualified, Basic, Record, RecordTag, Enumeration, EnumerationTag, NamedType, SpecifierTrees, NoSpecifiers, Specifiers, MemberTrees, EnumeratorTrees}
+use Rattle.c_ast.specs.Trees.{SpecifiersTree, Specified, SpecifierTree, Stored, Qualified, Basic, Record, RecordTag, Enum, EnumTag, NamedType, SpecifierTrees, NoSpecifiers, Specifiers, MemberTrees, EnumeratorTrees}
 use Rattle.c_ast.specs.Views.{specifier_list_of}
 use Rattle.c_ast.specs.Levels.{FitsSpecifiers, FitsSpecifierList, FitsSpecifier}
 use Rattle.c_ast.specs.Heights.{specifiers_height, specifier_list_height, specifier_height, members_height}
@@ -109,7 +109,7 @@ record_yields R e line k s =
 enumeration_yields : (R : Readers) → AreExact R → (line : ℕ) (s : State) → Yields (enumeration_of R line s) (IsBehindWord R line EnumWord s)
 unfolding enumeration_of
 enumeration_yields R e line s =
-    tagged_yields {X = EnumeratorTrees × Bool} spelled_with FitsSomeEnumerators enumerators_high R.limit (enumerators R) (λ name es. Enumeration line name es.0 es.1) (λ n. EnumerationTag line n) (IsBehindWord R line EnumWord s) (enumerators_exact R e) s
+    tagged_yields {X = EnumeratorTrees × Bool} spelled_with FitsSomeEnumerators enumerators_high R.limit (enumerators R) (λ name es. Enum line name es.0 es.1) (λ n. EnumTag line n) (IsBehindWord R line EnumWord s) (enumerators_exact R e) s
     (λ name es t h. record { fits = h.fits; low = h.low; used = h.used; runs = λ r. (marks.tag_then name (Tok (Sign 4) ∷ marks.enumerators es.0 es.1 r), refl, h.runs r) })
     (λ n us h a. record { fits = tt; low = omega arith; used = let u = taken_used s.rest us (Name n) h in omega arith; runs = λ r. (Tok (Name n) ∷ Ask (IsSign 4) false ∷ r, refl, token_iff (Name n) (Ask (IsSign 4) false ∷ r) s us h (asked_iff (IsSign 4) false r (past s us) a iff_same)) })
 
@@ -181,13 +181,13 @@ record_tag_found : (R : Readers) (l : ℕ) (k : RecordKind) (n : List ℕ) (r : 
 unfolding record_of
 record_tag_found R l k n r s h = alone_found (members R) (λ name ms. Record l k name ms) (λ n. RecordTag l k n) n r s h
 
-enumeration_found : (R : Readers) → AreExact R → (l : ℕ) (name : Option (List ℕ)) (es : EnumeratorTrees × Bool) (r : List Mark) (s : State) → FitsSomeEnumerators es → enumerators_high es ≤ R.limit → RunsOn (marks.tag_then name (Tok (Sign 4) ∷ spelled_with es r)) s → Finds (enumeration_of R l s) (Enumeration l name es.0 es.1) r
+enumeration_found : (R : Readers) → AreExact R → (l : ℕ) (name : Option (List ℕ)) (es : EnumeratorTrees × Bool) (r : List Mark) (s : State) → FitsSomeEnumerators es → enumerators_high es ≤ R.limit → RunsOn (marks.tag_then name (Tok (Sign 4) ∷ spelled_with es r)) s → Finds (enumeration_of R l s) (Enum l name es.0 es.1) r
 unfolding enumeration_of
-enumeration_found R e l name es r s f w h = tagged_found spelled_with FitsSomeEnumerators enumerators_high R.limit (enumerators R) (λ name es. Enumeration l name es.0 es.1) (λ n. EnumerationTag l n) (enumerators_exact R e) name es r s f w h
+enumeration_found R e l name es r s f w h = tagged_found spelled_with FitsSomeEnumerators enumerators_high R.limit (enumerators R) (λ name es. Enum l name es.0 es.1) (λ n. EnumTag l n) (enumerators_exact R e) name es r s f w h
 
-enumeration_tag_found : (R : Readers) (l : ℕ) (n : List ℕ) (r : List Mark) (s : State) → RunsOn (Tok (Name n) ∷ Ask (IsSign 4) false ∷ r) s → Finds (enumeration_of R l s) (EnumerationTag l n) r
+enumeration_tag_found : (R : Readers) (l : ℕ) (n : List ℕ) (r : List Mark) (s : State) → RunsOn (Tok (Name n) ∷ Ask (IsSign 4) false ∷ r) s → Finds (enumeration_of R l s) (EnumTag l n) r
 unfolding enumeration_of
-enumeration_tag_found R l n r s h = alone_found {X = EnumeratorTrees × Bool} (enumerators R) (λ name es. Enumeration l name es.0 es.1) (λ n. EnumerationTag l n) n r s h
+enumeration_tag_found R l n r s h = alone_found {X = EnumeratorTrees × Bool} (enumerators R) (λ name es. Enum l name es.0 es.1) (λ n. EnumTag l n) n r s h
 
 named_found : (R : Readers) (l : ℕ) (n : List ℕ) (r : List Mark) (s : State) → RunsOn (Here l ∷ Typed n ∷ r) s → Finds (specifier R s) (NamedType l n) r
 unfolding specifier
@@ -200,8 +200,8 @@ specifier_found R e (Qualified l x) r s f w h = word_found R l (QualifierWord x)
 specifier_found R e (Basic l x) r s f w h = word_found R l (BasicWord x) (Basic l x) r r s h (λ t g. (refl, g))
 specifier_found R e (Record l k name ms) r s f w h = word_found R l (RecordWord k) (Record l k name ms) (marks.tag_then name (Tok (Sign 4) ∷ marks.members ms r)) r s h (λ t g. record_found R e l k name ms r t f w g)
 specifier_found R e (RecordTag l k n) r s f w h = word_found R l (RecordWord k) (RecordTag l k n) (Tok (Name n) ∷ Ask (IsSign 4) false ∷ r) r s h (λ t g. record_tag_found R l k n r t g)
-specifier_found R e (Enumeration l name es comma) r s f w h = word_found R l EnumWord (Enumeration l name es comma) (marks.tag_then name (Tok (Sign 4) ∷ marks.enumerators es comma r)) r s h (λ t g. enumeration_found R e l name (es, comma) r t f w g)
-specifier_found R e (EnumerationTag l n) r s f w h = word_found R l EnumWord (EnumerationTag l n) (Tok (Name n) ∷ Ask (IsSign 4) false ∷ r) r s h (λ t g. enumeration_tag_found R l n r t g)
+specifier_found R e (Enum l name es comma) r s f w h = word_found R l EnumWord (Enum l name es comma) (marks.tag_then name (Tok (Sign 4) ∷ marks.enumerators es comma r)) r s h (λ t g. enumeration_found R e l name (es, comma) r t f w g)
+specifier_found R e (EnumTag l n) r s f w h = word_found R l EnumWord (EnumTag l n) (Tok (Name n) ∷ Ask (IsSign 4) false ∷ r) r s h (λ t g. enumeration_tag_found R l n r t g)
 specifier_found R e (NamedType l n) r s f w h = named_found R l n r s h
 
 -- ---- specifiers

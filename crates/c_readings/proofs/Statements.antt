@@ -4,7 +4,7 @@ use Rattle.c_ast.specs.InForce.{InForce}
 use Rattle.c_ast.specs.Lexemes.{Lexeme, Name, Keyword, Integer, Character, Text, Sign, Placed}
 use Rattle.c_ast.specs.Marks.{Mark, Tok, Here, Ask, Open, IsSign, IsLabel, first_is, first_two, is_name, is_sign, lexemes}
 use Rattle.c_ast.specs.UnitMarks as marks
-use Rattle.c_ast.specs.Trees.{MaybeExpr, NoExpr, AnExpr, StatementTree, Labelled, Case, Default, Evaluate, Compound, If, IfElse, Switch, While, Do, For, Goto, Continue, Break, Return, BlockTree, Block}
+use Rattle.c_ast.specs.Trees.{MaybeExpr, NoExpr, AnExpr, StatementTree, Label, Case, Default, Expression, Compound, If, IfElse, Switch, While, Do, For, Goto, Continue, Break, Return, BlockTree, Block}
 use Rattle.c_ast.specs.Levels.{FitsDeclarations, FitsStatement, FitsBlock}
 use Rattle.c_ast.specs.Heights.{maybe_height, declarations_height, statement_height, block_height}
 use Rattle.c_readings.specs.Reading.{State, Read, gives, bind, answer, here, tail, beyond, open_state}
@@ -83,7 +83,7 @@ module _ (R : ℕ → Readers) (e : EachExact R) (n : ℕ) (ds : Exact marks.dec
       record {
         fits = k.fits;
         low = omega arith;
-        ends = nothing_ends (Labelled (here s) m x) u.rest;
+        ends = nothing_ends (Label (here s) m x) u.rest;
         used = omega arith;
         runs = λ r. let o : List Mark = named_then 31 m (marks.statement x r) in here_iff (Ask IsLabel true ∷ o) s (omega arith) (asked_iff IsLabel true o s a (iff_then (h.runs (marks.statement x r)) (k.runs r)));
       }))
@@ -103,7 +103,7 @@ module _ (R : ℕ → Readers) (e : EachExact R) (n : ℕ) (ds : Exact marks.dec
       record {
         fits = h.fits;
         low = omega arith;
-        ends = nothing_ends (Evaluate (here s) x) t.rest;
+        ends = nothing_ends (Expression (here s) x) t.rest;
         used = omega arith;
         runs = λ r. here_iff (Ask IsLabel false ∷ before 32 x r) s (omega arith) (asked_iff IsLabel false (before 32 x r) s a (h.runs r));
       })
@@ -118,14 +118,14 @@ module _ (R : ℕ → Readers) (e : EachExact R) (n : ℕ) (ds : Exact marks.dec
 
   -- ---- what stands there is read
 
-  labelled_found : (l : ℕ) (m : List ℕ) (x : StatementTree) (r : List Mark) (s : State) → FitsStatement x → statement_height x ≤ n → RunsOn (marks.statement (Labelled l m x) r) s → Finds (statement_above R n inner s) (Labelled l m x) r
+  labelled_found : (l : ℕ) (m : List ℕ) (x : StatementTree) (r : List Mark) (s : State) → FitsStatement x → statement_height x ≤ n → RunsOn (marks.statement (Label l m x) r) s → Finds (statement_above R n inner s) (Label l m x) r
   unfolding statement_above labelled
   labelled_found l m x r s f k h =
       let o : List Mark = named_then 31 m (marks.statement x r) in
-      asked_yes IsLabel s _ (by_maybe_word R n inner (word_at s.rest) s) (Labelled l m x) r h.1.0
-      (here_finds l (Ask IsLabel true ∷ o) r s (λ j. bind (name_before 31 s) (λ a t. bind (inner t) (λ y u. gives (Labelled j a y) u))) (Labelled l m x) h (λ g.
-      bind_finds (name_before 31 s) m (marks.statement x r) r _ (Labelled l m x) ((name_before_exact 31 n).found s m (marks.statement x r) tt (omega arith) (nothing_stops m (marks.statement x r)) g.1) (λ t j.
-      bind_finds (inner t) x r r _ (Labelled l m x) (i.found t x r f k (nothing_stops x r) j) (λ u q. (refl, q)))))
+      asked_yes IsLabel s _ (by_maybe_word R n inner (word_at s.rest) s) (Label l m x) r h.1.0
+      (here_finds l (Ask IsLabel true ∷ o) r s (λ j. bind (name_before 31 s) (λ a t. bind (inner t) (λ y u. gives (Label j a y) u))) (Label l m x) h (λ g.
+      bind_finds (name_before 31 s) m (marks.statement x r) r _ (Label l m x) ((name_before_exact 31 n).found s m (marks.statement x r) tt (omega arith) (nothing_stops m (marks.statement x r)) g.1) (λ t j.
+      bind_finds (inner t) x r r _ (Label l m x) (i.found t x r f k (nothing_stops x r) j) (λ u q. (refl, q)))))
 
   -- a block is no label, and no keyword begins it
   compound_found : (l : ℕ) (x : BlockTree) (r : List Mark) (s : State) → FitsBlock x → block_height x ≤ suc n → RunsOn (marks.statement (Compound l x) r) s → Finds (statement_above R n inner s) (Compound l x) r
@@ -140,21 +140,21 @@ module _ (R : ℕ → Readers) (e : EachExact R) (n : ℕ) (ds : Exact marks.dec
       (bind_finds (block_inside R n inner (here s) (open_state (beyond s))) x r r _ (Compound l x) ((block_inside_exact R n ds inner i (here s)).found (open_state (beyond s)) x r (sym (here_is b (Tok (Sign 4) ∷ m) s h.1), f) k (nothing_stops x r) (beyond_runs (Sign 4) m s g)) (λ t j.
       (ap (λ a. Compound a x) (here_is l (marks.block x r) s h), j)))))
 
-  evaluate_found : (l : ℕ) (x : MaybeExpr) (r : List Mark) (s : State) → FitsWhole x → maybe_height x ≤ n → RunsOn (marks.statement (Evaluate l x) r) s → Finds (statement_above R n inner s) (Evaluate l x) r
+  evaluate_found : (l : ℕ) (x : MaybeExpr) (r : List Mark) (s : State) → FitsWhole x → maybe_height x ≤ n → RunsOn (marks.statement (Expression l x) r) s → Finds (statement_above R n inner s) (Expression l x) r
   unfolding statement_above evaluate
   evaluate_found l x r s f k h =
       let b = evaluate_begins x r s f h.1.1 in
-      asked_no IsLabel s (labelled inner s) _ (Evaluate l x) r h.1.0
-      (subst (λ o. Finds (by_maybe_word R n inner o s) (Evaluate l x) r) (sym b.0)
-      (asked_no (IsSign 4) s (compound R n inner s) (evaluate R n s) (Evaluate l x) r b.1
-      (bind_finds (maybe_before R n 32 s) x r r _ (Evaluate l x) ((maybe_before_exact R e n 32 semicolon_ends).found s x r f k (nothing_stops x r) h.1.1) (λ t j.
-      (ap (λ a. Evaluate a x) (here_is l (Ask IsLabel false ∷ before 32 x r) s h), j)))))
+      asked_no IsLabel s (labelled inner s) _ (Expression l x) r h.1.0
+      (subst (λ o. Finds (by_maybe_word R n inner o s) (Expression l x) r) (sym b.0)
+      (asked_no (IsSign 4) s (compound R n inner s) (evaluate R n s) (Expression l x) r b.1
+      (bind_finds (maybe_before R n 32 s) x r r _ (Expression l x) ((maybe_before_exact R e n 32 semicolon_ends).found s x r f k (nothing_stops x r) h.1.1) (λ t j.
+      (ap (λ a. Expression a x) (here_is l (Ask IsLabel false ∷ before 32 x r) s h), j)))))
 
   statement_found : (s : State) (x : StatementTree) (r : List Mark) → FitsStatement x → statement_height x ≤ suc n → RunsOn (marks.statement x r) s → Finds (statement_above R n inner s) x r
-  statement_found s (Labelled l m x) r f k h = labelled_found l m x r s f (omega arith) h
+  statement_found s (Label l m x) r f k h = labelled_found l m x r s f (omega arith) h
   statement_found s (Case l a x) r f k h = case_found R e n inner i l a x r s f k h
   statement_found s (Default l x) r f k h = default_found R e n inner i l x r s f k h
-  statement_found s (Evaluate l x) r f k h = evaluate_found l x r s f (omega arith) h
+  statement_found s (Expression l x) r f k h = evaluate_found l x r s f (omega arith) h
   statement_found s (Compound l x) r f k h = compound_found l x r s f k h
   statement_found s (If l a x) r f k h = if_found R e n inner i l a x r s f k h
   statement_found s (IfElse l a x y) r f k h = if_else_found R e n inner i l a x y r s f k h
@@ -174,10 +174,10 @@ module _ (R : ℕ → Readers) (e : EachExact R) (n : ℕ) (ds : Exact marks.dec
 -- ---- up to each limit
 
 statement_height_some : (x : StatementTree) → 1 ≤ statement_height x
-statement_height_some (Labelled l m x) = omega arith
+statement_height_some (Label l m x) = omega arith
 statement_height_some (Case l a x) = omega arith
 statement_height_some (Default l x) = omega arith
-statement_height_some (Evaluate l a) = omega arith
+statement_height_some (Expression l a) = omega arith
 statement_height_some (Compound l (Block b xs ys)) = omega arith
 statement_height_some (If l a x) = omega arith
 statement_height_some (IfElse l a x y) = omega arith

@@ -5,7 +5,8 @@ use Rattle.c_ast.specs.declared.operator.BinaryOperator.{BinaryOperator}
 use Rattle.c_ast.specs.declared.operator.AssignOperator.{AssignOperator}
 use Rattle.c_ast.specs.declared.operator.PostfixOperator.{PostfixOperator}
 use Rattle.c_ast.specs.declared.operator.MemberOperator.{MemberOperator}
-use Rattle.c_ast.specs.Trees.{ExprTree, Subscript, Called, Selected, Stepped, Combined, Chosen, Assigned, ExprTrees}
+use Rattle.c_ast.specs.Trees.{ExprTree, Index, Call, Binary, Conditional, Assign, ExprTrees}
+use Rattle.c_ast.specs.Trees as tree
 use Rattle.c_ast.specs.Lexemes.{Lexeme}
 use Rattle.c_ast.specs.Reach.{LinkKind, links, link_of}
 
@@ -20,13 +21,13 @@ pub data LinkTree : Type 0 where
 
 -- the expression that it makes with what stands before it
 abbrev pub linked : ℕ → ExprTree → LinkTree → ExprTree
-linked l a (Indexed i) = Subscript l a i
-linked l a (Arguments es) = Called l a es
-linked l a (Member op n) = Selected l op a n
-linked l a (Postfix op) = Stepped l op a
-linked l a (Operand op b) = Combined l op a b
-linked l a (Choices b c) = Chosen l a b c
-linked l a (Value op b) = Assigned l op a b
+linked l a (Indexed i) = Index l a i
+linked l a (Arguments es) = Call l a es
+linked l a (Member op n) = tree.Member l op a n
+linked l a (Postfix op) = tree.Postfix l op a
+linked l a (Operand op b) = Binary l op a b
+linked l a (Choices b c) = Conditional l a b c
+linked l a (Value op b) = Assign l op a b
 
 abbrev pub reaching : ℕ → ℕ → Option LinkKind → Option LinkKind
 reaching level rank None = None

@@ -15,7 +15,8 @@ use Rattle.c_ast.specs.Levels.{rank, is_named, is_abstract}
 use Rattle.c_ast.specs.Heights.{height}
 use Rattle.c_ast.specs.Views.{exprs_of, specifier_list_of, members_of, fields_of, enumerators_of, suffixes_of, parameters_of}
 use Rattle.c_ast.specs.Reach.{LinkKind, Index, Call, Select, Step, Operate, Question, Assign}
-use Rattle.c_ast.specs.Trees.{ExprTree, Variable, IntegerConstant, CharacterConstant, Literal, Enclosed, Prefixed, SizedExpr, SizedType, Converted, Sequence, ExprTrees, NoExprs, MaybeExpr, NoExpr, AnExpr, TypeNameTree, TypeNamed, SpecifiersTree, Specified, SpecifierTree, Stored, Qualified, Basic, Record, RecordTag, Enumeration, EnumerationTag, NamedType, MemberTree, Members, MemberTrees, FieldTree, Field, FieldTrees, EnumeratorTree, Enumerator, EnumeratorTrees, DeclaratorTree, Declarator, MaybeDeclarator, NoDeclarator, ADeclarator, CoreTree, Named, Inner, Omitted, SuffixTree, ArraySuffix, Prototype, NameList, NoParameters, SuffixTrees, ParameterTree, Parameter, ParameterTrees}
+use Rattle.c_ast.specs.Trees.{ExprTree, Enclosed, Prefix, SizeofExpr, SizeofType, Cast, Comma, ExprTrees, NoExprs, MaybeExpr, NoExpr, AnExpr, TypeNameTree, TypeNamed, SpecifiersTree, Specified, SpecifierTree, Stored, Qualified, Basic, Record, RecordTag, Enum, EnumTag, NamedType, MemberTree, Members, MemberTrees, FieldTree, Field, FieldTrees, EnumeratorTree, Enumerator, EnumeratorTrees, DeclaratorTree, Declarator, MaybeDeclarator, NoDeclarator, ADeclarator, CoreTree, Named, Inner, Omitted, SuffixTree, ArraySuffix, Prototype, NameList, NoParameters, SuffixTrees, ParameterTree, Parameter, ParameterTrees}
+use Rattle.c_ast.specs.Trees as tree
 use Rattle.c_ast.specs.Signs.{open_bracket, close_bracket, open_parenthesis, close_parenthesis, open_brace, close_brace, star_sign, colon_sign, semicolon, ellipsis, equals_sign, comma_sign}
 use Rattle.c_ast.specs.Keywords.{const_word, sizeof_word, volatile_word}
 use Rattle.c_readings.specs.Links.{LinkTree, Indexed, Arguments, Member, Postfix, Operand, Choices, Value, linked, kind_at}
@@ -115,8 +116,8 @@ enumerators R s =
 abbrev pub enumeration_behind : Readers → ℕ → Option (List ℕ) × State → Read SpecifierTree
 enumeration_behind R line p =
     ask (IsSign open_brace) p.1
-    (bind (enumerators R (beyond p.1)) (λ es t. gives (Enumeration line p.0 es.0 es.1) t))
-    (bare p.0 (λ n. EnumerationTag line n) p.1)
+    (bind (enumerators R (beyond p.1)) (λ es t. gives (Enum line p.0 es.0 es.1) t))
+    (bare p.0 (λ n. EnumTag line n) p.1)
 
 -- behind `enum`
 unfoldable pub enumeration_of : Readers → ℕ → State → Read SpecifierTree
@@ -283,7 +284,7 @@ texts_on (t ∷ ts) = text_or t.lexeme (texts_on ts) (t ∷ ts)
 
 abbrev pub prefixed_by : Readers → ℕ → Option PrefixOperator → State → Read ExprTree
 prefixed_by R line None s = None
-prefixed_by R line (Some op) s = bind (R.piece (operand_level op) s) (λ a t. gives (Prefixed line op a) t)
+prefixed_by R line (Some op) s = bind (R.piece (operand_level op) s) (λ a t. gives (Prefix line op a) t)
 
 -- behind `(`, where no type's name is next
 unfoldable pub enclosed : Readers → ℕ → State → Read ExprTree
@@ -292,14 +293,14 @@ enclosed R line s = bind (R.whole s) (λ e t. one_sign close_parenthesis t (λ u
 -- behind `(`, where a type's name is next
 unfoldable pub cast : Readers → ℕ → State → Read ExprTree
 cast R line s =
-    bind (type_name R s) (λ n t. one_sign close_parenthesis t (λ u. bind (R.piece cast_level u) (λ a v. gives (Converted line n a) v)))
+    bind (type_name R s) (λ n t. one_sign close_parenthesis t (λ u. bind (R.piece cast_level u) (λ a v. gives (Cast line n a) v)))
 
 -- behind `sizeof`
 unfoldable pub sized : Readers → ℕ → State → Read ExprTree
 sized R line s =
     ask IsSized s
-    (bind (type_name R (beyond s)) (λ n t. one_sign close_parenthesis t (λ u. gives (SizedType line n) u)))
-    (bind (R.piece unary_level s) (λ a t. gives (SizedExpr line a) t))
+    (bind (type_name R (beyond s)) (λ n t. one_sign close_parenthesis t (λ u. gives (SizeofType line n) u)))
+    (bind (R.piece unary_level s) (λ a t. gives (SizeofExpr line a) t))
 
 abbrev pub signed_by : Readers → ℕ → ℕ → ℕ → State → Read ExprTree
 signed_by R level line k s =
@@ -308,10 +309,10 @@ signed_by R level line k s =
     else (if nat_le level 14 then prefixed_by R line (prefix_of k) s else None)
 
 abbrev pub head_by : Readers → ℕ → ℕ → Lexeme → State → Read ExprTree
-head_by R level line (Name n) s = if is_typedef s.names n then None else gives (Variable line n) s
-head_by R level line (Integer v k) s = gives (IntegerConstant line v k) s
-head_by R level line (Character v) s = gives (CharacterConstant line v) s
-head_by R level line (Text b) s = gives (Literal line (b ∷ (texts_on s.rest).0)) record { names = s.names; rest = (texts_on s.rest).1 }
+head_by R level line (Name n) s = if is_typedef s.names n then None else gives (tree.Name line n) s
+head_by R level line (Integer v k) s = gives (tree.Integer line v k) s
+head_by R level line (Character v) s = gives (tree.Character line v) s
+head_by R level line (Text b) s = gives (tree.Text line (b ∷ (texts_on s.rest).0)) record { names = s.names; rest = (texts_on s.rest).1 }
 head_by R level line (Keyword k) s = if k == sizeof_word && nat_le level unary_level then sized R line s else None
 head_by R level line (Sign k) s = signed_by R level line k s
 
@@ -359,7 +360,7 @@ unfoldable pub whole_above : Readers → State → Read ExprTree
 whole_above R s =
     bind (piece_above R assignment_level s) (λ a t.
     ask (IsSign comma_sign) t
-    (if nat_le (height a) R.limit then bind (commas (R.piece assignment_level) t) (λ es u. gives (Sequence (here s) (exprs_of (a ∷ es))) u) else None)
+    (if nat_le (height a) R.limit then bind (commas (R.piece assignment_level) t) (λ es u. gives (Comma (here s) (exprs_of (a ∷ es))) u) else None)
     (gives a t))
 
 abbrev pub declarator_behind : Readers → Bool → Bool → ℕ → List (List Qualifier) × List Placed → InForce → Read DeclaratorTree

@@ -5,7 +5,7 @@ use Rattle.std.specs.Prelude.{◌==◌, if◌then◌else◌, not, ℕ, zero, suc
 use Rattle.c_ast.specs.Lexemes.{Lexeme, Name, Keyword, Integer, Character, Text, Sign, Placed}
 use Rattle.c_ast.specs.Marks.{IsSign, IsKeyword, IsLabel}
 use Rattle.c_ast.specs.UnitViews.{statements_of}
-use Rattle.c_ast.specs.Trees.{ExprTree, MaybeExpr, NoExpr, AnExpr, StatementTree, Labelled, Case, Default, Evaluate, Compound, If, IfElse, Switch, While, Do, For, Goto, Continue, Break, Return, BlockTree, Block}
+use Rattle.c_ast.specs.Trees.{ExprTree, MaybeExpr, NoExpr, AnExpr, StatementTree, Label, Case, Default, Expression, Compound, If, IfElse, Switch, While, Do, For, Goto, Continue, Break, Return, BlockTree, Block}
 use Rattle.c_ast.specs.Signs.{open_parenthesis, close_parenthesis, open_brace, close_brace, colon_sign, semicolon}
 use Rattle.c_ast.specs.Keywords.{break_word, case_word, continue_word, default_word, do_word, else_word, for_word, goto_word, if_word, return_word, switch_word, while_word}
 use Rattle.c_ast.specs.Operators.{conditional_level}
@@ -84,7 +84,7 @@ abbrev pub name_before : ℕ → State → Read (List ℕ)
 name_before k s = one_name s (λ n t. one_sign k t (λ u. gives n u))
 
 unfoldable pub labelled : (State → Read StatementTree) → State → Read StatementTree
-labelled inner s = bind (name_before colon_sign s) (λ n t. bind (inner t) (λ x u. gives (Labelled (here s) n x) u))
+labelled inner s = bind (name_before colon_sign s) (λ n t. bind (inner t) (λ x u. gives (Label (here s) n x) u))
 
 unfoldable pub if_behind : (ℕ → Readers) → ℕ → (State → Read StatementTree) → ℕ → State → Read StatementTree
 if_behind R n inner line s =
@@ -126,7 +126,7 @@ unfoldable pub compound : (ℕ → Readers) → ℕ → (State → Read Statemen
 compound R n inner s = bind (block_inside R n inner (here s) (open_state (beyond s))) (λ b t. gives (Compound (here s) b) t)
 
 unfoldable pub evaluate : (ℕ → Readers) → ℕ → State → Read StatementTree
-evaluate R n s = bind (maybe_before R n semicolon s) (λ e t. gives (Evaluate (here s) e) t)
+evaluate R n s = bind (maybe_before R n semicolon s) (λ e t. gives (Expression (here s) e) t)
 
 abbrev pub by_maybe_word : (ℕ → Readers) → ℕ → (State → Read StatementTree) → Option StatementWord → State → Read StatementTree
 by_maybe_word R n inner (Some w) s = by_word R n inner (here s) w (beyond s)

@@ -7,7 +7,7 @@ use Rattle.c_ast.specs.declared.statement.StatementForm.TheVariants as statement
 use Rattle.c_ast.specs.declared.statement.Block.{Block as BlockValue, out-Block}
 use Rattle.c_ast.specs.declared.unit.ExternalForm.TheVariants as external_form
 use Rattle.c_ast.specs.declared.unit.Unit.{Unit as UnitValue}
-use Rattle.c_ast.specs.Trees.{StatementTree, SpecifiersTree, Labelled, Case, Default, Evaluate, Compound, If, IfElse, Switch, While, Do, For, Goto, Continue, Break, Return, Block, Function, Declares, Empty}
+use Rattle.c_ast.specs.Trees.{StatementTree, SpecifiersTree, Label, Case, Default, Expression, Compound, If, IfElse, Switch, While, Do, For, Goto, Continue, Break, Return, Block, Function, Declares, Empty}
 use Rattle.c_ast.specs.Views.{specifiers_of}
 use Rattle.c_ast.specs.UnitViews.{maybe_of, option_of, statements_of}
 use Rattle.c_ast.proofs.lemmas.UnitLayers.{statement_is, block_is, is_label, is_case, is_default, is_expression, is_block, is_if, is_if_else, is_switch, is_while, is_do, is_for, is_goto, is_continue, is_break, is_return}
@@ -33,7 +33,7 @@ pub statement_parts : (v : StatementValue) → statement_seen v ≡ statement_fo
 unfolding statement_seen statement_form_seen
 statement_parts v = statement_is v
 
-pub form_label : (n : _) (s : _) (line : ℕ) → statement_form_seen (statement_form.Label n s) line ≡ Labelled line n (statement_seen s.value)
+pub form_label : (n : _) (s : _) (line : ℕ) → statement_form_seen (statement_form.Label n s) line ≡ Label line n (statement_seen s.value)
 unfolding statement_form_seen statement_seen
 form_label n s line = ap (λ (g : ℕ → StatementTree). g line) (is_label n s)
 
@@ -45,9 +45,9 @@ pub form_default : (s : _) (line : ℕ) → statement_form_seen (statement_form.
 unfolding statement_form_seen statement_seen
 form_default s line = ap (λ (g : ℕ → StatementTree). g line) (is_default s)
 
-pub form_expression : (e : _) (line : ℕ) → statement_form_seen (statement_form.Expression e) line ≡ Evaluate line (maybe_expr_seen e)
+pub form_expression : (e : _) (line : ℕ) → statement_form_seen (statement_form.Expression e) line ≡ Expression line (maybe_expr_seen e)
 unfolding statement_form_seen
-form_expression e line = ap (λ (g : ℕ → StatementTree). g line) (is_expression e) ∙ ap (Evaluate line) (any_expr e)
+form_expression e line = ap (λ (g : ℕ → StatementTree). g line) (is_expression e) ∙ ap (Expression line) (any_expr e)
 
 pub form_block : (b : _) (line : ℕ) → statement_form_seen (statement_form.Block b) line ≡ Compound line (block_seen b.value)
 unfolding statement_form_seen block_seen

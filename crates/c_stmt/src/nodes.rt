@@ -1,6 +1,7 @@
 //! Statements, blocks and units made of their parts.
 ghost use Rattle.std.specs.Prelude.{◌≡◌, map};
-ghost use Rattle.c_ast.specs.Trees.{Labelled, Case, Default, Evaluate, Compound, If, IfElse, Switch, While, Do, For, Goto, Continue, Break, Return, Function, Declares, Empty};
+ghost use Rattle.c_ast.specs.Trees.{Case, Default, Compound, If, IfElse, Switch, While, Do, For, Goto, Continue, Break, Return, Function, Declares, Empty};
+ghost use Rattle.c_ast.specs.Trees as tree;
 ghost use Rattle.c_ast.specs.Trees.{Block as BlockNode};
 ghost use Rattle.c_ast.specs.UnitViews.{option_of, statements_of};
 ghost use Rattle.c_ast.specs.Seen.{declarator_seen, expr_seen, maybe_expr_seen, specifiers_seen};
@@ -16,7 +17,7 @@ use lcc_base::{Bytes, Items};
 /// A statement with a label.
 #[tactic(auto, using(crate::proofs::SeenNodes::statement_forms))]
 pub(crate) fn labelled(line: u32, name: Bytes, inner: Box<Statement>) -> Statement
-    ensures { statement_seen result ≡ Labelled line name (statement_seen inner.value) }
+    ensures { statement_seen result ≡ tree.Label line name (statement_seen inner.value) }
 {
     Statement {
         line,
@@ -49,7 +50,7 @@ pub(crate) fn default(line: u32, inner: Box<Statement>) -> Statement
 /// An expression statement, or none.
 #[tactic(auto, using(crate::proofs::SeenNodes::statement_forms))]
 pub(crate) fn evaluate(line: u32, expression: Option<Expr>) -> Statement
-    ensures { statement_seen result ≡ Evaluate line (maybe_expr_seen expression) }
+    ensures { statement_seen result ≡ tree.Expression line (maybe_expr_seen expression) }
 {
     Statement {
         line,

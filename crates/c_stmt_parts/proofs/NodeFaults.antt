@@ -60,7 +60,7 @@ pub for_first : (a b c : Option CoreTree) (s : State) → first_of stmt_constrai
 for_first a None c s = refl
 for_first a (Some e) c s = two_tests (is_nothing s.tags (value_type e)) (is_scalar (value_type e))
 
-pub evaluate_first : (e : CoreTree) (s : State) → first_of stmt_constraints s (node.Evaluate e) ≡ None
+pub evaluate_first : (e : CoreTree) (s : State) → first_of stmt_constraints s (node.Expression e) ≡ None
 evaluate_first e s = refl
 
 abbrev pub switch_broken : List Tag → CoreTree → Option ℕ
@@ -93,7 +93,7 @@ return_first result (Some e) s = refl
 abbrev pub told_if : ℕ → Bool → Option ℕ
 told_if k b = if b then Some k else None
 
-pub label_first : (again : Bool) (s : State) → first_of stmt_constraints s (node.Labelled again) ≡ told_if 50 again
+pub label_first : (again : Bool) (s : State) → first_of stmt_constraints s (node.Label again) ≡ told_if 50 again
 label_first again s = refl
 
 pub break_first : (a : Around) (s : State) → first_of stmt_constraints s (node.Break a) ≡ told_if 49 (not (a.switch || a.loop))

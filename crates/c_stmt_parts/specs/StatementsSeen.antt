@@ -7,7 +7,7 @@ use Rattle.c_ast.specs.declared.statement.Statement.{Statement, out-Statement}
 use Rattle.c_ast.specs.declared.statement.StatementForm.{StatementForm}
 use Rattle.c_ast.specs.declared.statement.StatementForm.TheVariants as form
 use Rattle.c_ast.specs.declared.statement.Block.{Block as BlockValue, out-Block}
-use Rattle.c_ast.specs.Trees.{StatementTree, Labelled, Case, Default, Evaluate, Compound, If, IfElse, Switch, While, Do, For, Goto, Continue, Break, Return, BlockTree, Block}
+use Rattle.c_ast.specs.Trees.{StatementTree, Label, Case, Default, Expression, Compound, If, IfElse, Switch, While, Do, For, Goto, Continue, Break, Return, BlockTree, Block}
 use Rattle.c_ast.specs.Seen.{expr_seen, maybe_expr_seen}
 use Rattle.c_ast.specs.SeenUnits.{declaration_seen}
 use Rattle.c_ast.specs.UnitViews.{block_of, maybe_of, statement_form_of, statement_of, statements_of}
@@ -32,7 +32,7 @@ pub block_parts : (v : BlockValue) → block_seen v ≡ Block (out-Block v).line
 unfolding block_seen statement_seen declaration_seen
 block_parts v = block_is v
 
-pub form_label : (n : _) (s : Box Statement) (line : ℕ) → statement_form_seen (form.Label n s) line ≡ Labelled line n (statement_seen s.value)
+pub form_label : (n : _) (s : Box Statement) (line : ℕ) → statement_form_seen (form.Label n s) line ≡ Label line n (statement_seen s.value)
 unfolding statement_form_seen statement_seen
 form_label n s line = ap (λ (g : ℕ → StatementTree). g line) (is_label n s)
 
@@ -50,9 +50,9 @@ unfolding expr_seen
 maybe_is None = refl
 maybe_is (Some e) = refl
 
-pub form_expression : (e : Option Expr) (line : ℕ) → statement_form_seen (form.Expression e) line ≡ Evaluate line (maybe_expr_seen e)
+pub form_expression : (e : Option Expr) (line : ℕ) → statement_form_seen (form.Expression e) line ≡ Expression line (maybe_expr_seen e)
 unfolding statement_form_seen
-form_expression e line = ap (λ (g : ℕ → StatementTree). g line) (is_expression e) ∙ ap (Evaluate line) (maybe_is e)
+form_expression e line = ap (λ (g : ℕ → StatementTree). g line) (is_expression e) ∙ ap (Expression line) (maybe_is e)
 
 pub form_block : (b : _) (line : ℕ) → statement_form_seen (form.Block b) line ≡ Compound line (block_seen b.value)
 unfolding statement_form_seen block_seen

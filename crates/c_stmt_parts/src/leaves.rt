@@ -72,8 +72,8 @@ pub fn is_again(body: &Body, within: &Within, name: &[u8]) -> bool
 
 /// Nothing, unless the label on this line stood before.
 pub fn label(again: bool, line: u32) -> Result<(), CheckFault>
-    ensures sound { OnOk result ((t : Table) → IsSound t line (node.Labelled again)) }
-    ensures told { IfErr result (λ e. (t : Table) → IsToldAt t line (node.Labelled again) e) }
+    ensures sound { OnOk result ((t : Table) → IsSound t line (node.Label again)) }
+    ensures told { IfErr result (λ e. (t : Table) → IsToldAt t line (node.Label again) e) }
 {
     if again {
         return Err(CheckFault::Constraint { number: 50, line });

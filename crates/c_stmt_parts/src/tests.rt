@@ -76,8 +76,8 @@ pub fn evaluated(
 ) -> Result<CoreExpr, CheckFault>
     requires { IsIn (length types.old.forms) e }
     ensures ok { IfOk result (λ c. core types.new c ≡ value (core types.old e)) }
-    ensures sound { OnOk result (IsSound types.old line (node.Evaluate (core types.old e))) }
-    ensures told { IfErr result (IsToldAt types.old line (node.Evaluate (core types.old e))) }
+    ensures sound { OnOk result (IsSound types.old line (node.Expression (core types.old e))) }
+    ensures told { IfErr result (IsToldAt types.old line (node.Expression (core types.old e))) }
     ensures within { IfOk result (IsIn (length types.new.forms)) }
     ensures grows { Grows types.old types.new }
 {

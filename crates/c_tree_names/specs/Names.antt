@@ -3,7 +3,7 @@
 use Rattle.std.specs.Prelude.{◌≡◌, ℕ, Bool, true, false, ◌&&◌, ◌||◌, ◌==◌, Option, Some, None, List, [], ◌∷◌}
 use Rattle.std.specs.Char.{is_ascii_digit, is_ascii_alphabetic}
 use Rattle.c_ast.specs.Levels.{FitsUnit}
-use Rattle.c_ast.specs.Trees.{ExprTree, Variable, IntegerConstant, CharacterConstant, Literal, Enclosed, Subscript, Called, Selected, Stepped, Prefixed, SizedExpr, SizedType, Converted, Combined, Chosen, Assigned, Sequence, ExprTrees, NoExprs, Exprs, MaybeExpr, NoExpr, AnExpr, TypeNameTree, TypeNamed, SpecifiersTree, Specified, SpecifierTree, Stored, Qualified, Basic, Record, RecordTag, Enumeration, EnumerationTag, NamedType, SpecifierTrees, NoSpecifiers, Specifiers, MemberTree, Members, MemberTrees, NoMembers, MoreMembers, FieldTree, Field, FieldTrees, NoFields, Fields, EnumeratorTree, Enumerator, EnumeratorTrees, NoEnumerators, Enumerators, DeclaratorTree, Declarator, MaybeDeclarator, NoDeclarator, ADeclarator, CoreTree, Named, Inner, Omitted, SuffixTree, ArraySuffix, Prototype, NameList, NoParameters, SuffixTrees, NoSuffixes, Suffixes, ParameterTree, Parameter, ParameterTrees, NoParameter, Parameters, InitialiserTree, ByExpr, Braced, InitialiserTrees, NoInitialisers, Initialisers, InitTree, DeclarationTree, StatementTree, Labelled, Case, Default, Evaluate, Compound, If, IfElse, Switch, While, Do, For, Goto, Continue, Break, Return, StatementTrees, NoStatements, Statements, BlockTree, Block, ExternalTree, Function, Declares, Empty, UnitTree}
+use Rattle.c_ast.specs.Trees.{ExprTree, Name, Integer, Character, Text, Enclosed, Index, Call, Member, Postfix, Prefix, SizeofExpr, SizeofType, Cast, Binary, Conditional, Assign, Comma, ExprTrees, NoExprs, Exprs, MaybeExpr, NoExpr, AnExpr, TypeNameTree, TypeNamed, SpecifiersTree, Specified, SpecifierTree, Stored, Qualified, Basic, Record, RecordTag, Enum, EnumTag, NamedType, SpecifierTrees, NoSpecifiers, Specifiers, MemberTree, Members, MemberTrees, NoMembers, MoreMembers, FieldTree, Field, FieldTrees, NoFields, Fields, EnumeratorTree, Enumerator, EnumeratorTrees, NoEnumerators, Enumerators, DeclaratorTree, Declarator, MaybeDeclarator, NoDeclarator, ADeclarator, CoreTree, Named, Inner, Omitted, SuffixTree, ArraySuffix, Prototype, NameList, NoParameters, SuffixTrees, NoSuffixes, Suffixes, ParameterTree, Parameter, ParameterTrees, NoParameter, Parameters, InitialiserTree, ByExpr, Braced, InitialiserTrees, NoInitialisers, Initialisers, InitTree, DeclarationTree, StatementTree, Label, Case, Default, Expression, Compound, If, IfElse, Switch, While, Do, For, Goto, Continue, Break, Return, StatementTrees, NoStatements, Statements, BlockTree, Block, ExternalTree, Function, Declares, Empty, UnitTree}
 
 abbrev pub is_name_byte : ℕ → Bool
 is_name_byte b = (is_ascii_alphabetic b || is_ascii_digit b) || b == 95
@@ -27,23 +27,23 @@ AreNames (n ∷ ns) = IsName n × AreNames ns
 
 abbrev mutual
   pub ExprNames : ExprTree → Type 0
-  ExprNames (Variable l n) = IsName n
-  ExprNames (IntegerConstant l v k) = Unit {0}
-  ExprNames (CharacterConstant l v) = Unit {0}
-  ExprNames (Literal l bs) = Unit {0}
+  ExprNames (Name l n) = IsName n
+  ExprNames (Integer l v k) = Unit {0}
+  ExprNames (Character l v) = Unit {0}
+  ExprNames (Text l bs) = Unit {0}
   ExprNames (Enclosed l e) = ExprNames e
-  ExprNames (Subscript l a i) = ExprNames a × ExprNames i
-  ExprNames (Called l f es) = ExprNames f × AllNames es
-  ExprNames (Selected l op a n) = ExprNames a
-  ExprNames (Stepped l op a) = ExprNames a
-  ExprNames (Prefixed l op a) = ExprNames a
-  ExprNames (SizedExpr l a) = ExprNames a
-  ExprNames (SizedType l t) = TypeNames t
-  ExprNames (Converted l t a) = TypeNames t × ExprNames a
-  ExprNames (Combined l op a b) = ExprNames a × ExprNames b
-  ExprNames (Chosen l a b c) = ExprNames a × (ExprNames b × ExprNames c)
-  ExprNames (Assigned l op a b) = ExprNames a × ExprNames b
-  ExprNames (Sequence l es) = AllNames es
+  ExprNames (Index l a i) = ExprNames a × ExprNames i
+  ExprNames (Call l f es) = ExprNames f × AllNames es
+  ExprNames (Member l op a n) = ExprNames a
+  ExprNames (Postfix l op a) = ExprNames a
+  ExprNames (Prefix l op a) = ExprNames a
+  ExprNames (SizeofExpr l a) = ExprNames a
+  ExprNames (SizeofType l t) = TypeNames t
+  ExprNames (Cast l t a) = TypeNames t × ExprNames a
+  ExprNames (Binary l op a b) = ExprNames a × ExprNames b
+  ExprNames (Conditional l a b c) = ExprNames a × (ExprNames b × ExprNames c)
+  ExprNames (Assign l op a b) = ExprNames a × ExprNames b
+  ExprNames (Comma l es) = AllNames es
 
   pub AllNames : ExprTrees → Type 0
   AllNames NoExprs = Unit {0}
@@ -69,8 +69,8 @@ abbrev mutual
   SpecifierNames (Basic l b) = Unit {0}
   SpecifierNames (Record l k tag ms) = AllMemberNames ms
   SpecifierNames (RecordTag l k n) = Unit {0}
-  SpecifierNames (Enumeration l tag es comma) = AllEnumeratorNames es
-  SpecifierNames (EnumerationTag l n) = Unit {0}
+  SpecifierNames (Enum l tag es comma) = AllEnumeratorNames es
+  SpecifierNames (EnumTag l n) = Unit {0}
   SpecifierNames (NamedType l n) = Unit {0}
 
   pub AllMemberNames : MemberTrees → Type 0
@@ -156,10 +156,10 @@ AllDeclarationNames (d ∷ ds) = DeclarationNames d × AllDeclarationNames ds
 
 abbrev mutual
   pub StatementNames : StatementTree → Type 0
-  StatementNames (Labelled l n s) = StatementNames s
+  StatementNames (Label l n s) = StatementNames s
   StatementNames (Case l e s) = ExprNames e × StatementNames s
   StatementNames (Default l s) = StatementNames s
-  StatementNames (Evaluate l e) = MaybeNames e
+  StatementNames (Expression l e) = MaybeNames e
   StatementNames (Compound l b) = BlockNames b
   StatementNames (If l e s) = ExprNames e × StatementNames s
   StatementNames (IfElse l e s t) = ExprNames e × (StatementNames s × StatementNames t)

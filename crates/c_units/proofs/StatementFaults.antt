@@ -1,6 +1,6 @@
 -- The fault that typing gives of a statement is that of the first node, in postorder, that has one.
 use Rattle.std.specs.Prelude.{refl, None, List, [], ◌∷◌}
-use Rattle.c_ast.specs.Trees.{NoExpr, AnExpr, DeclarationTree, StatementTree, Labelled, Case, Default, Evaluate, Compound, If, IfElse, Switch, While, Do, For, Goto, Continue, Break, Return, StatementTrees, NoStatements, Statements, BlockTree, Block}
+use Rattle.c_ast.specs.Trees.{NoExpr, AnExpr, DeclarationTree, StatementTree, Label, Case, Default, Expression, Compound, If, IfElse, Switch, While, Do, For, Goto, Continue, Break, Return, StatementTrees, NoStatements, Statements, BlockTree, Block}
 use Rattle.c_meaning.specs.State.{State, entered}
 use Rattle.c_meaning.proofs.lemmas.TypingFaults.{expr_first, maybe_first}
 use Rattle.c_meaning.proofs.lemmas.DeclaringFaults.{declaration_first}
@@ -15,11 +15,11 @@ declarations_first s (d ∷ ds) = look_first _ _ _ _ (inside_first _ _ (declarat
 
 mutual
   pub stmt_first : (f : Within) (a : Around) (s : State) (b : Body) (t : StatementTree) → IsFirstIn (typed_stmt f a s b t) (stmt_nodes f a s b t)
-  stmt_first f a s b (Labelled l name st) = look_first _ _ _ _ (stmt_first f a s (marked b) st) (λ s t. node_in _ _ _)
+  stmt_first f a s b (Label l name st) = look_first _ _ _ _ (stmt_first f a s (marked b) st) (λ s t. node_in _ _ _)
   stmt_first f a s b (Case l e st) = look_first _ _ _ _ (part_inside _ _ (expr_first s e)) (λ s c. look_first _ _ _ _ (stmt_first f a s (with_case a b c) st) (λ s t. node_in _ _ _))
   stmt_first f a s b (Default l st) = look_first _ _ _ _ (stmt_first f a s (with_default a b) st) (λ s t. node_in _ _ _)
-  stmt_first f a s b (Evaluate l NoExpr) = none_in _ _
-  stmt_first f a s b (Evaluate l (AnExpr e)) = look_first _ _ _ _ (part_inside _ _ (expr_first s e)) (λ s c. node_in _ _ _)
+  stmt_first f a s b (Expression l NoExpr) = none_in _ _
+  stmt_first f a s b (Expression l (AnExpr e)) = look_first _ _ _ _ (part_inside _ _ (expr_first s e)) (λ s c. node_in _ _ _)
   stmt_first f a s b (Compound l block) = last_in _ _ _ (block_first f a (entered s) b block) (λ t x. refl)
   stmt_first f a s b (If l e st) = look_first _ _ _ _ (part_inside _ _ (expr_first s e)) (λ s c. look_first _ _ _ _ (stmt_first f a s b st) (λ s t. node_in _ _ _))
   stmt_first f a s b (IfElse l e st su) = look_first _ _ _ _ (part_inside _ _ (expr_first s e)) (λ s c. look_first _ _ _ _ (stmt_first f a s b st) (λ s t. look_first _ _ _ _ (stmt_first f a s t.body su) (λ s u. node_in _ _ _)))

@@ -1,6 +1,6 @@
 -- What the rows of statements type is what typing as a function gives, and nothing else.
 use Rattle.std.specs.Prelude.{None, List, [], ◌∷◌}
-use Rattle.c_ast.specs.Trees.{NoExpr, AnExpr, DeclarationTree, StatementTree, Labelled, Case, Default, Evaluate, Compound, If, IfElse, Switch, While, Do, For, Goto, Continue, Break, Return, StatementTrees, NoStatements, Statements, BlockTree, Block}
+use Rattle.c_ast.specs.Trees.{NoExpr, AnExpr, DeclarationTree, StatementTree, Label, Case, Default, Expression, Compound, If, IfElse, Switch, While, Do, For, Goto, Continue, Break, Return, StatementTrees, NoStatements, Statements, BlockTree, Block}
 use Rattle.c_meaning.specs.State.{State, entered}
 use Rattle.c_meaning.specs.Laws.{IsTyping}
 use Rattle.c_meaning.proofs.lemmas.Threads.{then_typing, is_typing, at_typing}
@@ -16,11 +16,11 @@ declarations_rows s (d ∷ ds) = then_typing (declaration_rows s d) (λ s what. 
 
 mutual
   pub stmt_rows : (f : Within) (a : Around) (s : State) (b : Body) (t : StatementTree) → IsTyping (typed_stmt f a s b t) (TypesStmt f a s b t)
-  stmt_rows f a s b (Labelled l name st) = then_typing (stmt_rows f a s (marked b) st) (λ s t. at_typing)
+  stmt_rows f a s b (Label l name st) = then_typing (stmt_rows f a s (marked b) st) (λ s t. at_typing)
   stmt_rows f a s b (Case l e st) = then_typing (expr_rows s e) (λ s c. then_typing (stmt_rows f a s (with_case a b c) st) (λ s t. at_typing))
   stmt_rows f a s b (Default l st) = then_typing (stmt_rows f a s (with_default a b) st) (λ s t. at_typing)
-  stmt_rows f a s b (Evaluate l NoExpr) = is_typing
-  stmt_rows f a s b (Evaluate l (AnExpr e)) = then_typing (expr_rows s e) (λ s c. at_typing)
+  stmt_rows f a s b (Expression l NoExpr) = is_typing
+  stmt_rows f a s b (Expression l (AnExpr e)) = then_typing (expr_rows s e) (λ s c. at_typing)
   stmt_rows f a s b (Compound l block) = then_typing (block_rows f a (entered s) b block) (λ t x. is_typing)
   stmt_rows f a s b (If l e st) = then_typing (expr_rows s e) (λ s c. then_typing (stmt_rows f a s b st) (λ s t. at_typing))
   stmt_rows f a s b (IfElse l e st su) = then_typing (expr_rows s e) (λ s c. then_typing (stmt_rows f a s b st) (λ s t. then_typing (stmt_rows f a s t.body su) (λ s u. at_typing)))

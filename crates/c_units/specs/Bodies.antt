@@ -1,7 +1,7 @@
 -- Typing of statements: their parts in order, and then the statement.
 -- Source: C89 3.6.
 use Rattle.std.specs.Prelude.{ℕ, ℤ, pos, unsigned_abs, ◌+◌, ◌^◌, ◌==◌, ◌&&◌, ◌||◌, not, if◌then◌else◌, Bool, true, false, Option, Some, None, List, [], ◌∷◌, ◌++◌, length, is_some, is_none}
-use Rattle.c_ast.specs.Trees.{NoExpr, AnExpr, DeclarationTree, StatementTree, Labelled, Case, Default, Evaluate, Compound, If, IfElse, Switch, While, Do, For, Goto, Continue, Break, Return, StatementTrees, NoStatements, Statements, BlockTree, Block}
+use Rattle.c_ast.specs.Trees.{NoExpr, AnExpr, DeclarationTree, StatementTree, Label, Case, Default, Expression, Compound, If, IfElse, Switch, While, Do, For, Goto, Continue, Break, Return, StatementTrees, NoStatements, Statements, BlockTree, Block}
 use Rattle.c_symbols.specs.Scoping.{symbol_named}
 use Rattle.c_types.specs.CType.{CType, unqualified}
 use Rattle.c_meaning.specs.declared.core_stmt.CoreCase.{CoreCase}
@@ -167,11 +167,11 @@ typed_declarations s (d ∷ ds) = then_do (typed_declaration s d) (λ s what. th
 
 abbrev mutual
   pub typed_stmt : Within → Around → State → Body → StatementTree → Outcome (Typed (StmtOf CType))
-  typed_stmt f a s b (Labelled l name st) = then_do (typed_stmt f a s (marked b) st) (λ s t. at_stmt s l (node.Labelled (stands_again f b name)) (labelled b t))
+  typed_stmt f a s b (Label l name st) = then_do (typed_stmt f a s (marked b) st) (λ s t. at_stmt s l (node.Label (stands_again f b name)) (labelled b t))
   typed_stmt f a s b (Case l e st) = then_do (typed s e) (λ s c. then_do (typed_stmt f a s (with_case a b c) st) (λ s t. at_stmt s l (node.Case c a (is_case_again a b c)) (labelled b t)))
   typed_stmt f a s b (Default l st) = then_do (typed_stmt f a s (with_default a b) st) (λ s t. at_stmt s l (node.Default a (is_default_again a b)) (labelled b t))
-  typed_stmt f a s b (Evaluate l NoExpr) = Fine s (done b code.Nothing)
-  typed_stmt f a s b (Evaluate l (AnExpr e)) = then_do (typed s e) (λ s c. at_stmt s l (node.Evaluate c) (done b (code.Expression (value c))))
+  typed_stmt f a s b (Expression l NoExpr) = Fine s (done b code.Nothing)
+  typed_stmt f a s b (Expression l (AnExpr e)) = then_do (typed s e) (λ s c. at_stmt s l (node.Expression c) (done b (code.Expression (value c))))
   typed_stmt f a s b (Compound l block) = then_do (typed_block f a (entered s) b block) (λ t x. Fine (left s.outer s.inner t) x)
   typed_stmt f a s b (If l e st) = then_do (typed s e) (λ s c. then_do (typed_stmt f a s b st) (λ s t. at_stmt s l (node.Test c) (done t.body (code.If (value c) t.code code.Nothing))))
   typed_stmt f a s b (IfElse l e st su) = then_do (typed s e) (λ s c. then_do (typed_stmt f a s b st) (λ s t. then_do (typed_stmt f a s t.body su) (λ s u. at_stmt s l (node.Test c) (done u.body (code.If (value c) t.code u.code)))))

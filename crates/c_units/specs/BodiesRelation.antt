@@ -2,7 +2,7 @@
 -- passes no limit. The states are those before and behind it.
 -- Source: C89 3.6.
 use Rattle.std.specs.Prelude.{◌≡◌, ℕ, None, List, [], ◌∷◌}
-use Rattle.c_ast.specs.Trees.{NoExpr, AnExpr, DeclarationTree, StatementTree, Labelled, Case, Default, Evaluate, Compound, If, IfElse, Switch, While, Do, For, Goto, Continue, Break, Return, StatementTrees, NoStatements, Statements, BlockTree, Block}
+use Rattle.c_ast.specs.Trees.{NoExpr, AnExpr, DeclarationTree, StatementTree, Label, Case, Default, Expression, Compound, If, IfElse, Switch, While, Do, For, Goto, Continue, Break, Return, StatementTrees, NoStatements, Statements, BlockTree, Block}
 use Rattle.c_types.specs.CType.{CType}
 use Rattle.c_meaning.specs.State.{State, entered, left}
 use Rattle.c_meaning.specs.StmtTrees.{StmtOf, StmtsOf, NoStmt}
@@ -25,11 +25,11 @@ TypesDeclarations s (d ∷ ds) = Then (TypesDeclaration s d) (λ s what. Then (T
 
 abbrev mutual
   pub TypesStmt : Within → Around → State → Body → StatementTree → State → Typed (StmtOf CType) → Type 0
-  TypesStmt f a s b (Labelled l name st) = Then (TypesStmt f a s (marked b) st) (λ s t. IsStmt s l (node.Labelled (stands_again f b name)) (labelled b t))
+  TypesStmt f a s b (Label l name st) = Then (TypesStmt f a s (marked b) st) (λ s t. IsStmt s l (node.Label (stands_again f b name)) (labelled b t))
   TypesStmt f a s b (Case l e st) = Then (Types s e) (λ s c. Then (TypesStmt f a s (with_case a b c) st) (λ s t. IsStmt s l (node.Case c a (is_case_again a b c)) (labelled b t)))
   TypesStmt f a s b (Default l st) = Then (TypesStmt f a s (with_default a b) st) (λ s t. IsStmt s l (node.Default a (is_default_again a b)) (labelled b t))
-  TypesStmt f a s b (Evaluate l NoExpr) = Is s (done b code.Nothing)
-  TypesStmt f a s b (Evaluate l (AnExpr e)) = Then (Types s e) (λ s c. IsStmt s l (node.Evaluate c) (done b (code.Expression (value c))))
+  TypesStmt f a s b (Expression l NoExpr) = Is s (done b code.Nothing)
+  TypesStmt f a s b (Expression l (AnExpr e)) = Then (Types s e) (λ s c. IsStmt s l (node.Expression c) (done b (code.Expression (value c))))
   TypesStmt f a s b (Compound l block) = Then (TypesBlock f a (entered s) b block) (λ t x. Is (left s.outer s.inner t) x)
   TypesStmt f a s b (If l e st) = Then (Types s e) (λ s c. Then (TypesStmt f a s b st) (λ s t. IsStmt s l (node.Test c) (done t.body (code.If (value c) t.code code.Nothing))))
   TypesStmt f a s b (IfElse l e st su) = Then (Types s e) (λ s c. Then (TypesStmt f a s b st) (λ s t. Then (TypesStmt f a s t.body su) (λ s u. IsStmt s l (node.Test c) (done u.body (code.If (value c) t.code u.code)))))

@@ -1,13 +1,13 @@
 -- The labels, cases and defaults of a function's body in the order of the text. Each is numbered by how many stand before it.
 -- Source: C89 3.6.1, 3.1.2.1: a label is known in its whole function.
 use Rattle.std.specs.Prelude.{ℕ, suc, ◌+◌, List, [], ◌∷◌, ◌++◌, is_some, if◌then◌else◌}
-use Rattle.c_ast.specs.Trees.{StatementTree, Labelled, Case, Default, Compound, If, IfElse, Switch, While, Do, For, StatementTrees, NoStatements, Statements, BlockTree, Block}
+use Rattle.c_ast.specs.Trees.{StatementTree, Label, Case, Default, Compound, If, IfElse, Switch, While, Do, For, StatementTrees, NoStatements, Statements, BlockTree, Block}
 use Rattle.c_symbols.specs.Scoping.{symbol_named}
 
 -- how many stand in a statement
 abbrev mutual
   pub marks : StatementTree → ℕ
-  marks (Labelled l name s) = suc (marks s)
+  marks (Label l name s) = suc (marks s)
   marks (Case l e s) = suc (marks s)
   marks (Default l s) = suc (marks s)
   marks (Compound l b) = block_marks b
@@ -29,7 +29,7 @@ abbrev mutual
 -- the labels with their numbers, where so many stand before
 abbrev mutual
   pub labels : ℕ → StatementTree → List (List ℕ × ℕ)
-  labels n (Labelled l name s) = (name, n) ∷ labels (suc n) s
+  labels n (Label l name s) = (name, n) ∷ labels (suc n) s
   labels n (Case l e s) = labels (suc n) s
   labels n (Default l s) = labels (suc n) s
   labels n (Compound l b) = block_labels n b

@@ -23,11 +23,11 @@ pub record Around : Type 0 where
 
 pub data StmtNode : Type 0 where
   -- a label, and whether it stood before
-  Labelled : (again : Bool) → StmtNode
+  Label : (again : Bool) → StmtNode
   -- a case, and whether its number stood in the switch before; a default, and whether the switch had one
   Case : (e : CoreTree) (around : Around) (again : Bool) → StmtNode
   Default : (around : Around) (again : Bool) → StmtNode
-  Evaluate : (e : CoreTree) → StmtNode
+  Expression : (e : CoreTree) → StmtNode
   -- an `if`, a `while` or a `do`, and its test
   Test : (e : CoreTree) → StmtNode
   For : (first test last : Option CoreTree) → StmtNode
@@ -82,7 +82,7 @@ is_misplaced s n = false
 
 -- 50: a label stands twice
 abbrev pub labels_again : State → StmtNode → Bool
-labels_again s (Labelled again) = again
+labels_again s (Label again) = again
 labels_again s n = false
 
 -- 51: a return with a value in a void function, or of a value not assignable
@@ -109,7 +109,7 @@ value_fault tags (Some e) = passed_fault (line_of e) (passed_by tags (value_type
 
 -- of the expressions whose values a statement takes
 abbrev pub values_fault : List Tag → StmtNode → Option Fault
-values_fault tags (Evaluate e) = value_fault tags (Some e)
+values_fault tags (Expression e) = value_fault tags (Some e)
 values_fault tags (Test e) = value_fault tags (Some e)
 values_fault tags (For first test last) =
     or_else (value_fault tags first) (or_else (value_fault tags test) (value_fault tags last))

@@ -1,7 +1,7 @@
 -- The nodes of a unit in postorder, each behind its parts, as far as these are typed, and the first of them that breaks a constraint
 -- or passes a limit.
 use Rattle.std.specs.Prelude.{ℕ, Bool, true, Option, Some, None, List, [], ◌∷◌, ◌++◌, length, map, is_some}
-use Rattle.c_ast.specs.Trees.{NoExpr, AnExpr, SpecifiersTree, DeclaratorTree, InitTree, DeclarationTree, StatementTree, Labelled, Case, Default, Evaluate, Compound, If, IfElse, Switch, While, Do, For, Goto, Continue, Break, Return, StatementTrees, NoStatements, Statements, BlockTree, Block, ExternalTree, Function, Declares, Empty, UnitTree}
+use Rattle.c_ast.specs.Trees.{NoExpr, AnExpr, SpecifiersTree, DeclaratorTree, InitTree, DeclarationTree, StatementTree, Label, Case, Default, Expression, Compound, If, IfElse, Switch, While, Do, For, Goto, Continue, Break, Return, StatementTrees, NoStatements, Statements, BlockTree, Block, ExternalTree, Function, Declares, Empty, UnitTree}
 use Rattle.c_meaning.specs.State.{State, entered}
 use Rattle.c_meaning.specs.Constraints.{Fault}
 use Rattle.c_meaning.specs.Linkage.{with_count}
@@ -66,11 +66,11 @@ declarations_nodes s (d ∷ ds) = look (inside (declaration_nodes s d)) (typed_d
 
 abbrev mutual
   pub stmt_nodes : Within → Around → State → Body → StatementTree → List UnitPlace
-  stmt_nodes f a s b (Labelled l name st) = look (stmt_nodes f a s (marked b) st) (typed_stmt f a s (marked b) st) (λ s t. stmt_place s l (node.Labelled (stands_again f b name)))
+  stmt_nodes f a s b (Label l name st) = look (stmt_nodes f a s (marked b) st) (typed_stmt f a s (marked b) st) (λ s t. stmt_place s l (node.Label (stands_again f b name)))
   stmt_nodes f a s b (Case l e st) = look (inside (parts (nodes s e))) (typed s e) (λ s c. look (stmt_nodes f a s (with_case a b c) st) (typed_stmt f a s (with_case a b c) st) (λ s t. stmt_place s l (node.Case c a (is_case_again a b c))))
   stmt_nodes f a s b (Default l st) = look (stmt_nodes f a s (with_default a b) st) (typed_stmt f a s (with_default a b) st) (λ s t. stmt_place s l (node.Default a (is_default_again a b)))
-  stmt_nodes f a s b (Evaluate l NoExpr) = []
-  stmt_nodes f a s b (Evaluate l (AnExpr e)) = look (inside (parts (nodes s e))) (typed s e) (λ s c. stmt_place s l (node.Evaluate c))
+  stmt_nodes f a s b (Expression l NoExpr) = []
+  stmt_nodes f a s b (Expression l (AnExpr e)) = look (inside (parts (nodes s e))) (typed s e) (λ s c. stmt_place s l (node.Expression c))
   stmt_nodes f a s b (Compound l block) = block_nodes f a (entered s) b block
   stmt_nodes f a s b (If l e st) = look (inside (parts (nodes s e))) (typed s e) (λ s c. look (stmt_nodes f a s b st) (typed_stmt f a s b st) (λ s t. stmt_place s l (node.Test c)))
   stmt_nodes f a s b (IfElse l e st su) =

@@ -2,7 +2,7 @@
 use Rattle.std.specs.Prelude.{ℕ, codes, Option, Some, None, List, [], ◌∷◌}
 use Rattle.c_ast.specs.declared.class.IntKind.TheVariants as int_kind
 use Rattle.c_ast.specs.declared.specifier.BasicType.TheVariants as word
-use Rattle.c_ast.specs.Trees.{ExprTree, Variable, IntegerConstant, Called, NoExprs, AnExpr, SpecifierTree, SpecifiersTree, Specified, Basic, DeclaratorTree, Declarator, Named, SuffixTree, NoParameters, NoSuffixes, Suffixes, ParameterTree, Parameter, ParameterTrees, NoParameter, Parameters, ADeclarator, DeclarationTree, StatementTree, Evaluate, Return, StatementTrees, NoStatements, Statements, Block, ExternalTree, Function, Declares, UnitTree}
+use Rattle.c_ast.specs.Trees.{ExprTree, Name, Integer, Call, NoExprs, AnExpr, SpecifierTree, SpecifiersTree, Specified, Basic, DeclaratorTree, Declarator, Named, SuffixTree, NoParameters, NoSuffixes, Suffixes, ParameterTree, Parameter, ParameterTrees, NoParameter, Parameters, ADeclarator, DeclarationTree, StatementTree, Expression, Return, StatementTrees, NoStatements, Statements, Block, ExternalTree, Function, Declares, UnitTree}
 use Rattle.c_meaning.specs.Constraints.{Fault}
 use Rattle.c_meaning.specs.Laws.{fault_of}
 use Rattle.c_meaning.specs.Typing.{Outcome, Fine, Bad}
@@ -11,7 +11,7 @@ use Rattle.c_meaning.specs.DeclarationSamples.{parts, of_int}
 use Rattle.c_units.specs.Typing.{typed_unit}
 
 abbrev pub number : ℕ → ExprTree
-number n = IntegerConstant 1 n int_kind.Int
+number n = Integer 1 n int_kind.Int
 
 abbrev pub statements : List StatementTree → StatementTrees
 statements [] = NoStatements
@@ -52,10 +52,10 @@ main line ss = with_body line (codes "main") ss
 
 -- `x();` and `x;`
 abbrev pub call : ℕ → List ℕ → StatementTree
-call line name = Evaluate line (AnExpr (Called line (Variable line name) NoExprs))
+call line name = Expression line (AnExpr (Call line (Name line name) NoExprs))
 
 abbrev pub use_of : ℕ → List ℕ → StatementTree
-use_of line name = Evaluate line (AnExpr (Variable line name))
+use_of line name = Expression line (AnExpr (Name line name))
 
 abbrev pub return_ : ℕ → StatementTree
 return_ n = Return 1 (AnExpr (number n))

@@ -18,7 +18,8 @@ use Rattle.c_ast.specs.declared.expr.Specifier.{Specifier, out-Specifier, fold_o
 use Rattle.c_ast.specs.declared.expr.Specifiers.{Specifiers as SpecifiersValue, out-Specifiers, fold_out-Specifiers}
 use Rattle.c_ast.specs.declared.expr.Suffix.{Suffix, out-Suffix, fold_out-Suffix}
 use Rattle.c_ast.specs.declared.expr.TypeName.{TypeName, out-TypeName, fold_out-TypeName}
-use Rattle.c_ast.specs.Trees.{ExprTree, Variable, IntegerConstant, CharacterConstant, Literal, Enclosed, Subscript, Called, Selected, Stepped, Prefixed, SizedExpr, SizedType, Converted, Combined, Chosen, Assigned, Sequence, SpecifierTree, Stored, Qualified, Basic, Record, RecordTag, Enumeration, EnumerationTag, NamedType, SuffixTree, ArraySuffix, Prototype, NameList, NoParameters, CoreTree, Named, Inner, Omitted, DeclaratorTree, Declarator, EnumeratorTree, Enumerator, MemberTree, Members, FieldTree, Field, ParameterTree, Parameter, SpecifiersTree, Specified, TypeNameTree, TypeNamed}
+use Rattle.c_ast.specs.Trees.{ExprTree, Name, Integer, Character, Text, Enclosed, Index, Call, Postfix, Prefix, SizeofExpr, SizeofType, Cast, Binary, Conditional, Assign, Comma, SpecifierTree, Stored, Qualified, Basic, Record, RecordTag, Enum, EnumTag, NamedType, SuffixTree, ArraySuffix, Prototype, NameList, NoParameters, CoreTree, Named, Inner, Omitted, DeclaratorTree, Declarator, EnumeratorTree, Enumerator, MemberTree, Members, FieldTree, Field, ParameterTree, Parameter, SpecifiersTree, Specified, TypeNameTree, TypeNamed}
+use Rattle.c_ast.specs.Trees as tree
 use Rattle.c_ast.specs.Views.{expr_of, exprs_of, type_name_of, specifiers_of, specifier_of, specifier_list_of, member_of, members_of, field_of, fields_of, enumerator_of, enumerators_of, declarator_of, maybe_declarator_of, suffix_of, suffixes_of, parameter_of, parameters_of, core_of, expr_form_of, specifier_form_of, suffix_form_of, core_layer, expr_form_layer, specifier_form_layer, suffix_form_layer, declarator_layer, enumerator_layer, expr_layer, member_layer, field_layer, parameter_layer, specifier_layer, specifiers_layer, suffix_layer, type_name_layer}
 use Rattle.c_ast.specs.UnitViews.{option_of, maybe_of}
 
@@ -27,55 +28,55 @@ use Rattle.c_ast.specs.UnitViews.{option_of, maybe_of}
 pub expr_is : (e : Expr) → expr_of e ≡ expr_form_of (out-Expr e).form (out-Expr e).line
 expr_is e = fold_out-Expr CoreTree (ℕ → ExprTree) (ℕ → SpecifierTree) (ℕ → SuffixTree) DeclaratorTree EnumeratorTree ExprTree MemberTree FieldTree ParameterTree SpecifierTree SpecifiersTree SuffixTree TypeNameTree core_layer expr_form_layer specifier_form_layer suffix_form_layer declarator_layer enumerator_layer expr_layer member_layer field_layer parameter_layer specifier_layer specifiers_layer suffix_layer type_name_layer e
 
-pub is_name : (n : _) → expr_form_of (expr_form.Name n) ≡ λ line. Variable line n
+pub is_name : (n : _) → expr_form_of (expr_form.Name n) ≡ λ line. Name line n
 is_name n = ap expr_form_of (sym (expr_form.rolls-Name n)) ∙ fold-roll-ExprForm CoreTree (ℕ → ExprTree) (ℕ → SpecifierTree) (ℕ → SuffixTree) DeclaratorTree EnumeratorTree ExprTree MemberTree FieldTree ParameterTree SpecifierTree SpecifiersTree SuffixTree TypeNameTree core_layer expr_form_layer specifier_form_layer suffix_form_layer declarator_layer enumerator_layer expr_layer member_layer field_layer parameter_layer specifier_layer specifiers_layer suffix_layer type_name_layer (ExprForm-F.Name n)
 
-pub is_integer : (v : _) (k : _) → expr_form_of (expr_form.Integer v k) ≡ λ line. IntegerConstant line v k
+pub is_integer : (v : _) (k : _) → expr_form_of (expr_form.Integer v k) ≡ λ line. Integer line v k
 is_integer v k = ap expr_form_of (sym (expr_form.rolls-Integer v k)) ∙ fold-roll-ExprForm CoreTree (ℕ → ExprTree) (ℕ → SpecifierTree) (ℕ → SuffixTree) DeclaratorTree EnumeratorTree ExprTree MemberTree FieldTree ParameterTree SpecifierTree SpecifiersTree SuffixTree TypeNameTree core_layer expr_form_layer specifier_form_layer suffix_form_layer declarator_layer enumerator_layer expr_layer member_layer field_layer parameter_layer specifier_layer specifiers_layer suffix_layer type_name_layer (ExprForm-F.Integer v k)
 
-pub is_character : (v : _) → expr_form_of (expr_form.Character v) ≡ λ line. CharacterConstant line v
+pub is_character : (v : _) → expr_form_of (expr_form.Character v) ≡ λ line. Character line v
 is_character v = ap expr_form_of (sym (expr_form.rolls-Character v)) ∙ fold-roll-ExprForm CoreTree (ℕ → ExprTree) (ℕ → SpecifierTree) (ℕ → SuffixTree) DeclaratorTree EnumeratorTree ExprTree MemberTree FieldTree ParameterTree SpecifierTree SpecifiersTree SuffixTree TypeNameTree core_layer expr_form_layer specifier_form_layer suffix_form_layer declarator_layer enumerator_layer expr_layer member_layer field_layer parameter_layer specifier_layer specifiers_layer suffix_layer type_name_layer (ExprForm-F.Character v)
 
-pub is_text : (bs : _) → expr_form_of (expr_form.Text bs) ≡ λ line. Literal line bs
+pub is_text : (bs : _) → expr_form_of (expr_form.Text bs) ≡ λ line. Text line bs
 is_text bs = ap expr_form_of (sym (expr_form.rolls-Text bs)) ∙ fold-roll-ExprForm CoreTree (ℕ → ExprTree) (ℕ → SpecifierTree) (ℕ → SuffixTree) DeclaratorTree EnumeratorTree ExprTree MemberTree FieldTree ParameterTree SpecifierTree SpecifiersTree SuffixTree TypeNameTree core_layer expr_form_layer specifier_form_layer suffix_form_layer declarator_layer enumerator_layer expr_layer member_layer field_layer parameter_layer specifier_layer specifiers_layer suffix_layer type_name_layer (ExprForm-F.Text bs)
 
 pub is_enclosed : (a : _) → expr_form_of (expr_form.Enclosed a) ≡ λ line. Enclosed line (expr_of a.value)
 is_enclosed a = ap expr_form_of (sym (expr_form.rolls-Enclosed a)) ∙ fold-roll-ExprForm CoreTree (ℕ → ExprTree) (ℕ → SpecifierTree) (ℕ → SuffixTree) DeclaratorTree EnumeratorTree ExprTree MemberTree FieldTree ParameterTree SpecifierTree SpecifiersTree SuffixTree TypeNameTree core_layer expr_form_layer specifier_form_layer suffix_form_layer declarator_layer enumerator_layer expr_layer member_layer field_layer parameter_layer specifier_layer specifiers_layer suffix_layer type_name_layer (ExprForm-F.Enclosed a)
 
-pub is_index : (a : _) (i : _) → expr_form_of (expr_form.Index a i) ≡ λ line. Subscript line (expr_of a.value) (expr_of i.value)
+pub is_index : (a : _) (i : _) → expr_form_of (expr_form.Index a i) ≡ λ line. Index line (expr_of a.value) (expr_of i.value)
 is_index a i = ap expr_form_of (sym (expr_form.rolls-Index a i)) ∙ fold-roll-ExprForm CoreTree (ℕ → ExprTree) (ℕ → SpecifierTree) (ℕ → SuffixTree) DeclaratorTree EnumeratorTree ExprTree MemberTree FieldTree ParameterTree SpecifierTree SpecifiersTree SuffixTree TypeNameTree core_layer expr_form_layer specifier_form_layer suffix_form_layer declarator_layer enumerator_layer expr_layer member_layer field_layer parameter_layer specifier_layer specifiers_layer suffix_layer type_name_layer (ExprForm-F.Index a i)
 
-pub is_call : (f : _) (es : _) → expr_form_of (expr_form.Call f es) ≡ λ line. Called line (expr_of f.value) (exprs_of (map expr_of es.value))
+pub is_call : (f : _) (es : _) → expr_form_of (expr_form.Call f es) ≡ λ line. Call line (expr_of f.value) (exprs_of (map expr_of es.value))
 is_call f es = ap expr_form_of (sym (expr_form.rolls-Call f es)) ∙ fold-roll-ExprForm CoreTree (ℕ → ExprTree) (ℕ → SpecifierTree) (ℕ → SuffixTree) DeclaratorTree EnumeratorTree ExprTree MemberTree FieldTree ParameterTree SpecifierTree SpecifiersTree SuffixTree TypeNameTree core_layer expr_form_layer specifier_form_layer suffix_form_layer declarator_layer enumerator_layer expr_layer member_layer field_layer parameter_layer specifier_layer specifiers_layer suffix_layer type_name_layer (ExprForm-F.Call f es)
 
-pub is_selected : (op : _) (a : _) (n : _) → expr_form_of (expr_form.Member op a n) ≡ λ line. Selected line op (expr_of a.value) n.value
+pub is_selected : (op : _) (a : _) (n : _) → expr_form_of (expr_form.Member op a n) ≡ λ line. tree.Member line op (expr_of a.value) n.value
 is_selected op a n = ap expr_form_of (sym (expr_form.rolls-Member op a n)) ∙ fold-roll-ExprForm CoreTree (ℕ → ExprTree) (ℕ → SpecifierTree) (ℕ → SuffixTree) DeclaratorTree EnumeratorTree ExprTree MemberTree FieldTree ParameterTree SpecifierTree SpecifiersTree SuffixTree TypeNameTree core_layer expr_form_layer specifier_form_layer suffix_form_layer declarator_layer enumerator_layer expr_layer member_layer field_layer parameter_layer specifier_layer specifiers_layer suffix_layer type_name_layer (ExprForm-F.Member op a n)
 
-pub is_postfix : (op : _) (a : _) → expr_form_of (expr_form.Postfix op a) ≡ λ line. Stepped line op (expr_of a.value)
+pub is_postfix : (op : _) (a : _) → expr_form_of (expr_form.Postfix op a) ≡ λ line. Postfix line op (expr_of a.value)
 is_postfix op a = ap expr_form_of (sym (expr_form.rolls-Postfix op a)) ∙ fold-roll-ExprForm CoreTree (ℕ → ExprTree) (ℕ → SpecifierTree) (ℕ → SuffixTree) DeclaratorTree EnumeratorTree ExprTree MemberTree FieldTree ParameterTree SpecifierTree SpecifiersTree SuffixTree TypeNameTree core_layer expr_form_layer specifier_form_layer suffix_form_layer declarator_layer enumerator_layer expr_layer member_layer field_layer parameter_layer specifier_layer specifiers_layer suffix_layer type_name_layer (ExprForm-F.Postfix op a)
 
-pub is_prefix : (op : _) (a : _) → expr_form_of (expr_form.Prefix op a) ≡ λ line. Prefixed line op (expr_of a.value)
+pub is_prefix : (op : _) (a : _) → expr_form_of (expr_form.Prefix op a) ≡ λ line. Prefix line op (expr_of a.value)
 is_prefix op a = ap expr_form_of (sym (expr_form.rolls-Prefix op a)) ∙ fold-roll-ExprForm CoreTree (ℕ → ExprTree) (ℕ → SpecifierTree) (ℕ → SuffixTree) DeclaratorTree EnumeratorTree ExprTree MemberTree FieldTree ParameterTree SpecifierTree SpecifiersTree SuffixTree TypeNameTree core_layer expr_form_layer specifier_form_layer suffix_form_layer declarator_layer enumerator_layer expr_layer member_layer field_layer parameter_layer specifier_layer specifiers_layer suffix_layer type_name_layer (ExprForm-F.Prefix op a)
 
-pub is_sizeof_expr : (a : _) → expr_form_of (expr_form.SizeofExpr a) ≡ λ line. SizedExpr line (expr_of a.value)
+pub is_sizeof_expr : (a : _) → expr_form_of (expr_form.SizeofExpr a) ≡ λ line. SizeofExpr line (expr_of a.value)
 is_sizeof_expr a = ap expr_form_of (sym (expr_form.rolls-SizeofExpr a)) ∙ fold-roll-ExprForm CoreTree (ℕ → ExprTree) (ℕ → SpecifierTree) (ℕ → SuffixTree) DeclaratorTree EnumeratorTree ExprTree MemberTree FieldTree ParameterTree SpecifierTree SpecifiersTree SuffixTree TypeNameTree core_layer expr_form_layer specifier_form_layer suffix_form_layer declarator_layer enumerator_layer expr_layer member_layer field_layer parameter_layer specifier_layer specifiers_layer suffix_layer type_name_layer (ExprForm-F.SizeofExpr a)
 
-pub is_sizeof_type : (t : _) → expr_form_of (expr_form.SizeofType t) ≡ λ line. SizedType line (type_name_of t.value)
+pub is_sizeof_type : (t : _) → expr_form_of (expr_form.SizeofType t) ≡ λ line. SizeofType line (type_name_of t.value)
 is_sizeof_type t = ap expr_form_of (sym (expr_form.rolls-SizeofType t)) ∙ fold-roll-ExprForm CoreTree (ℕ → ExprTree) (ℕ → SpecifierTree) (ℕ → SuffixTree) DeclaratorTree EnumeratorTree ExprTree MemberTree FieldTree ParameterTree SpecifierTree SpecifiersTree SuffixTree TypeNameTree core_layer expr_form_layer specifier_form_layer suffix_form_layer declarator_layer enumerator_layer expr_layer member_layer field_layer parameter_layer specifier_layer specifiers_layer suffix_layer type_name_layer (ExprForm-F.SizeofType t)
 
-pub is_cast : (t : _) (a : _) → expr_form_of (expr_form.Cast t a) ≡ λ line. Converted line (type_name_of t.value) (expr_of a.value)
+pub is_cast : (t : _) (a : _) → expr_form_of (expr_form.Cast t a) ≡ λ line. Cast line (type_name_of t.value) (expr_of a.value)
 is_cast t a = ap expr_form_of (sym (expr_form.rolls-Cast t a)) ∙ fold-roll-ExprForm CoreTree (ℕ → ExprTree) (ℕ → SpecifierTree) (ℕ → SuffixTree) DeclaratorTree EnumeratorTree ExprTree MemberTree FieldTree ParameterTree SpecifierTree SpecifiersTree SuffixTree TypeNameTree core_layer expr_form_layer specifier_form_layer suffix_form_layer declarator_layer enumerator_layer expr_layer member_layer field_layer parameter_layer specifier_layer specifiers_layer suffix_layer type_name_layer (ExprForm-F.Cast t a)
 
-pub is_binary : (op : _) (a : _) (b : _) → expr_form_of (expr_form.Binary op a b) ≡ λ line. Combined line op (expr_of a.value) (expr_of b.value)
+pub is_binary : (op : _) (a : _) (b : _) → expr_form_of (expr_form.Binary op a b) ≡ λ line. Binary line op (expr_of a.value) (expr_of b.value)
 is_binary op a b = ap expr_form_of (sym (expr_form.rolls-Binary op a b)) ∙ fold-roll-ExprForm CoreTree (ℕ → ExprTree) (ℕ → SpecifierTree) (ℕ → SuffixTree) DeclaratorTree EnumeratorTree ExprTree MemberTree FieldTree ParameterTree SpecifierTree SpecifiersTree SuffixTree TypeNameTree core_layer expr_form_layer specifier_form_layer suffix_form_layer declarator_layer enumerator_layer expr_layer member_layer field_layer parameter_layer specifier_layer specifiers_layer suffix_layer type_name_layer (ExprForm-F.Binary op a b)
 
-pub is_conditional : (a : _) (b : _) (c : _) → expr_form_of (expr_form.Conditional a b c) ≡ λ line. Chosen line (expr_of a.value) (expr_of b.value) (expr_of c.value)
+pub is_conditional : (a : _) (b : _) (c : _) → expr_form_of (expr_form.Conditional a b c) ≡ λ line. Conditional line (expr_of a.value) (expr_of b.value) (expr_of c.value)
 is_conditional a b c = ap expr_form_of (sym (expr_form.rolls-Conditional a b c)) ∙ fold-roll-ExprForm CoreTree (ℕ → ExprTree) (ℕ → SpecifierTree) (ℕ → SuffixTree) DeclaratorTree EnumeratorTree ExprTree MemberTree FieldTree ParameterTree SpecifierTree SpecifiersTree SuffixTree TypeNameTree core_layer expr_form_layer specifier_form_layer suffix_form_layer declarator_layer enumerator_layer expr_layer member_layer field_layer parameter_layer specifier_layer specifiers_layer suffix_layer type_name_layer (ExprForm-F.Conditional a b c)
 
-pub is_assign : (op : _) (a : _) (b : _) → expr_form_of (expr_form.Assign op a b) ≡ λ line. Assigned line op (expr_of a.value) (expr_of b.value)
+pub is_assign : (op : _) (a : _) (b : _) → expr_form_of (expr_form.Assign op a b) ≡ λ line. Assign line op (expr_of a.value) (expr_of b.value)
 is_assign op a b = ap expr_form_of (sym (expr_form.rolls-Assign op a b)) ∙ fold-roll-ExprForm CoreTree (ℕ → ExprTree) (ℕ → SpecifierTree) (ℕ → SuffixTree) DeclaratorTree EnumeratorTree ExprTree MemberTree FieldTree ParameterTree SpecifierTree SpecifiersTree SuffixTree TypeNameTree core_layer expr_form_layer specifier_form_layer suffix_form_layer declarator_layer enumerator_layer expr_layer member_layer field_layer parameter_layer specifier_layer specifiers_layer suffix_layer type_name_layer (ExprForm-F.Assign op a b)
 
-pub is_comma : (es : _) → expr_form_of (expr_form.Comma es) ≡ λ line. Sequence line (exprs_of (map expr_of es))
+pub is_comma : (es : _) → expr_form_of (expr_form.Comma es) ≡ λ line. Comma line (exprs_of (map expr_of es))
 is_comma es = ap expr_form_of (sym (expr_form.rolls-Comma es)) ∙ fold-roll-ExprForm CoreTree (ℕ → ExprTree) (ℕ → SpecifierTree) (ℕ → SuffixTree) DeclaratorTree EnumeratorTree ExprTree MemberTree FieldTree ParameterTree SpecifierTree SpecifiersTree SuffixTree TypeNameTree core_layer expr_form_layer specifier_form_layer suffix_form_layer declarator_layer enumerator_layer expr_layer member_layer field_layer parameter_layer specifier_layer specifiers_layer suffix_layer type_name_layer (ExprForm-F.Comma es)
 
 -- ---- specifiers
@@ -101,10 +102,10 @@ is_record k tag ms = ap specifier_form_of (sym (specifier_form.rolls-Record k ta
 pub is_record_tag : (k : _) (n : _) → specifier_form_of (specifier_form.RecordTag k n) ≡ λ line. RecordTag line k n
 is_record_tag k n = ap specifier_form_of (sym (specifier_form.rolls-RecordTag k n)) ∙ fold-roll-SpecifierForm CoreTree (ℕ → ExprTree) (ℕ → SpecifierTree) (ℕ → SuffixTree) DeclaratorTree EnumeratorTree ExprTree MemberTree FieldTree ParameterTree SpecifierTree SpecifiersTree SuffixTree TypeNameTree core_layer expr_form_layer specifier_form_layer suffix_form_layer declarator_layer enumerator_layer expr_layer member_layer field_layer parameter_layer specifier_layer specifiers_layer suffix_layer type_name_layer (SpecifierForm-F.RecordTag k n)
 
-pub is_enum : (tag : _) (es : _) (comma : _) → specifier_form_of (specifier_form.Enum tag es comma) ≡ λ line. Enumeration line tag (enumerators_of (map enumerator_of es)) comma
+pub is_enum : (tag : _) (es : _) (comma : _) → specifier_form_of (specifier_form.Enum tag es comma) ≡ λ line. Enum line tag (enumerators_of (map enumerator_of es)) comma
 is_enum tag es comma = ap specifier_form_of (sym (specifier_form.rolls-Enum tag es comma)) ∙ fold-roll-SpecifierForm CoreTree (ℕ → ExprTree) (ℕ → SpecifierTree) (ℕ → SuffixTree) DeclaratorTree EnumeratorTree ExprTree MemberTree FieldTree ParameterTree SpecifierTree SpecifiersTree SuffixTree TypeNameTree core_layer expr_form_layer specifier_form_layer suffix_form_layer declarator_layer enumerator_layer expr_layer member_layer field_layer parameter_layer specifier_layer specifiers_layer suffix_layer type_name_layer (SpecifierForm-F.Enum tag es comma)
 
-pub is_enum_tag : (n : _) → specifier_form_of (specifier_form.EnumTag n) ≡ λ line. EnumerationTag line n
+pub is_enum_tag : (n : _) → specifier_form_of (specifier_form.EnumTag n) ≡ λ line. EnumTag line n
 is_enum_tag n = ap specifier_form_of (sym (specifier_form.rolls-EnumTag n)) ∙ fold-roll-SpecifierForm CoreTree (ℕ → ExprTree) (ℕ → SpecifierTree) (ℕ → SuffixTree) DeclaratorTree EnumeratorTree ExprTree MemberTree FieldTree ParameterTree SpecifierTree SpecifiersTree SuffixTree TypeNameTree core_layer expr_form_layer specifier_form_layer suffix_form_layer declarator_layer enumerator_layer expr_layer member_layer field_layer parameter_layer specifier_layer specifiers_layer suffix_layer type_name_layer (SpecifierForm-F.EnumTag n)
 
 pub is_named : (n : _) → specifier_form_of (specifier_form.Named n) ≡ λ line. NamedType line n

@@ -13,7 +13,7 @@ use Rattle.c_ast.specs.declared.expr.TypeName.{TypeName as TypeNameValue, out-Ty
 use Rattle.c_ast.specs.declared.expr.DeclaratorCore.TheVariants as declarator_core
 use Rattle.c_ast.specs.declared.expr.SpecifierForm.TheVariants as specifier_form
 use Rattle.c_ast.specs.declared.expr.SuffixForm.TheVariants as suffix_form
-use Rattle.c_ast.specs.Trees.{SpecifierTree, SuffixTree, TypeNamed, Specified, Stored, Qualified, Basic, Record, RecordTag, Enumeration, EnumerationTag, NamedType, Members, Field, Enumerator, Declarator, Named, Inner, Omitted, ArraySuffix, Prototype, NameList, NoParameters, Parameter}
+use Rattle.c_ast.specs.Trees.{SpecifierTree, SuffixTree, TypeNamed, Specified, Stored, Qualified, Basic, Record, RecordTag, Enum, EnumTag, NamedType, Members, Field, Enumerator, Declarator, Named, Inner, Omitted, ArraySuffix, Prototype, NameList, NoParameters, Parameter}
 use Rattle.c_ast.specs.Views.{enumerators_of, fields_of, maybe_declarator_of, members_of, parameters_of, specifier_list_of, suffixes_of, declarator_of}
 use Rattle.c_ast.specs.UnitViews.{option_of, maybe_of}
 use Rattle.c_ast.proofs.lemmas.Layers.{declarator_is, enumerator_is, field_is, member_is, parameter_is, specifier_is, specifiers_is, suffix_is, type_name_is, is_array, is_basic, is_declared, is_empty, is_enum, is_enum_tag, is_named, is_names, is_omitted, is_parameters, is_parentheses, is_qualifier, is_record, is_record_tag, is_storage}
@@ -57,11 +57,11 @@ pub form_record_tag : (k : _) (n : _) (line : ℕ) → specifier_form_seen (spec
 unfolding specifier_form_seen member_seen enumerator_seen
 form_record_tag k n line = ap (λ (g : ℕ → SpecifierTree). g line) (is_record_tag k n)
 
-pub form_enum : (tag : _) (es : _) (comma : _) (line : ℕ) → specifier_form_seen (specifier_form.Enum tag es comma) line ≡ Enumeration line tag (enumerators_of (map enumerator_seen es)) comma
+pub form_enum : (tag : _) (es : _) (comma : _) (line : ℕ) → specifier_form_seen (specifier_form.Enum tag es comma) line ≡ Enum line tag (enumerators_of (map enumerator_seen es)) comma
 unfolding specifier_form_seen member_seen enumerator_seen
 form_enum tag es comma line = ap (λ (g : ℕ → SpecifierTree). g line) (is_enum tag es comma)
 
-pub form_enum_tag : (n : _) (line : ℕ) → specifier_form_seen (specifier_form.EnumTag n) line ≡ EnumerationTag line n
+pub form_enum_tag : (n : _) (line : ℕ) → specifier_form_seen (specifier_form.EnumTag n) line ≡ EnumTag line n
 unfolding specifier_form_seen member_seen enumerator_seen
 form_enum_tag n line = ap (λ (g : ℕ → SpecifierTree). g line) (is_enum_tag n)
 

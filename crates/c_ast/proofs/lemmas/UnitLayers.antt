@@ -7,7 +7,7 @@ use Rattle.c_ast.specs.declared.statement.StatementForm.{StatementForm-F, fold-r
 use Rattle.c_ast.specs.declared.statement.StatementForm.TheVariants as statement_form
 use Rattle.c_ast.specs.declared.statement.Statement.{Statement, out-Statement, fold_out-Statement}
 use Rattle.c_ast.specs.declared.statement.Block.{Block as BlockValue, out-Block, fold_out-Block}
-use Rattle.c_ast.specs.Trees.{InitialiserTree, ByExpr, Braced, StatementTree, Labelled, Case, Default, Evaluate, Compound, If, IfElse, Switch, While, Do, For, Goto, Continue, Break, Return, BlockTree, Block}
+use Rattle.c_ast.specs.Trees.{InitialiserTree, ByExpr, Braced, StatementTree, Label, Case, Default, Expression, Compound, If, IfElse, Switch, While, Do, For, Goto, Continue, Break, Return, BlockTree, Block}
 use Rattle.c_ast.specs.Views.{expr_of}
 use Rattle.c_ast.specs.UnitViews.{initialisers_of, initialiser_form_layer, initialiser_layer, initialiser_form_of, initialiser_of, declaration_of, statements_of, maybe_of, statement_form_layer, block_layer, statement_layer, statement_form_of, block_of, statement_of}
 
@@ -25,7 +25,7 @@ is_list is comma = ap initialiser_form_of (sym (initialiser_form.rolls-List is c
 pub statement_is : (s : Statement) → statement_of s ≡ statement_form_of (out-Statement s).form (out-Statement s).line
 statement_is s = fold_out-Statement (ℕ → StatementTree) BlockTree StatementTree statement_form_layer block_layer statement_layer s
 
-pub is_label : (n : _) (s : _) → statement_form_of (statement_form.Label n s) ≡ λ line. Labelled line n (statement_of s.value)
+pub is_label : (n : _) (s : _) → statement_form_of (statement_form.Label n s) ≡ λ line. Label line n (statement_of s.value)
 is_label n s = ap statement_form_of (sym (statement_form.rolls-Label n s)) ∙ fold-roll-StatementForm (ℕ → StatementTree) BlockTree StatementTree statement_form_layer block_layer statement_layer (StatementForm-F.Label n s)
 
 pub is_case : (e : _) (s : _) → statement_form_of (statement_form.Case e s) ≡ λ line. Case line (expr_of e) (statement_of s.value)
@@ -34,7 +34,7 @@ is_case e s = ap statement_form_of (sym (statement_form.rolls-Case e s)) ∙ fol
 pub is_default : (s : _) → statement_form_of (statement_form.Default s) ≡ λ line. Default line (statement_of s.value)
 is_default s = ap statement_form_of (sym (statement_form.rolls-Default s)) ∙ fold-roll-StatementForm (ℕ → StatementTree) BlockTree StatementTree statement_form_layer block_layer statement_layer (StatementForm-F.Default s)
 
-pub is_expression : (e : _) → statement_form_of (statement_form.Expression e) ≡ λ line. Evaluate line (maybe_of e)
+pub is_expression : (e : _) → statement_form_of (statement_form.Expression e) ≡ λ line. Expression line (maybe_of e)
 is_expression e = ap statement_form_of (sym (statement_form.rolls-Expression e)) ∙ fold-roll-StatementForm (ℕ → StatementTree) BlockTree StatementTree statement_form_layer block_layer statement_layer (StatementForm-F.Expression e)
 
 pub is_block : (b : _) → statement_form_of (statement_form.Block b) ≡ λ line. Compound line (block_of b.value)

@@ -2,7 +2,7 @@
 use Rattle.std.proofs.Common.{rules, ◌≡◌, Some, None, ◌++◌, map, refl, ap, ◌∙◌, arith}
 use Rattle.std.specs.Prelude.{pos, ◌+ℤ◌}
 use Rattle.std.proofs.lemmas.Int.{ints, to_z-of_z}
-use Rattle.c_ast.specs.Trees.{Combined, Assigned, Selected, IntegerConstant, CharacterConstant, Literal, Prefixed, Stepped, SizedExpr, Subscript}
+use Rattle.c_ast.specs.Trees.{Binary, Assign, Member, Integer, Character, Text, Prefix, Postfix, SizeofExpr, Index}
 use mir.Syntax.{w64}
 use mir.Val.{SFits, of_z, to_z}
 use Rattle.c_ast.specs.Trees as tree
@@ -33,13 +33,13 @@ pub walk_expr::expression-returns-in-Name : goal.walk_expr::expression-returns-i
 walk_expr::expression-returns-in-Name t c = let e = c.args.e.now in seen_as e _ _ c.in-Name.is (cc (form_name c.in-Name.name e.line)) (name_goes c.args.scopes.now c.args.types.now e.line c.as_slice.result.now c.name.result c.requires c.name.ensures.ok c.name.ensures.err c.name.ensures.within)
 
 pub walk_expr::expression-returns-in-Integer : goal.walk_expr::expression-returns-in-Integer
-walk_expr::expression-returns-in-Integer t c = let e = c.args.e.now in let h = c.in-Integer in seen_as e _ _ h.is (cc (form_integer h.value h.kind e.line)) (leaf_goes (IntegerConstant e.line h.value h.kind) e.line (node.Integer h.value h.kind) c.args.scopes.now c.args.types.now c.args.types.now c.integer.result (λ m. refl) c.requires (record { ok = c.integer.ensures.ok; err = c.integer.ensures.err; within = c.integer.ensures.within; grows = grows_itself c.args.types.now }))
+walk_expr::expression-returns-in-Integer t c = let e = c.args.e.now in let h = c.in-Integer in seen_as e _ _ h.is (cc (form_integer h.value h.kind e.line)) (leaf_goes (Integer e.line h.value h.kind) e.line (node.Integer h.value h.kind) c.args.scopes.now c.args.types.now c.args.types.now c.integer.result (λ m. refl) c.requires (record { ok = c.integer.ensures.ok; err = c.integer.ensures.err; within = c.integer.ensures.within; grows = grows_itself c.args.types.now }))
 
 pub walk_expr::expression-returns-in-Character : goal.walk_expr::expression-returns-in-Character
-walk_expr::expression-returns-in-Character t c = let e = c.args.e.now in let h = c.in-Character in seen_as e _ _ h.is (cc (form_character h.value e.line)) (leaf_goes (CharacterConstant e.line h.value) e.line (node.Character h.value) c.args.scopes.now c.args.types.now c.args.types.now c.character.result (λ m. refl) c.requires (record { ok = c.character.ensures.ok; err = c.character.ensures.err; within = c.character.ensures.within; grows = grows_itself c.args.types.now }))
+walk_expr::expression-returns-in-Character t c = let e = c.args.e.now in let h = c.in-Character in seen_as e _ _ h.is (cc (form_character h.value e.line)) (leaf_goes (Character e.line h.value) e.line (node.Character h.value) c.args.scopes.now c.args.types.now c.args.types.now c.character.result (λ m. refl) c.requires (record { ok = c.character.ensures.ok; err = c.character.ensures.err; within = c.character.ensures.within; grows = grows_itself c.args.types.now }))
 
 pub walk_expr::expression-returns-in-Text : goal.walk_expr::expression-returns-in-Text
-walk_expr::expression-returns-in-Text t c = let e = c.args.e.now in let h = c.in-Text in seen_as e _ _ h.is (cc (form_text h.texts e.line)) (leaf_goes (Literal e.line h.texts) e.line (node.Text h.texts) c.args.scopes.now c.args.types.now c.text.new.types c.text.result (λ m. refl) c.requires (record { ok = c.text.ensures.ok; err = c.text.ensures.err; within = c.text.ensures.within; grows = c.text.ensures.grows }))
+walk_expr::expression-returns-in-Text t c = let e = c.args.e.now in let h = c.in-Text in seen_as e _ _ h.is (cc (form_text h.texts e.line)) (leaf_goes (Text e.line h.texts) e.line (node.Text h.texts) c.args.scopes.now c.args.types.now c.text.new.types c.text.result (λ m. refl) c.requires (record { ok = c.text.ensures.ok; err = c.text.ensures.err; within = c.text.ensures.within; grows = c.text.ensures.grows }))
 
 pub walk_expr::expression-returns-in-Enclosed : goal.walk_expr::expression-returns-in-Enclosed
 walk_expr::expression-returns-in-Enclosed t c = let e = c.args.e.now in seen_as e _ _ c.in-Enclosed.is (cc (form_enclosed c.in-Enclosed.a e.line)) (enclosed_goes e.line (expr_seen c.deref.result.now) c.expression.ensures)
@@ -69,22 +69,22 @@ pub walk_expr::expression-returns-in-Comma : goal.walk_expr::expression-returns-
 walk_expr::expression-returns-in-Comma t c = let e = c.args.e.now in let h = c.in-Comma in seen_as e _ _ h.is (cc (form_comma h.parts e.line)) c.comma.ensures
 
 pub walk_expr::expression-returns-in_err-a-in-Member : goal.walk_expr::expression-returns-in_err-a-in-Member
-walk_expr::expression-returns-in_err-a-in-Member t c = let e = c.args.e.now in let x = expr_seen c.deref-in-Member.result.now in let h = c.in-Member in seen_as e _ _ h.is (cc (form_selected h.op h.a h.name e.line)) (one_stops (Selected e.line h.op x h.name.value) x e.line (λ y. node.Select h.op y h.name.value) (λ m. refl) c.from_residual.result c.from_residual.ensures.1 c.in_err-a-in-Member.ensures)
+walk_expr::expression-returns-in_err-a-in-Member t c = let e = c.args.e.now in let x = expr_seen c.deref-in-Member.result.now in let h = c.in-Member in seen_as e _ _ h.is (cc (form_selected h.op h.a h.name e.line)) (one_stops (Member e.line h.op x h.name.value) x e.line (λ y. node.Member h.op y h.name.value) (λ m. refl) c.from_residual.result c.from_residual.ensures.1 c.in_err-a-in-Member.ensures)
 
 pub walk_expr::expression-returns-in_ok-a-in-Member : goal.walk_expr::expression-returns-in_ok-a-in-Member
-walk_expr::expression-returns-in_ok-a-in-Member t c = let e = c.args.e.now in let x = expr_seen c.deref-in-Member.result.now in let n = c.as_slice-in-Member.result.now in let h = c.in-Member in seen_as e _ _ h.is (cc (form_selected h.op h.a h.name e.line)) (one_goes (Selected e.line h.op x n) x e.line (λ y. node.Select h.op y n) (λ m. refl) c.in_ok-a-in-Member.ensures (record { ok = c.select.ensures.ok; err = c.select.ensures.err; within = c.select.ensures.within; grows = c.select.ensures.grows }))
+walk_expr::expression-returns-in_ok-a-in-Member t c = let e = c.args.e.now in let x = expr_seen c.deref-in-Member.result.now in let n = c.as_slice-in-Member.result.now in let h = c.in-Member in seen_as e _ _ h.is (cc (form_selected h.op h.a h.name e.line)) (one_goes (Member e.line h.op x n) x e.line (λ y. node.Member h.op y n) (λ m. refl) c.in_ok-a-in-Member.ensures (record { ok = c.select.ensures.ok; err = c.select.ensures.err; within = c.select.ensures.within; grows = c.select.ensures.grows }))
 
 pub walk_expr::expression-returns-in_err-a-in-Binary : goal.walk_expr::expression-returns-in_err-a-in-Binary
-walk_expr::expression-returns-in_err-a-in-Binary t c = let e = c.args.e.now in let h = c.in-Binary in let x = expr_seen c.deref-in-Binary.result.now in let y = expr_seen c.deref-in-Binary-2.result.now in seen_as e _ _ h.is (cc (form_binary h.op h.a h.b e.line)) (two_stop (Combined e.line h.op x y) x y e.line (λ x y. node.Binary h.op x y) (λ m. refl) c.from_residual-in_err-a-in-Binary.result c.from_residual-in_err-a-in-Binary.ensures.1 c.in_err-a-in-Binary.ensures)
+walk_expr::expression-returns-in_err-a-in-Binary t c = let e = c.args.e.now in let h = c.in-Binary in let x = expr_seen c.deref-in-Binary.result.now in let y = expr_seen c.deref-in-Binary-2.result.now in seen_as e _ _ h.is (cc (form_binary h.op h.a h.b e.line)) (two_stop (Binary e.line h.op x y) x y e.line (λ x y. node.Binary h.op x y) (λ m. refl) c.from_residual-in_err-a-in-Binary.result c.from_residual-in_err-a-in-Binary.ensures.1 c.in_err-a-in-Binary.ensures)
 
 pub walk_expr::expression-returns-in_ok-a-in-Binary : goal.walk_expr::expression-returns-in_ok-a-in-Binary
-walk_expr::expression-returns-in_ok-a-in-Binary t c = let e = c.args.e.now in let h = c.in-Binary in let x = expr_seen c.deref-in-Binary.result.now in let y = expr_seen c.deref-in-Binary-2.result.now in seen_as e _ _ h.is (cc (form_binary h.op h.a h.b e.line)) (two_go (Combined e.line h.op x y) x y e.line (λ x y. node.Binary h.op x y) (λ m. refl) c.in_ok-a-in-Binary.ensures (record { ok = c.binary.ensures.ok; err = c.binary.ensures.err; within = c.binary.ensures.within; grows = c.binary.ensures.grows }))
+walk_expr::expression-returns-in_ok-a-in-Binary t c = let e = c.args.e.now in let h = c.in-Binary in let x = expr_seen c.deref-in-Binary.result.now in let y = expr_seen c.deref-in-Binary-2.result.now in seen_as e _ _ h.is (cc (form_binary h.op h.a h.b e.line)) (two_go (Binary e.line h.op x y) x y e.line (λ x y. node.Binary h.op x y) (λ m. refl) c.in_ok-a-in-Binary.ensures (record { ok = c.binary.ensures.ok; err = c.binary.ensures.err; within = c.binary.ensures.within; grows = c.binary.ensures.grows }))
 
 pub walk_expr::expression-returns-in_err-a-in-Assign : goal.walk_expr::expression-returns-in_err-a-in-Assign
-walk_expr::expression-returns-in_err-a-in-Assign t c = let e = c.args.e.now in let h = c.in-Assign in let x = expr_seen c.deref-in-Assign.result.now in let y = expr_seen c.deref-in-Assign-2.result.now in seen_as e _ _ h.is (cc (form_assign h.op h.a h.b e.line)) (two_stop (Assigned e.line h.op x y) x y e.line (λ x y. node.Assign h.op x y) (λ m. refl) c.from_residual-in_err-a-in-Assign.result c.from_residual-in_err-a-in-Assign.ensures.1 c.in_err-a-in-Assign.ensures)
+walk_expr::expression-returns-in_err-a-in-Assign t c = let e = c.args.e.now in let h = c.in-Assign in let x = expr_seen c.deref-in-Assign.result.now in let y = expr_seen c.deref-in-Assign-2.result.now in seen_as e _ _ h.is (cc (form_assign h.op h.a h.b e.line)) (two_stop (Assign e.line h.op x y) x y e.line (λ x y. node.Assign h.op x y) (λ m. refl) c.from_residual-in_err-a-in-Assign.result c.from_residual-in_err-a-in-Assign.ensures.1 c.in_err-a-in-Assign.ensures)
 
 pub walk_expr::expression-returns-in_ok-a-in-Assign : goal.walk_expr::expression-returns-in_ok-a-in-Assign
-walk_expr::expression-returns-in_ok-a-in-Assign t c = let e = c.args.e.now in let h = c.in-Assign in let x = expr_seen c.deref-in-Assign.result.now in let y = expr_seen c.deref-in-Assign-2.result.now in seen_as e _ _ h.is (cc (form_assign h.op h.a h.b e.line)) (two_go (Assigned e.line h.op x y) x y e.line (λ x y. node.Assign h.op x y) (λ m. refl) c.in_ok-a-in-Assign.ensures (record { ok = c.assign.ensures.ok; err = c.assign.ensures.err; within = c.assign.ensures.within; grows = c.assign.ensures.grows }))
+walk_expr::expression-returns-in_ok-a-in-Assign t c = let e = c.args.e.now in let h = c.in-Assign in let x = expr_seen c.deref-in-Assign.result.now in let y = expr_seen c.deref-in-Assign-2.result.now in seen_as e _ _ h.is (cc (form_assign h.op h.a h.b e.line)) (two_go (Assign e.line h.op x y) x y e.line (λ x y. node.Assign h.op x y) (λ m. refl) c.in_ok-a-in-Assign.ensures (record { ok = c.assign.ensures.ok; err = c.assign.ensures.err; within = c.assign.ensures.within; grows = c.assign.ensures.grows }))
 
 pub walk_expr::expression-returns-in_err-a-in-Conditional : goal.walk_expr::expression-returns-in_err-a-in-Conditional
 walk_expr::expression-returns-in_err-a-in-Conditional t c = let e = c.args.e.now in let h = c.in-Conditional in let x = expr_seen c.deref-in-Conditional.result.now in seen_as e _ _ h.is (cc (form_conditional h.a h.b h.c e.line)) (three_stop e.line x (expr_seen h.b.value) (expr_seen h.c.value) c.from_residual-in_err-a-in-Conditional.result c.from_residual-in_err-a-in-Conditional.ensures.1 c.in_err-a-in-Conditional.ensures)
@@ -105,28 +105,28 @@ pub walk_expr::two-returns : goal.walk_expr::two-returns
 walk_expr::two-returns t c = pair_goes (expr_seen c.args.a.now) (expr_seen c.args.b.now) c.in_ok-first.ensures c.in_ok-second.ensures
 
 pub walk_expr::postfix-returns-in_err-a : goal.walk_expr::postfix-returns-in_err-a
-walk_expr::postfix-returns-in_err-a t c = one_stops (Stepped c.args.line c.args.op (expr_seen c.args.a.now)) (expr_seen c.args.a.now) c.args.line (λ y. node.Postfix c.args.op y) (λ m. refl) c.from_residual.result c.from_residual.ensures.1 c.in_err-a.ensures
+walk_expr::postfix-returns-in_err-a t c = one_stops (Postfix c.args.line c.args.op (expr_seen c.args.a.now)) (expr_seen c.args.a.now) c.args.line (λ y. node.Postfix c.args.op y) (λ m. refl) c.from_residual.result c.from_residual.ensures.1 c.in_err-a.ensures
 
 pub walk_expr::postfix-returns : goal.walk_expr::postfix-returns
-walk_expr::postfix-returns t c = one_goes (Stepped c.args.line c.args.op (expr_seen c.args.a.now)) (expr_seen c.args.a.now) c.args.line (λ y. node.Postfix c.args.op y) (λ m. refl) c.in_ok-a.ensures (record { ok = c.postfix.ensures.ok; err = c.postfix.ensures.err; within = c.postfix.ensures.within; grows = c.postfix.ensures.grows })
+walk_expr::postfix-returns t c = one_goes (Postfix c.args.line c.args.op (expr_seen c.args.a.now)) (expr_seen c.args.a.now) c.args.line (λ y. node.Postfix c.args.op y) (λ m. refl) c.in_ok-a.ensures (record { ok = c.postfix.ensures.ok; err = c.postfix.ensures.err; within = c.postfix.ensures.within; grows = c.postfix.ensures.grows })
 
 pub walk_expr::prefix-returns-in_err-a : goal.walk_expr::prefix-returns-in_err-a
-walk_expr::prefix-returns-in_err-a t c = one_stops (Prefixed c.args.line c.args.op (expr_seen c.args.a.now)) (expr_seen c.args.a.now) c.args.line (λ y. node.Prefix c.args.op y) (λ m. refl) c.from_residual.result c.from_residual.ensures.1 c.in_err-a.ensures
+walk_expr::prefix-returns-in_err-a t c = one_stops (Prefix c.args.line c.args.op (expr_seen c.args.a.now)) (expr_seen c.args.a.now) c.args.line (λ y. node.Prefix c.args.op y) (λ m. refl) c.from_residual.result c.from_residual.ensures.1 c.in_err-a.ensures
 
 pub walk_expr::prefix-returns : goal.walk_expr::prefix-returns
-walk_expr::prefix-returns t c = one_goes (Prefixed c.args.line c.args.op (expr_seen c.args.a.now)) (expr_seen c.args.a.now) c.args.line (λ y. node.Prefix c.args.op y) (λ m. refl) c.in_ok-a.ensures (record { ok = c.prefix.ensures.ok; err = c.prefix.ensures.err; within = c.prefix.ensures.within; grows = c.prefix.ensures.grows })
+walk_expr::prefix-returns t c = one_goes (Prefix c.args.line c.args.op (expr_seen c.args.a.now)) (expr_seen c.args.a.now) c.args.line (λ y. node.Prefix c.args.op y) (λ m. refl) c.in_ok-a.ensures (record { ok = c.prefix.ensures.ok; err = c.prefix.ensures.err; within = c.prefix.ensures.within; grows = c.prefix.ensures.grows })
 
 pub walk_expr::sizeof_expr-returns-in_err-a : goal.walk_expr::sizeof_expr-returns-in_err-a
-walk_expr::sizeof_expr-returns-in_err-a t c = one_stops (SizedExpr c.args.line (expr_seen c.args.a.now)) (expr_seen c.args.a.now) c.args.line (λ y. node.SizeofExpr y) (λ m. refl) c.from_residual.result c.from_residual.ensures.1 c.in_err-a.ensures
+walk_expr::sizeof_expr-returns-in_err-a t c = one_stops (SizeofExpr c.args.line (expr_seen c.args.a.now)) (expr_seen c.args.a.now) c.args.line (λ y. node.SizeofExpr y) (λ m. refl) c.from_residual.result c.from_residual.ensures.1 c.in_err-a.ensures
 
 pub walk_expr::sizeof_expr-returns : goal.walk_expr::sizeof_expr-returns
-walk_expr::sizeof_expr-returns t c = one_goes (SizedExpr c.args.line (expr_seen c.args.a.now)) (expr_seen c.args.a.now) c.args.line (λ y. node.SizeofExpr y) (λ m. refl) c.in_ok-a.ensures (record { ok = c.sizeof_expr.ensures.ok; err = c.sizeof_expr.ensures.err; within = c.sizeof_expr.ensures.within; grows = c.sizeof_expr.ensures.grows })
+walk_expr::sizeof_expr-returns t c = one_goes (SizeofExpr c.args.line (expr_seen c.args.a.now)) (expr_seen c.args.a.now) c.args.line (λ y. node.SizeofExpr y) (λ m. refl) c.in_ok-a.ensures (record { ok = c.sizeof_expr.ensures.ok; err = c.sizeof_expr.ensures.err; within = c.sizeof_expr.ensures.within; grows = c.sizeof_expr.ensures.grows })
 
 pub walk_expr::subscript-returns-in_err-a : goal.walk_expr::subscript-returns-in_err-a
-walk_expr::subscript-returns-in_err-a t c = two_stop (Subscript c.args.line (expr_seen c.args.a.now) (expr_seen c.args.i.now)) (expr_seen c.args.a.now) (expr_seen c.args.i.now) c.args.line (λ x y. node.Subscript x y) (λ m. refl) c.from_residual.result c.from_residual.ensures.1 c.in_err-a.ensures
+walk_expr::subscript-returns-in_err-a t c = two_stop (Index c.args.line (expr_seen c.args.a.now) (expr_seen c.args.i.now)) (expr_seen c.args.a.now) (expr_seen c.args.i.now) c.args.line (λ x y. node.Index x y) (λ m. refl) c.from_residual.result c.from_residual.ensures.1 c.in_err-a.ensures
 
 pub walk_expr::subscript-returns : goal.walk_expr::subscript-returns
-walk_expr::subscript-returns t c = two_go (Subscript c.args.line (expr_seen c.args.a.now) (expr_seen c.args.i.now)) (expr_seen c.args.a.now) (expr_seen c.args.i.now) c.args.line (λ x y. node.Subscript x y) (λ m. refl) c.in_ok-a.ensures (record { ok = c.subscript.ensures.ok; err = c.subscript.ensures.err; within = c.subscript.ensures.within; grows = c.subscript.ensures.grows })
+walk_expr::subscript-returns t c = two_go (Index c.args.line (expr_seen c.args.a.now) (expr_seen c.args.i.now)) (expr_seen c.args.a.now) (expr_seen c.args.i.now) c.args.line (λ x y. node.Index x y) (λ m. refl) c.in_ok-a.ensures (record { ok = c.subscript.ensures.ok; err = c.subscript.ensures.err; within = c.subscript.ensures.within; grows = c.subscript.ensures.grows })
 
 pub walk_expr::sizeof_type-returns-in_err-of : goal.walk_expr::sizeof_type-returns-in_err-of
 walk_expr::sizeof_type-returns-in_err-of t c = sizeof_type_stops c.args.line (type_name_seen c.args.of.now) c.from_residual.result c.from_residual.ensures.1 c.in_err-of.ensures
@@ -270,13 +270,13 @@ pub walk_types::part-returns-in_err-of-in-RecordTag : goal.walk_types::part-retu
 walk_types::part-returns-in_err-of-in-RecordTag t c = let e = c.args.specifier.now in let h = c.in-RecordTag in let k = c.in_err-of-in-RecordTag.ensures in part_as e _ _ h.is (form_record_tag h.kind h.tag e.line) (whole_stops (tree.RecordTag e.line h.kind h.tag) c.in_err-of-in-RecordTag.field-0.0 c.from_residual.result c.from_residual.ensures.1 (rw c.as_slice-in-RecordTag.ensures at k.err) k.keeps)
 
 pub walk_types::part-returns-in_err-of-in-EnumTag : goal.walk_types::part-returns-in_err-of-in-EnumTag
-walk_types::part-returns-in_err-of-in-EnumTag t c = let e = c.args.specifier.now in let h = c.in-EnumTag in let k = c.in_err-of-in-EnumTag.ensures in part_as e _ _ h.is (form_enum_tag h.tag e.line) (whole_stops (tree.EnumerationTag e.line h.tag) c.in_err-of-in-EnumTag.field-0.0 c.from_residual-in_err-of-in-EnumTag.result c.from_residual-in_err-of-in-EnumTag.ensures.1 (rw c.as_slice-in-EnumTag.ensures at k.err) k.keeps)
+walk_types::part-returns-in_err-of-in-EnumTag t c = let e = c.args.specifier.now in let h = c.in-EnumTag in let k = c.in_err-of-in-EnumTag.ensures in part_as e _ _ h.is (form_enum_tag h.tag e.line) (whole_stops (tree.EnumTag e.line h.tag) c.in_err-of-in-EnumTag.field-0.0 c.from_residual-in_err-of-in-EnumTag.result c.from_residual-in_err-of-in-EnumTag.ensures.1 (rw c.as_slice-in-EnumTag.ensures at k.err) k.keeps)
 
 pub walk_types::part-returns-in_ok-of-in-RecordTag : goal.walk_types::part-returns-in_ok-of-in-RecordTag
 walk_types::part-returns-in_ok-of-in-RecordTag t c = let e = c.args.specifier.now in let h = c.in-RecordTag in let k = c.in_ok-of-in-RecordTag.ensures in part_as e _ _ h.is (form_record_tag h.kind h.tag e.line) (whole_goes (tree.RecordTag e.line h.kind h.tag) c.in_ok-of-in-RecordTag.of (rw c.as_slice-in-RecordTag.ensures at k.ok) k.within k.keeps)
 
 pub walk_types::part-returns-in_ok-of-in-EnumTag : goal.walk_types::part-returns-in_ok-of-in-EnumTag
-walk_types::part-returns-in_ok-of-in-EnumTag t c = let e = c.args.specifier.now in let h = c.in-EnumTag in let k = c.in_ok-of-in-EnumTag.ensures in part_as e _ _ h.is (form_enum_tag h.tag e.line) (whole_goes (tree.EnumerationTag e.line h.tag) c.in_ok-of-in-EnumTag.of (rw c.as_slice-in-EnumTag.ensures at k.ok) k.within k.keeps)
+walk_types::part-returns-in_ok-of-in-EnumTag t c = let e = c.args.specifier.now in let h = c.in-EnumTag in let k = c.in_ok-of-in-EnumTag.ensures in part_as e _ _ h.is (form_enum_tag h.tag e.line) (whole_goes (tree.EnumTag e.line h.tag) c.in_ok-of-in-EnumTag.of (rw c.as_slice-in-EnumTag.ensures at k.ok) k.within k.keeps)
 
 pub walk_types::record-complete_record-requires-clause-fields : goal.walk_types::record-complete_record-requires-clause-fields
 walk_types::record-complete_record-requires-clause-fields t c = rw c.into_members.ensures (members_are_fields (members_of (map member_seen c.args.list.now)) c.in_ok-members.ensures)

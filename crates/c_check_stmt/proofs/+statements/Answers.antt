@@ -139,7 +139,7 @@ labelled::labelled-returns t c =
     let d = c.statement.new.types in
     let y = c.statement.new.body in
     parts_ended k z c.requires.ready.result first started y c.in_ok-code.code second refl y second.within.0 (tree.Label x.marks (stmt_in d c.in_ok-code.code)) c.end_label.result refl
-    (marked_ends d c.args.spot.now.line (λ m. node.Labelled m) c.end_label.result (c.is_again-again.ensures a) c.in_ok-number.ensures.number (c.end_label.ensures d second.within.1))
+    (marked_ends d c.args.spot.now.line (λ m. node.Label m) c.end_label.result (c.is_again-again.ensures a) c.in_ok-number.ensures.number (c.end_label.ensures d second.within.1))
 
 pub labelled::default-returns-in_err-number : goal.labelled::default-returns-in_err-number
 labelled::default-returns-in_err-number t c =

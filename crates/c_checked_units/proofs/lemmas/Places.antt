@@ -3,7 +3,7 @@ use Rattle.std.proofs.Common.{◌≡◌, ◌<◌, ◌^◌, ℕ, Bool, true, fals
 use Rattle.std.specs.Prelude.{ℤ, pos, negsuc, unsigned_abs, Option, Some, None, if◌then◌else◌}
 use Rattle.std.specs.Int.{int_rem_euclid}
 use Rattle.std.proofs.lemmas.Nat.{mod_below}
-use Rattle.c_ast.specs.Trees.{NoExpr, AnExpr, BlockTree, Block, DeclarationTree, DeclaratorTree, ExternalTree, Function, Declares, Empty, StatementTree, Labelled, Case, Default, Evaluate, Compound, If, IfElse, Switch, While, Do, For, Goto, Continue, Break, Return, StatementTrees, NoStatements, Statements}
+use Rattle.c_ast.specs.Trees.{NoExpr, AnExpr, BlockTree, Block, DeclarationTree, DeclaratorTree, ExternalTree, Function, Declares, Empty, StatementTree, Label, Case, Default, Expression, Compound, If, IfElse, Switch, While, Do, For, Goto, Continue, Break, Return, StatementTrees, NoStatements, Statements}
 use Rattle.c_types.specs.CType.{CType}
 use Rattle.c_meaning.specs.declared.core_stmt.CoreCase.{CoreCase}
 use Rattle.c_meaning.specs.Constants.{fold}
@@ -114,7 +114,7 @@ fills_stay p q (f ∷ fs) ss h k = absurd h.0
 
 mutual
   pub stmt_placed : (f : Within) (a : Around) (s : State) (b : Body) (st : StatementTree) (u : State) (t : Typed (StmtOf CType)) → TypesStmt f a s b st u t → IsPlaced a b t
-  stmt_placed f a s b (Labelled l name st) u t h =
+  stmt_placed f a s b (Label l name st) u t h =
       subst (IsPlaced a b) h.3.1.1 (from b (marked b) h.1.body (λ w. w) (stmt_placed f a s (marked b) st h.0 h.1 h.2))
   stmt_placed f a s b (Case l e st) u t h =
       subst (IsPlaced a b) h.3.3.1.1
@@ -122,8 +122,8 @@ mutual
       (stmt_placed f a h.0 (with_case a b h.1) st h.3.0 h.3.1 h.3.2))
   stmt_placed f a s b (Default l st) u t h =
       subst (IsPlaced a b) h.3.1.1 (from b (with_default a b) h.1.body (λ w. stands_words a b b.cases _ w w) (stmt_placed f a s (with_default a b) st h.0 h.1 h.2))
-  stmt_placed f a s b (Evaluate l NoExpr) u t h = subst (IsPlaced a b) h.1 (plain b b (λ w. w))
-  stmt_placed f a s b (Evaluate l (AnExpr e)) u t h = subst (IsPlaced a b) h.3.1.1 (plain b b (λ w. w))
+  stmt_placed f a s b (Expression l NoExpr) u t h = subst (IsPlaced a b) h.1 (plain b b (λ w. w))
+  stmt_placed f a s b (Expression l (AnExpr e)) u t h = subst (IsPlaced a b) h.3.1.1 (plain b b (λ w. w))
   stmt_placed f a s b (Compound l block) u t h = subst (IsPlaced a b) h.3.1 (block_placed f a (entered s) b block h.0 h.1 h.2)
   stmt_placed f a s b (If l e st) u t h =
       subst (IsPlaced a b) h.3.3.1.1 (both b h.3.1.body h.3.1.body (stmt_placed f a h.0 b st h.3.0 h.3.1 h.3.2) (plain h.3.1.body h.3.1.body (λ w. w)))

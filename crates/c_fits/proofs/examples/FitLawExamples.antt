@@ -1,6 +1,6 @@
 -- Examples: why the law asks that an expression is of the grammar.
 use Rattle.std.specs.Prelude.{◌≡◌, refl}
-use Rattle.c_ast.specs.Trees.{Sequence, NoExprs}
+use Rattle.c_ast.specs.Trees.{Comma, NoExprs}
 use Rattle.c_types.specs.CType.{Void, basic}
 use Rattle.c_meaning.specs.declared.core_expr.CoreKind.TheVariants as kind
 use Rattle.c_meaning.specs.CoreTrees.{Core, NoCore}
@@ -14,7 +14,7 @@ use Rattle.c_fits.specs.Laws.{Fit}
 abbrev nothing : CoreTree
 nothing = Core kind.Comma (basic Void) 1 NoCore
 
-typed_comma_without_parts : typed sample (Sequence 1 NoExprs) ≡ Fine sample nothing
+typed_comma_without_parts : typed sample (Comma 1 NoExprs) ≡ Fine sample nothing
 unfolding fault_at
 typed_comma_without_parts = refl
 

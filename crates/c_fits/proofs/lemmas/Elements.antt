@@ -117,9 +117,9 @@ part_elements s (tree.Basic l word) u q h k = subst (λ q. AllElements u.tags (q
 part_elements s (tree.NamedType l x) u q h k = whole_part s u (named_type s (place_of s x)) q h.0 h.1 (named_elements s (place_of s x) k)
 part_elements s (tree.RecordTag l c tag) u q h k =
     whole_part (named s l tag (record_type c s.count)).state u (named s l tag (record_type c s.count)).of q h.1.0 h.1.1 (tag_elements s l tag (record_type c s.count) (place_of s (tag_key tag)) k (elements_of_record s.tags c s.count))
-part_elements s (tree.EnumerationTag l tag) u q h k =
+part_elements s (tree.EnumTag l tag) u q h k =
     whole_part (named s l tag (enumeration_type s.count)).state u (named s l tag (enumeration_type s.count)).of q h.1.0 h.1.1 (tag_elements s l tag (enumeration_type s.count) (place_of s (tag_key tag)) k refl)
-part_elements s (tree.Enumeration l tag es comma) u q h k = whole_part (enumerated h.0 l tag).state u (enumerated h.0 l tag).of q h.3.1.0 h.3.1.1 (list_elements h.0 l tag)
+part_elements s (tree.Enum l tag es comma) u q h k = whole_part (enumerated h.0 l tag).state u (enumerated h.0 l tag).of q h.3.1.0 h.3.1.1 (list_elements h.0 l tag)
 part_elements s (tree.Record l c tag ms) u q h k =
     subst (λ q. AllElements u.tags (q ∷ [])) h.3.1.1 (elements_of_record u.tags c (number_of (opened s l c tag).of), tt)
 

@@ -3,7 +3,7 @@ use Rattle.std.proofs.Common.{◌≡◌, ℕ, suc, ◌+◌, ◌*◌, ◌≤◌, 
 use Rattle.std.specs.Prelude.{Option, Some, None, is_some, if◌then◌else◌}
 use Rattle.std.proofs.Math.Nat.{suc-mul}
 use Rattle.c_ast.specs.Levels.{FitsInitialiser, FitsInitialisers}
-use Rattle.c_ast.specs.Trees.{ExprTree, Literal, Enclosed, InitialiserTree, ByExpr, Braced, InitialiserTrees, NoInitialisers, Initialisers}
+use Rattle.c_ast.specs.Trees.{ExprTree, Text, Enclosed, InitialiserTree, ByExpr, Braced, InitialiserTrees, NoInitialisers, Initialisers}
 use Rattle.c_types.specs.CType.{CType, Plain, Array}
 use Rattle.c_types.specs.Layout.{Tag, extent, times}
 use Rattle.c_meaning.specs.CoreTrees.{what_of}
@@ -109,7 +109,7 @@ list_whole s u static of items x size k g h n e =
 
 -- a literal is typed as one
 literal_typed : (s : State) (e : ExprTree) (u : State) (c : CoreTree) → Types s e u c → is_literal e ≡ true → is_literal_kind (what_of c) ≡ true
-literal_typed s (Literal l texts) u c h t = subst (λ (c : CoreTree). is_literal_kind (what_of c) ≡ true) h.1.1 refl
+literal_typed s (Text l texts) u c h t = subst (λ (c : CoreTree). is_literal_kind (what_of c) ≡ true) h.1.1 refl
 literal_typed s (Enclosed l e) u c h t = literal_typed s e u c h t
 literal_typed s e u c h t = never (sym t)
 

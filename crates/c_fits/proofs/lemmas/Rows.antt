@@ -49,9 +49,9 @@ IsSome (Cores c cs) = Unit {0}
 
 -- the parts of a node fit; a comma has some
 abbrev pub HasParts : List Tag → ExprNode → Type 0
-HasParts tags (node.Subscript a i) = IsPart tags a × IsPart tags i
+HasParts tags (node.Index a i) = IsPart tags a × IsPart tags i
 HasParts tags (node.Call f arguments) = IsPart tags f × AreParts tags arguments
-HasParts tags (node.Select op a x) = IsPart tags a
+HasParts tags (node.Member op a x) = IsPart tags a
 HasParts tags (node.Postfix op a) = IsPart tags a
 HasParts tags (node.Prefix op a) = IsPart tags a
 HasParts tags (node.Cast to a) = IsPart tags a
@@ -118,10 +118,10 @@ module _ (s : State) (sound : IsSound s) (line : ℕ) where
       (and_left (are_assignable (parameters_type (called (value f))) (values cs)) (all_passable s.tags (values cs)) fit)
       (and_right (are_assignable (parameters_type (called (value f))) (values cs)) (all_passable s.tags (values cs)) fit)
 
-  select_row : (op : MemberOperator) (a : CoreTree) (x : List ℕ) → fault_at s line (Expression (node.Select op a x)) ≡ None → IsPart s.tags a → IsPart s.tags (selected_by s.tags line op a x)
-  select_row member.Dot a x h p = selected_part s.tags line a x sound.fields p (unbroken s line (Expression (node.Select member.Dot a x)) h 33)
+  select_row : (op : MemberOperator) (a : CoreTree) (x : List ℕ) → fault_at s line (Expression (node.Member op a x)) ≡ None → IsPart s.tags a → IsPart s.tags (selected_by s.tags line op a x)
+  select_row member.Dot a x h p = selected_part s.tags line a x sound.fields p (unbroken s line (Expression (node.Member member.Dot a x)) h 33)
   select_row member.Arrow a x h p =
-      let b = unbroken s line (Expression (node.Select member.Arrow a x)) h 33 in
+      let b = unbroken s line (Expression (node.Member member.Arrow a x)) h 33 in
       let q = not_false (is_pointer (value_type a)) (or_left (not (is_pointer (value_type a))) (is_none (member_of s.tags (target (value_type a)) x)) b) in
       let w = pointed_part s.tags line (value a) (value_operand s.tags a p) q in
       selected_part s.tags line (pointed line (value a)) x sound.fields w (or_right (not (is_pointer (value_type a))) (is_none (member_of s.tags (target (value_type a)) x)) b)
@@ -197,11 +197,11 @@ module _ (s : State) (sound : IsSound s) (line : ℕ) where
   row_part (node.Integer n k) h p = constant_part s.tags line n k
   row_part (node.Character z) h p = number_part s.tags (basic Int) line (word_of z) refl refl
   row_part (node.Text texts) h p = literal_part s.tags line (joined texts)
-  row_part (node.Subscript a i) h p =
+  row_part (node.Index a i) h p =
       subscript_part s.tags line (value a) (value i) (value_operand s.tags a p.0) (value_operand s.tags i p.1)
-      (not_false ((points_to_object s.tags (value_type a) && is_integer (value_type i)) || (is_integer (value_type a) && points_to_object s.tags (value_type i))) (unbroken s line (Expression (node.Subscript a i)) h 32))
+      (not_false ((points_to_object s.tags (value_type a) && is_integer (value_type i)) || (is_integer (value_type a) && points_to_object s.tags (value_type i))) (unbroken s line (Expression (node.Index a i)) h 32))
   row_part (node.Call f arguments) h p = call_row f arguments h p.0 p.1
-  row_part (node.Select op a x) h p = select_row op a x h p
+  row_part (node.Member op a x) h p = select_row op a x h p
   row_part (node.Postfix op a) h p = postfix_row op a h p
   row_part (node.Prefix op a) h p = prefix_row op a h p
   row_part (node.SizeofExpr a) h p = number_part s.tags (basic Unsigned) line (size_of s.tags (type_of a)) refl refl

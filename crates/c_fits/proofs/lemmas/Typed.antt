@@ -2,7 +2,7 @@
 use Rattle.std.proofs.Common.{ℕ, Bool, true, false, List, subst}
 use Rattle.std.specs.Prelude.{is_none}
 use Rattle.c_ast.specs.Levels.{Parts, AllAssign, TwoExprs}
-use Rattle.c_ast.specs.Trees.{ExprTree, Variable, IntegerConstant, CharacterConstant, Literal, Enclosed, Subscript, Called, Selected, Stepped, Prefixed, SizedExpr, SizedType, Converted, Combined, Chosen, Assigned, Sequence, ExprTrees, NoExprs, Exprs}
+use Rattle.c_ast.specs.Trees.{ExprTree, Name, Integer, Character, Text, Enclosed, Index, Call, Member, Postfix, Prefix, SizeofExpr, SizeofType, Cast, Binary, Conditional, Assign, Comma, ExprTrees, NoExprs, Exprs}
 use Rattle.c_meaning.specs.CoreTrees.{Cores}
 use Rattle.c_meaning.specs.Fits.{IsOpenLeaf}
 use Rattle.c_meaning.specs.Nodes.{ExprNode}
@@ -30,7 +30,7 @@ named_part s l x true types u c g h = subst (IsPart u.tags) h.1.1 (symbol_part u
 named_part s l x false types u c g h = g h
 
 callee_part : (s : State) (f : ExprTree) (u : State) (c : CoreTree) → (Types s f u c → IsPart u.tags c) → TypesCallee s f (Types s f) u c → IsPart u.tags c
-callee_part s (Variable l x) u c g h = named_part s l x (is_none (place_of s x)) (Types s (Variable l x)) u c g h
+callee_part s (Name l x) u c g h = named_part s l x (is_none (place_of s x)) (Types s (Name l x)) u c g h
 callee_part s f u c g h = g h
 
 -- a comma of the grammar has parts
@@ -40,42 +40,42 @@ some_parts s (Exprs e es) u cs g h = subst IsSome h.3.3.1 tt
 
 mutual
   pub expr_part : (s : State) (e : ExprTree) (u : State) (c : CoreTree) → Types s e u c → Parts e → IsSound s → IsPart u.tags c
-  expr_part s (Variable l x) u c h g k = at_row s l (node.Name x) u c h k tt
-  expr_part s (IntegerConstant l n i) u c h g k = at_row s l (node.Integer n i) u c h k tt
-  expr_part s (CharacterConstant l z) u c h g k = at_row s l (node.Character z) u c h k tt
-  expr_part s (Literal l texts) u c h g k = at_row s l (node.Text texts) u c h k tt
+  expr_part s (Name l x) u c h g k = at_row s l (node.Name x) u c h k tt
+  expr_part s (Integer l n i) u c h g k = at_row s l (node.Integer n i) u c h k tt
+  expr_part s (Character l z) u c h g k = at_row s l (node.Character z) u c h k tt
+  expr_part s (Text l texts) u c h g k = at_row s l (node.Text texts) u c h k tt
   expr_part s (Enclosed l e) u c h g k = expr_part s e u c h g k
-  expr_part s (Subscript l a i) u c h g k =
+  expr_part s (Index l a i) u c h g k =
       let f = expr_goes s a h.0 h.1 h.2 k in
       let d = expr_goes h.0 i h.3.0 h.3.1 h.3.2 f.sound in
-      at_row h.3.0 l (node.Subscript h.1 h.3.1) u c h.3.3 d.sound
+      at_row h.3.0 l (node.Index h.1 h.3.1) u c h.3.3 d.sound
       (part_stays h.0 h.3.0 h.1 d (expr_part s a h.0 h.1 h.2 g.1 k), expr_part h.0 i h.3.0 h.3.1 h.3.2 g.2 f.sound)
-  expr_part s (Called l e es) u c h g k =
+  expr_part s (Call l e es) u c h g k =
       let f = callee_goes s e h.0 h.1 (expr_goes s e h.0 h.1) h.2 k in
       let d = exprs_go h.0 es h.3.0 h.3.1 h.3.2 f.sound in
       at_row h.3.0 l (node.Call h.1 h.3.1) u c h.3.3 d.sound
       (part_stays h.0 h.3.0 h.1 d (callee_part s e h.0 h.1 (λ t. expr_part s e h.0 h.1 t g.1 k) h.2), exprs_parts h.0 es h.3.0 h.3.1 h.3.2 g.2 f.sound)
-  expr_part s (Selected l op a x) u c h g k =
+  expr_part s (Member l op a x) u c h g k =
       let f = expr_goes s a h.0 h.1 h.2 k in
-      at_row h.0 l (node.Select op h.1 x) u c h.3 f.sound (expr_part s a h.0 h.1 h.2 g.1 k)
-  expr_part s (Stepped l op a) u c h g k =
+      at_row h.0 l (node.Member op h.1 x) u c h.3 f.sound (expr_part s a h.0 h.1 h.2 g.1 k)
+  expr_part s (Postfix l op a) u c h g k =
       let f = expr_goes s a h.0 h.1 h.2 k in
       at_row h.0 l (node.Postfix op h.1) u c h.3 f.sound (expr_part s a h.0 h.1 h.2 g.1 k)
-  expr_part s (Prefixed l op a) u c h g k =
+  expr_part s (Prefix l op a) u c h g k =
       let f = expr_goes s a h.0 h.1 h.2 k in
       at_row h.0 l (node.Prefix op h.1) u c h.3 f.sound (expr_part s a h.0 h.1 h.2 g.1 k)
-  expr_part s (SizedExpr l a) u c h g k = let f = expr_goes s a h.0 h.1 h.2 k in at_row h.0 l (node.SizeofExpr h.1) u c h.3 f.sound tt
-  expr_part s (SizedType l t) u c h g k = let f = name_goes s t h.0 h.1 h.2 k in at_row h.0 l (node.SizeofType h.1) u c h.3 f.sound tt
-  expr_part s (Converted l t a) u c h g k =
+  expr_part s (SizeofExpr l a) u c h g k = let f = expr_goes s a h.0 h.1 h.2 k in at_row h.0 l (node.SizeofExpr h.1) u c h.3 f.sound tt
+  expr_part s (SizeofType l t) u c h g k = let f = name_goes s t h.0 h.1 h.2 k in at_row h.0 l (node.SizeofType h.1) u c h.3 f.sound tt
+  expr_part s (Cast l t a) u c h g k =
       let f = name_goes s t h.0 h.1 h.2 k in
       let d = expr_goes h.0 a h.3.0 h.3.1 h.3.2 f.sound in
       at_row h.3.0 l (node.Cast h.1 h.3.1) u c h.3.3 d.sound (expr_part h.0 a h.3.0 h.3.1 h.3.2 g.2 f.sound)
-  expr_part s (Combined l op a b) u c h g k =
+  expr_part s (Binary l op a b) u c h g k =
       let f = expr_goes s a h.0 h.1 h.2 k in
       let d = expr_goes h.0 b h.3.0 h.3.1 h.3.2 f.sound in
       at_row h.3.0 l (node.Binary op h.1 h.3.1) u c h.3.3 d.sound
       (part_stays h.0 h.3.0 h.1 d (expr_part s a h.0 h.1 h.2 g.1 k), expr_part h.0 b h.3.0 h.3.1 h.3.2 g.3 f.sound)
-  expr_part s (Chosen l a b e) u c h g k =
+  expr_part s (Conditional l a b e) u c h g k =
       let f = expr_goes s a h.0 h.1 h.2 k in
       let d = expr_goes h.0 b h.3.0 h.3.1 h.3.2 f.sound in
       let m = expr_goes h.3.0 e h.3.3.0 h.3.3.1 h.3.3.2 d.sound in
@@ -83,12 +83,12 @@ mutual
         part_stays h.3.0 h.3.3.0 h.1 m (part_stays h.0 h.3.0 h.1 d (expr_part s a h.0 h.1 h.2 g.1 k)),
         (part_stays h.3.0 h.3.3.0 h.3.1 m (expr_part h.0 b h.3.0 h.3.1 h.3.2 g.2 f.sound), expr_part h.3.0 e h.3.3.0 h.3.3.1 h.3.3.2 g.4 d.sound),
       )
-  expr_part s (Assigned l op a b) u c h g k =
+  expr_part s (Assign l op a b) u c h g k =
       let f = expr_goes s a h.0 h.1 h.2 k in
       let d = expr_goes h.0 b h.3.0 h.3.1 h.3.2 f.sound in
       at_row h.3.0 l (node.Assign op h.1 h.3.1) u c h.3.3 d.sound
       (part_stays h.0 h.3.0 h.1 d (expr_part s a h.0 h.1 h.2 g.1 k), expr_part h.0 b h.3.0 h.3.1 h.3.2 g.3 f.sound)
-  expr_part s (Sequence l es) u c h g k =
+  expr_part s (Comma l es) u c h g k =
       let f = exprs_go s es h.0 h.1 h.2 k in
       at_row h.0 l (node.Comma h.1) u c h.3 f.sound (some_parts s es h.0 h.1 g.0 h.2, exprs_parts s es h.0 h.1 h.2 g.1 k)
 

@@ -2,7 +2,7 @@
 -- have names.
 use Rattle.std.proofs.Common.{◌≡◌, ℕ, ◌+◌, ◌+ℤ◌, Bool, true, false, List, [], ◌∷◌, ◌++◌, refl, subst, ◌∙◌}
 use Rattle.std.specs.Prelude.{Option, ℤ, pos, is_none}
-use Rattle.c_ast.specs.Trees.{ExprTree, Variable, IntegerConstant, CharacterConstant, Literal, Enclosed, Subscript, Called, Selected, Stepped, Prefixed, SizedExpr, SizedType, Converted, Combined, Chosen, Assigned, Sequence, ExprTrees, NoExprs, Exprs, MaybeExpr, NoExpr, AnExpr, TypeNameTree, TypeNamed, SpecifiersTree, SpecifierTree, SpecifierTrees, NoSpecifiers, Specifiers, MemberTree, Members, MemberTrees, NoMembers, MoreMembers, FieldTree, Field, FieldTrees, NoFields, Fields, EnumeratorTree, Enumerator, EnumeratorTrees, NoEnumerators, Enumerators, DeclaratorTree, Declarator, MaybeDeclarator, NoDeclarator, ADeclarator, CoreTree, Named, Inner, Omitted, SuffixTree, ArraySuffix, Prototype, NameList, NoParameters, SuffixTrees, NoSuffixes, Suffixes, ParameterTree, Parameter, ParameterTrees, NoParameter, Parameters}
+use Rattle.c_ast.specs.Trees.{ExprTree, Name, Integer, Character, Text, Enclosed, Index, Call, Member, Postfix, Prefix, SizeofExpr, SizeofType, Cast, Binary, Conditional, Assign, Comma, ExprTrees, NoExprs, Exprs, MaybeExpr, NoExpr, AnExpr, TypeNameTree, TypeNamed, SpecifiersTree, SpecifierTree, SpecifierTrees, NoSpecifiers, Specifiers, MemberTree, Members, MemberTrees, NoMembers, MoreMembers, FieldTree, Field, FieldTrees, NoFields, Fields, EnumeratorTree, Enumerator, EnumeratorTrees, NoEnumerators, Enumerators, DeclaratorTree, Declarator, MaybeDeclarator, NoDeclarator, ADeclarator, CoreTree, Named, Inner, Omitted, SuffixTree, ArraySuffix, Prototype, NameList, NoParameters, SuffixTrees, NoSuffixes, Suffixes, ParameterTree, Parameter, ParameterTrees, NoParameter, Parameters}
 use Rattle.c_ast.specs.Trees as tree
 use Rattle.c_types.specs.BitFields.{are_fields, is_field}
 use Rattle.c_types.specs.CType.{CType}
@@ -72,29 +72,29 @@ named_callee s l x true types u c g h = λ k. subst (Follows s) h.1.0 (function_
 named_callee s l x false types u c g h = g h
 
 pub callee_goes : (s : State) (f : ExprTree) (u : State) (c : values.CoreTree) → (Types s f u c → Goes s u) → TypesCallee s f (Types s f) u c → Goes s u
-callee_goes s (Variable l x) u c g h = named_callee s l x (is_none (place_of s x)) (Types s (Variable l x)) u c g h
+callee_goes s (Name l x) u c g h = named_callee s l x (is_none (place_of s x)) (Types s (Name l x)) u c g h
 callee_goes s f u c g h = g h
 
 mutual
   pub expr_goes : (s : State) (e : ExprTree) (u : State) (c : values.CoreTree) → Types s e u c → Goes s u
-  expr_goes s (Variable l x) u c h = stay h.1.0
-  expr_goes s (IntegerConstant l n k) u c h = stay h.1.0
-  expr_goes s (CharacterConstant l z) u c h = stay h.1.0
-  expr_goes s (Literal l texts) u c h = stay h.1.0
+  expr_goes s (Name l x) u c h = stay h.1.0
+  expr_goes s (Integer l n k) u c h = stay h.1.0
+  expr_goes s (Character l z) u c h = stay h.1.0
+  expr_goes s (Text l texts) u c h = stay h.1.0
   expr_goes s (Enclosed l e) u c h = expr_goes s e u c h
-  expr_goes s (Subscript l a i) u c h = go (expr_goes s a h.0 h.1 h.2) (go (expr_goes h.0 i h.3.0 h.3.1 h.3.2) (stay h.3.3.1.0))
-  expr_goes s (Called l f es) u c h = go (callee_goes s f h.0 h.1 (expr_goes s f h.0 h.1) h.2) (go (exprs_go h.0 es h.3.0 h.3.1 h.3.2) (stay h.3.3.1.0))
-  expr_goes s (Selected l op a x) u c h = go (expr_goes s a h.0 h.1 h.2) (stay h.3.1.0)
-  expr_goes s (Stepped l op a) u c h = go (expr_goes s a h.0 h.1 h.2) (stay h.3.1.0)
-  expr_goes s (Prefixed l op a) u c h = go (expr_goes s a h.0 h.1 h.2) (stay h.3.1.0)
-  expr_goes s (SizedExpr l a) u c h = go (expr_goes s a h.0 h.1 h.2) (stay h.3.1.0)
-  expr_goes s (SizedType l t) u c h = go (name_goes s t h.0 h.1 h.2) (stay h.3.1.0)
-  expr_goes s (Converted l t a) u c h = go (name_goes s t h.0 h.1 h.2) (go (expr_goes h.0 a h.3.0 h.3.1 h.3.2) (stay h.3.3.1.0))
-  expr_goes s (Combined l op a b) u c h = go (expr_goes s a h.0 h.1 h.2) (go (expr_goes h.0 b h.3.0 h.3.1 h.3.2) (stay h.3.3.1.0))
-  expr_goes s (Chosen l a b d) u c h =
+  expr_goes s (Index l a i) u c h = go (expr_goes s a h.0 h.1 h.2) (go (expr_goes h.0 i h.3.0 h.3.1 h.3.2) (stay h.3.3.1.0))
+  expr_goes s (Call l f es) u c h = go (callee_goes s f h.0 h.1 (expr_goes s f h.0 h.1) h.2) (go (exprs_go h.0 es h.3.0 h.3.1 h.3.2) (stay h.3.3.1.0))
+  expr_goes s (Member l op a x) u c h = go (expr_goes s a h.0 h.1 h.2) (stay h.3.1.0)
+  expr_goes s (Postfix l op a) u c h = go (expr_goes s a h.0 h.1 h.2) (stay h.3.1.0)
+  expr_goes s (Prefix l op a) u c h = go (expr_goes s a h.0 h.1 h.2) (stay h.3.1.0)
+  expr_goes s (SizeofExpr l a) u c h = go (expr_goes s a h.0 h.1 h.2) (stay h.3.1.0)
+  expr_goes s (SizeofType l t) u c h = go (name_goes s t h.0 h.1 h.2) (stay h.3.1.0)
+  expr_goes s (Cast l t a) u c h = go (name_goes s t h.0 h.1 h.2) (go (expr_goes h.0 a h.3.0 h.3.1 h.3.2) (stay h.3.3.1.0))
+  expr_goes s (Binary l op a b) u c h = go (expr_goes s a h.0 h.1 h.2) (go (expr_goes h.0 b h.3.0 h.3.1 h.3.2) (stay h.3.3.1.0))
+  expr_goes s (Conditional l a b d) u c h =
       go (expr_goes s a h.0 h.1 h.2) (go (expr_goes h.0 b h.3.0 h.3.1 h.3.2) (go (expr_goes h.3.0 d h.3.3.0 h.3.3.1 h.3.3.2) (stay h.3.3.3.1.0)))
-  expr_goes s (Assigned l op a b) u c h = go (expr_goes s a h.0 h.1 h.2) (go (expr_goes h.0 b h.3.0 h.3.1 h.3.2) (stay h.3.3.1.0))
-  expr_goes s (Sequence l es) u c h = go (exprs_go s es h.0 h.1 h.2) (stay h.3.1.0)
+  expr_goes s (Assign l op a b) u c h = go (expr_goes s a h.0 h.1 h.2) (go (expr_goes h.0 b h.3.0 h.3.1 h.3.2) (stay h.3.3.1.0))
+  expr_goes s (Comma l es) u c h = go (exprs_go s es h.0 h.1 h.2) (stay h.3.1.0)
 
   pub exprs_go : (s : State) (es : ExprTrees) (u : State) (cs : CoreTrees) → TypesAll s es u cs → Goes s u
   exprs_go s NoExprs u cs h = stay h.0
@@ -143,10 +143,10 @@ mutual
   part_goes s (tree.RecordTag l c tag) u q h k =
       tag_goes s (named s l tag (record_type c s.count)).state u (named s l tag (record_type c s.count)).of q
       (named_follows s l tag (record_type c s.count) k (λ n e. is_of_record c n s.count ∙ e) (elements_of_record s.tags c s.count)) h.1.0 h.1.1
-  part_goes s (tree.EnumerationTag l tag) u q h k =
+  part_goes s (tree.EnumTag l tag) u q h k =
       tag_goes s (named s l tag (enumeration_type s.count)).state u (named s l tag (enumeration_type s.count)).of q
       (named_follows s l tag (enumeration_type s.count) k (λ n e. refl) refl) h.1.0 h.1.1
-  part_goes s (tree.Enumeration l tag es comma) u q h k =
+  part_goes s (tree.Enum l tag es comma) u q h k =
       let a = awaited_follows s l tag k in
       let b = enumerators_go (awaited s l tag) (pos 0) es h.0 h.1 h.2 a.sound in
       let t = enumerated_follows h.0 l tag b.sound h.3.0 in

@@ -3,7 +3,7 @@
 use Rattle.std.proofs.Common.{◌≡◌, ℕ, Bool, true, false, List, [], ◌∷◌, ◌++◌, refl, sym, subst}
 use Rattle.std.specs.Prelude.{Option, Some, None, IfSome}
 use Rattle.c_ast.specs.Levels.{FitsBlock, FitsStatement, FitsStatements}
-use Rattle.c_ast.specs.Trees.{ExprTree, MaybeExpr, NoExpr, AnExpr, StatementTree, Labelled, Case, Default, Evaluate, Compound, If, IfElse, Switch, While, Do, For, Goto, Continue, Break, Return, StatementTrees, NoStatements, Statements, BlockTree, Block}
+use Rattle.c_ast.specs.Trees.{ExprTree, MaybeExpr, NoExpr, AnExpr, StatementTree, Label, Case, Default, Expression, Compound, If, IfElse, Switch, While, Do, For, Goto, Continue, Break, Return, StatementTrees, NoStatements, Statements, BlockTree, Block}
 use Rattle.c_types.specs.CType.{CType, unqualified}
 use Rattle.c_meaning.specs.Each.{EachIs}
 use Rattle.c_meaning.specs.State.{State, entered, left}
@@ -118,7 +118,7 @@ module _ (types : TypeLaws) (laws : StepLaws) where
 
   mutual
     pub stmt_goes : (o : State) (f : Within) (a : Around) (s : State) (b : Body) (st : StatementTree) (u : State) (t : Typed (StmtOf CType)) → TypesStmt f a s b st u t → StatementNames st → FitsStatement st → Goes o s (of_body b) → StmtGoes o s u t
-    stmt_goes o f a s b (Labelled l name st) u t h n g w =
+    stmt_goes o f a s b (Label l name st) u t h n g w =
         let i = stmt_goes o f a s (marked b) st h.0 h.1 h.2 n g w in
         goes_at o s h.0 u _ t h.3.1.0 h.3.1.1 (record { goes = i.goes; keeps = i.keeps; code = i.code })
     stmt_goes o f a s b (Case l e st) u t h n g w =
@@ -128,8 +128,8 @@ module _ (types : TypeLaws) (laws : StepLaws) where
     stmt_goes o f a s b (Default l st) u t h n g w =
         let i = stmt_goes o f a s (with_default a b) st h.0 h.1 h.2 n g (subst (Goes o s) (sym (stands_body a b _ _)) w) in
         goes_at o s h.0 u _ t h.3.1.0 h.3.1.1 (record { goes = i.goes; keeps = i.keeps; code = i.code })
-    stmt_goes o f a s b (Evaluate l NoExpr) u t h n g w = goes_at o s s u _ t h.0 h.1 (record { goes = w; keeps = keeps_itself s; code = tt })
-    stmt_goes o f a s b (Evaluate l (AnExpr e)) u t h n g w =
+    stmt_goes o f a s b (Expression l NoExpr) u t h n g w = goes_at o s s u _ t h.0 h.1 (record { goes = w; keeps = keeps_itself s; code = tt })
+    stmt_goes o f a s b (Expression l (AnExpr e)) u t h n g w =
         let p = expr_has s e h.0 h.1 h.2 n w.regular in
         goes_at o s h.0 u _ t h.3.1.0 h.3.1.1 (record { goes = goes_steady types o s h.0 (of_body b) w p.0; keeps = p.0.keeps; code = value_meant h.0 h.1 p.1 })
     stmt_goes o f a s b (Compound l block) u t h n g w =

@@ -3,7 +3,7 @@ use Rattle.std.proofs.Common.{◌≡◌, ℕ, suc, Bool, true, false, List, [], 
 use Rattle.std.proofs.lemmas.Bool.Decides.{nat_tests}
 use Rattle.std.specs.Prelude.{IfSome, Option, Some, None, nat_eq}
 use Rattle.c_ast.specs.Levels.{FitsBlock, FitsDeclarations, FitsStatement, FitsStatements}
-use Rattle.c_ast.specs.Trees.{ExprTree, MaybeExpr, NoExpr, AnExpr, DeclarationTree, StatementTree, Labelled, Case, Default, Evaluate, Compound, If, IfElse, Switch, While, Do, For, Goto, Continue, Break, Return, StatementTrees, NoStatements, Statements, BlockTree, Block}
+use Rattle.c_ast.specs.Trees.{ExprTree, MaybeExpr, NoExpr, AnExpr, DeclarationTree, StatementTree, Label, Case, Default, Expression, Compound, If, IfElse, Switch, While, Do, For, Goto, Continue, Break, Return, StatementTrees, NoStatements, Statements, BlockTree, Block}
 use Rattle.c_types.specs.CType.{CType}
 use Rattle.c_types.specs.Layout.{Tag}
 use Rattle.c_meaning.specs.Declarations.{Declares}
@@ -214,7 +214,7 @@ module _ (laws : StepLaws) (c : ℕ) where
 
   mutual
     pub stmt_owns : (f : Within) (a : Around) (s : State) (b : Body) (st : StatementTree) (u : State) (t : Typed (StmtOf CType)) → TypesStmt f a s b st u t → FitsStatement st → StatementNames st → Given s b → StmtOwns c s u b t
-    stmt_owns f a s b (Labelled l name st) u t h g n k =
+    stmt_owns f a s b (Label l name st) u t h g n k =
         let i = stmt_owns f a s (marked b) st h.0 h.1 h.2 g n k in
         owns_at c s h.0 u b _ t h.3.1.0 h.3.1.1 (recoded c s h.0 (marked b) b h.1.body h.1.body (λ tags all. Owns tags all h.1.code) (λ tags all. Owns tags all h.1.code) refl refl refl (λ tags all m x. x) i)
     stmt_owns f a s b (Case l e st) u t h g n k =
@@ -229,8 +229,8 @@ module _ (laws : StepLaws) (c : ℕ) where
         let same : d.locals ≡ b.locals = stands_locals a b _ _ in
         let i = stmt_owns f a s d st h.0 h.1 h.2 g n (given_as s b d same (stands_objects a b _ _) k) in
         owns_at c s h.0 u b _ t h.3.1.0 h.3.1.1 (recoded c s h.0 d b h.1.body h.1.body (λ tags all. Owns tags all h.1.code) (λ tags all. Owns tags all h.1.code) same refl refl (λ tags all m x. x) i)
-    stmt_owns f a s b (Evaluate l NoExpr) u t h g n k = owns_at c s s u b _ t h.0 h.1 (alone c s s b b (λ tags all. Owns tags all code.Nothing) refl k.3 (same_after c b.locals s k.0 k.1) (λ tags all m. (tt, tt)))
-    stmt_owns f a s b (Evaluate l (AnExpr e)) u t h g n k =
+    stmt_owns f a s b (Expression l NoExpr) u t h g n k = owns_at c s s u b _ t h.0 h.1 (alone c s s b b (λ tags all. Owns tags all code.Nothing) refl k.3 (same_after c b.locals s k.0 k.1) (λ tags all m. (tt, tt)))
+    stmt_owns f a s b (Expression l (AnExpr e)) u t h g n k =
         let p = expr_after b.locals s e h.0 h.1 h.2 n k.0 k.1 in
         owns_at c s h.0 u b _ t h.3.1.0 h.3.1.1 (alone c s h.0 b b (λ tags all. Owns tags all (code.Expression (value h.1))) refl k.3 p (λ tags all m. (expr_names all b.locals s e h.0 h.1 h.2 n k.1 m, tt)))
     stmt_owns f a s b (Compound l block) u t h g n k =

@@ -7,7 +7,7 @@ use Rattle.c_ast.specs.declared.operator.PrefixOperator.TheVariants as prefix
 use Rattle.c_ast.specs.declared.specifier.BasicType.TheVariants as word
 use Rattle.c_ast.specs.declared.specifier.RecordKind.TheVariants as record_kind
 use Rattle.c_ast.specs.declared.specifier.Storage.TheVariants as class
-use Rattle.c_ast.specs.Trees.{ExprTree, Variable, IntegerConstant, Literal, Subscript, Selected, Prefixed, Combined, Converted, TypeNamed, Specified, SpecifierTree, Basic, RecordTag, NoSpecifiers, Specifiers, ADeclarator, Declarator, Omitted, NoSuffixes}
+use Rattle.c_ast.specs.Trees.{ExprTree, Name, Integer, Text, Index, Member, Prefix, Binary, Cast, TypeNamed, Specified, SpecifierTree, Basic, RecordTag, NoSpecifiers, Specifiers, ADeclarator, Declarator, Omitted, NoSuffixes}
 use Rattle.c_types.specs.CType.{Array}
 use Rattle.c_meaning.specs.State.{State}
 use Rattle.c_meaning.specs.Types.{pointer_to}
@@ -44,47 +44,47 @@ at size offset = Some (record { size = size; offset = pos offset })
 -- ---- expressions
 
 abbrev x : ExprTree
-x = Variable 1 (codes "x")
+x = Name 1 (codes "x")
 
 abbrev whole : ExprTree
-whole = Variable 1 (codes "whole")
+whole = Name 1 (codes "whole")
 
 abbrev row : ExprTree
-row = Variable 1 (codes "row")
+row = Name 1 (codes "row")
 
 abbrev to : ExprTree
-to = Variable 1 (codes "to")
+to = Name 1 (codes "to")
 
 abbrev g : ExprTree
-g = Variable 1 (codes "g")
+g = Name 1 (codes "g")
 
 abbrev ab : ExprTree
-ab = Literal 1 (codes "ab" ∷ [])
+ab = Text 1 (codes "ab" ∷ [])
 
 abbrev number : ℕ → ExprTree
-number k = IntegerConstant 1 k int_kind.Int
+number k = Integer 1 k int_kind.Int
 
 abbrev minus : ℕ → ExprTree
-minus k = Prefixed 1 prefix.Minus (number k)
+minus k = Prefix 1 prefix.Minus (number k)
 
 abbrev address_of : ExprTree → ExprTree
-address_of e = Prefixed 1 prefix.Address e
+address_of e = Prefix 1 prefix.Address e
 
 abbrev pointed : ExprTree → ExprTree
-pointed e = Prefixed 1 prefix.Indirect e
+pointed e = Prefix 1 prefix.Indirect e
 
 abbrev sum : ExprTree → ExprTree → ExprTree
-sum e f = Combined 1 binary.Add e f
+sum e f = Binary 1 binary.Add e f
 
 abbrev less : ExprTree → ExprTree → ExprTree
-less e f = Combined 1 binary.Subtract e f
+less e f = Binary 1 binary.Subtract e f
 
 -- the member `list` of the structure s, two ints at its offset 8
 abbrev list : ExprTree
-list = Selected 1 member.Dot whole (codes "list")
+list = Member 1 member.Dot whole (codes "list")
 
 abbrev cast : SpecifierTree → ExprTree → ExprTree
-cast specifier e = Converted 1 (TypeNamed 1 (Specified 1 (Specifiers specifier NoSpecifiers)) (ADeclarator (Declarator 1 ([] ∷ []) Omitted NoSuffixes))) e
+cast specifier e = Cast 1 (TypeNamed 1 (Specified 1 (Specifiers specifier NoSpecifiers)) (ADeclarator (Declarator 1 ([] ∷ []) Omitted NoSuffixes))) e
 
 -- (char *)e
 abbrev to_char : ExprTree → ExprTree
@@ -92,7 +92,7 @@ to_char e = cast (Basic 1 word.Char) e
 
 -- ((struct s *)0)->name
 abbrev nowhere : List ℕ → ExprTree
-nowhere name = Selected 1 member.Arrow (cast (RecordTag 1 record_kind.Struct (codes "s")) (number 0)) name
+nowhere name = Member 1 member.Arrow (cast (RecordTag 1 record_kind.Struct (codes "s")) (number 0)) name
 
 -- ---- objects and their parts
 
@@ -112,7 +112,7 @@ unfolding fold fault_at
 an_array = refl
 
 -- &whole.list[1]
-an_element : address (address_of (Subscript 1 list (number 1))) ≡ at 16 12
+an_element : address (address_of (Index 1 list (number 1))) ≡ at 16 12
 unfolding fold fault_at
 an_element = refl
 
@@ -122,7 +122,7 @@ unfolding fold fault_at
 what_is_pointed_to = refl
 
 -- &(&whole)->list
-a_member_of_what_is_pointed_to : address (address_of (Selected 1 member.Arrow (address_of whole) (codes "list"))) ≡ at 16 8
+a_member_of_what_is_pointed_to : address (address_of (Member 1 member.Arrow (address_of whole) (codes "list"))) ≡ at 16 8
 unfolding fold fault_at
 a_member_of_what_is_pointed_to = refl
 

@@ -6,7 +6,7 @@ use Rattle.c_ast.specs.declared.operator.BinaryOperator.TheVariants as binary
 use Rattle.c_ast.specs.declared.operator.PrefixOperator.TheVariants as prefix
 use Rattle.c_ast.specs.declared.specifier.BasicType.{BasicType}
 use Rattle.c_ast.specs.declared.specifier.BasicType.TheVariants as word
-use Rattle.c_ast.specs.Trees.{ExprTree, Variable, IntegerConstant, CharacterConstant, Enclosed, Called, Prefixed, SizedExpr, Converted, Combined, Chosen, Sequence, NoExprs, Exprs, TypeNamed, Specified, Basic, NoSpecifiers, Specifiers, NoDeclarator, ADeclarator, Declarator, Omitted, NoSuffixes}
+use Rattle.c_ast.specs.Trees.{ExprTree, Name, Integer, Character, Enclosed, Call, Prefix, SizeofExpr, Cast, Binary, Conditional, Comma, NoExprs, Exprs, TypeNamed, Specified, Basic, NoSpecifiers, Specifiers, NoDeclarator, ADeclarator, Declarator, Omitted, NoSuffixes}
 use Rattle.c_types.specs.CType.{Void, Char, Int, basic}
 use Rattle.c_meaning.specs.Types.{pointer_to}
 use Rattle.c_meaning.specs.Values.{CoreTree}
@@ -26,26 +26,26 @@ folded e = value_of (typed sample e)
 -- ---- trees of line 1
 
 abbrev int : ℕ → ExprTree
-int n = IntegerConstant 1 n int_kind.Int
+int n = Integer 1 n int_kind.Int
 
 abbrev unsigned : ℕ → ExprTree
-unsigned n = IntegerConstant 1 n int_kind.Unsigned
+unsigned n = Integer 1 n int_kind.Unsigned
 
 abbrev both : ExprTree → BinaryOperator → ExprTree → ExprTree
-both a op b = Combined 1 op a b
+both a op b = Binary 1 op a b
 
 abbrev minus : ExprTree → ExprTree
-minus e = Prefixed 1 prefix.Minus e
+minus e = Prefix 1 prefix.Minus e
 
 abbrev choice : ExprTree → ExprTree → ExprTree → ExprTree
-choice a b c = Chosen 1 a b c
+choice a b c = Conditional 1 a b c
 
 abbrev to_word : BasicType → ExprTree → ExprTree
-to_word w e = Converted 1 (TypeNamed 1 (Specified 1 (Specifiers (Basic 1 w) NoSpecifiers)) NoDeclarator) e
+to_word w e = Cast 1 (TypeNamed 1 (Specified 1 (Specifiers (Basic 1 w) NoSpecifiers)) NoDeclarator) e
 
 abbrev to_char_pointer : ExprTree → ExprTree
 to_char_pointer e =
-    Converted 1 (TypeNamed 1 (Specified 1 (Specifiers (Basic 1 word.Char) NoSpecifiers)) (ADeclarator (Declarator 1 ([] ∷ []) Omitted NoSuffixes))) e
+    Cast 1 (TypeNamed 1 (Specified 1 (Specifiers (Basic 1 word.Char) NoSpecifiers)) (ADeclarator (Declarator 1 ([] ∷ []) Omitted NoSuffixes))) e
 
 -- 1/0
 abbrev by_zero : ExprTree
@@ -104,32 +104,32 @@ unfolding fold fault_at
 bits = refl
 
 -- ~0u
-complement : folded (Prefixed 1 prefix.Complement (unsigned 0)) ≡ Some (Some (pos 4294967295))
+complement : folded (Prefix 1 prefix.Complement (unsigned 0)) ≡ Some (Some (pos 4294967295))
 unfolding fold fault_at
 complement = refl
 
 -- !5
-negation : folded (Prefixed 1 prefix.Not (int 5)) ≡ Some (Some (pos 0))
+negation : folded (Prefix 1 prefix.Not (int 5)) ≡ Some (Some (pos 0))
 unfolding fold fault_at
 negation = refl
 
 -- '\377'
-character : folded (CharacterConstant 1 (negsuc 0)) ≡ Some (Some (negsuc 0))
+character : folded (Character 1 (negsuc 0)) ≡ Some (Some (negsuc 0))
 unfolding fold fault_at
 character = refl
 
 -- first
-enumerator : folded (Variable 1 (codes "first")) ≡ Some (Some (pos 0))
+enumerator : folded (Name 1 (codes "first")) ≡ Some (Some (pos 0))
 unfolding fold fault_at
 enumerator = refl
 
 -- sizeof x*2
-size : folded (both (SizedExpr 1 (Variable 1 (codes "x"))) binary.Multiply (int 2)) ≡ Some (Some (pos 8))
+size : folded (both (SizeofExpr 1 (Name 1 (codes "x"))) binary.Multiply (int 2)) ≡ Some (Some (pos 8))
 unfolding fold fault_at
 size = refl
 
 -- sizeof g()
-size_of_a_call : folded (SizedExpr 1 (Called 1 (Variable 1 (codes "g")) NoExprs)) ≡ Some (Some (pos 4))
+size_of_a_call : folded (SizeofExpr 1 (Call 1 (Name 1 (codes "g")) NoExprs)) ≡ Some (Some (pos 4))
 unfolding fold fault_at
 size_of_a_call = refl
 
@@ -206,17 +206,17 @@ unfolding fold fault_at
 true_and_no_value = refl
 
 -- x
-object : folded (Variable 1 (codes "x")) ≡ Some None
+object : folded (Name 1 (codes "x")) ≡ Some None
 unfolding fold fault_at
 object = refl
 
 -- 0 && g()
-call_that_is_not_made : folded (both (int 0) binary.And (Called 1 (Variable 1 (codes "g")) NoExprs)) ≡ Some None
+call_that_is_not_made : folded (both (int 0) binary.And (Call 1 (Name 1 (codes "g")) NoExprs)) ≡ Some None
 unfolding fold fault_at
 call_that_is_not_made = refl
 
 -- 1 ? 2 : x
-choice_beside_an_object : folded (choice (int 1) (int 2) (Variable 1 (codes "x"))) ≡ Some None
+choice_beside_an_object : folded (choice (int 1) (int 2) (Name 1 (codes "x"))) ≡ Some None
 unfolding fold fault_at
 choice_beside_an_object = refl
 
@@ -226,12 +226,12 @@ unfolding fold fault_at
 choice_beside_a_cast_of_a_pointer = refl
 
 -- (1,2)
-comma : folded (Enclosed 1 (Sequence 1 (Exprs (int 1) (Exprs (int 2) NoExprs)))) ≡ Some None
+comma : folded (Enclosed 1 (Comma 1 (Exprs (int 1) (Exprs (int 2) NoExprs)))) ≡ Some None
 unfolding fold fault_at
 comma = refl
 
 -- 1/y
-fault_in_a_part : folded (both (int 1) binary.Divide (Variable 1 (codes "y"))) ≡ None
+fault_in_a_part : folded (both (int 1) binary.Divide (Name 1 (codes "y"))) ≡ None
 unfolding fold fault_at
 fault_in_a_part = refl
 

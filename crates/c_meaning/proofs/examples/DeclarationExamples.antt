@@ -4,7 +4,7 @@ use Rattle.c_ast.specs.declared.specifier.BasicType.TheVariants as word
 use Rattle.c_ast.specs.declared.specifier.Qualifier.TheVariants as qualifier
 use Rattle.c_ast.specs.declared.specifier.RecordKind.TheVariants as record_kind
 use Rattle.c_ast.specs.declared.specifier.Storage.TheVariants as class
-use Rattle.c_ast.specs.Trees.{Variable, SizedExpr, SizedType, TypeNamed, NoDeclarator, Specified, Stored, Qualified, Basic, Record, RecordTag, Enumeration, EnumerationTag, Members, NoMembers, MoreMembers, Field, NoFields, Fields, Enumerator, NoEnumerators, Enumerators, NoExpr, AnExpr, ADeclarator, ByExpr, SpecifierTree, DeclarationTree}
+use Rattle.c_ast.specs.Trees.{Name, SizeofExpr, SizeofType, TypeNamed, NoDeclarator, Specified, Stored, Qualified, Basic, Record, RecordTag, Enum, EnumTag, Members, NoMembers, MoreMembers, Field, NoFields, Fields, Enumerator, NoEnumerators, Enumerators, NoExpr, AnExpr, ADeclarator, ByExpr, SpecifierTree, DeclarationTree}
 use Rattle.c_meaning.specs.Constants.{fold}
 use Rattle.c_meaning.specs.Constraints.{Breaks, fault_at}
 use Rattle.c_meaning.specs.Laws.{fault_of}
@@ -125,12 +125,12 @@ unfolding fold fault_at init_fault decl_fault
 tag_alone = refl
 
 -- enum e;
-enumeration_tag_alone : file_fault (one (EnumerationTag 1 (codes "e") ∷ []) []) ≡ None
+enumeration_tag_alone : file_fault (one (EnumTag 1 (codes "e") ∷ []) []) ≡ None
 unfolding fold fault_at init_fault decl_fault
 enumeration_tag_alone = refl
 
 -- enum {k};
-enumerator_alone : file_fault (one (Enumeration 1 None (Enumerators (Enumerator 1 k NoExpr) NoEnumerators) false ∷ []) []) ≡ None
+enumerator_alone : file_fault (one (Enum 1 None (Enumerators (Enumerator 1 k NoExpr) NoEnumerators) false ∷ []) []) ≡ None
 unfolding fold fault_at init_fault decl_fault
 enumerator_alone = refl
 
@@ -230,10 +230,10 @@ other_linkage_and_type = refl
 
 -- enum tag {name = sizeof(t)};
 abbrev sized : List ℕ → List ℕ → SpecifierTree → List DeclarationTree
-sized tag x t = one (Enumeration 1 (Some tag) (Enumerators (Enumerator 1 x (AnExpr (SizedType 1 (TypeNamed 1 (Specified 1 (parts (t ∷ []))) NoDeclarator)))) NoEnumerators) false ∷ []) []
+sized tag x t = one (Enum 1 (Some tag) (Enumerators (Enumerator 1 x (AnExpr (SizeofType 1 (TypeNamed 1 (Specified 1 (parts (t ∷ []))) NoDeclarator)))) NoEnumerators) false ∷ []) []
 
 -- enum s {k = sizeof(enum s)}; in the function, where s is the tag of a structure outside
-enumeration_in_its_own_list : block_fault (sized (codes "s") k (EnumerationTag 1 (codes "s"))) ≡ None
+enumeration_in_its_own_list : block_fault (sized (codes "s") k (EnumTag 1 (codes "s"))) ≡ None
 unfolding fold fault_at init_fault decl_fault
 enumeration_in_its_own_list = refl
 
@@ -243,29 +243,29 @@ unfolding fold fault_at init_fault decl_fault
 structure_hidden_by_an_enumeration = refl
 
 -- enum t *k; enum t {m = sizeof(enum t)};
-enumeration_behind_its_tag : file_fault (of (EnumerationTag 1 (codes "t") ∷ []) (pointer k) ++ sized (codes "t") (codes "m") (EnumerationTag 1 (codes "t"))) ≡ None
+enumeration_behind_its_tag : file_fault (of (EnumTag 1 (codes "t") ∷ []) (pointer k) ++ sized (codes "t") (codes "m") (EnumTag 1 (codes "t"))) ≡ None
 unfolding fold fault_at init_fault decl_fault
 enumeration_behind_its_tag = refl
 
 -- enum t {k = sizeof(enum t {m})};
-enumeration_twice_in_one_another : file_fault (sized (codes "t") k (Enumeration 1 (Some (codes "t")) (Enumerators (Enumerator 1 (codes "m") NoExpr) NoEnumerators) false)) ≡ Some (Breaks 8 1)
+enumeration_twice_in_one_another : file_fault (sized (codes "t") k (Enum 1 (Some (codes "t")) (Enumerators (Enumerator 1 (codes "m") NoExpr) NoEnumerators) false)) ≡ Some (Breaks 8 1)
 unfolding fold fault_at init_fault decl_fault
 enumeration_twice_in_one_another = refl
 
 -- enum e {k = sizeof(enum e)}; where the list of e has stood
-enumeration_twice : file_fault (sized (codes "e") k (EnumerationTag 1 (codes "e"))) ≡ Some (Breaks 8 1)
+enumeration_twice : file_fault (sized (codes "e") k (EnumTag 1 (codes "e"))) ≡ Some (Breaks 8 1)
 unfolding fold fault_at init_fault decl_fault
 enumeration_twice = refl
 
 -- ---- 6: other types
 
 -- int k; enum e k; enum {a} k;
-two_enumerations_behind_int : file_fault (of (of_int ∷ []) (name k) ++ (of (EnumerationTag 1 (codes "e") ∷ []) (name k) ++ again (Enumeration 1 None (Enumerators (Enumerator 1 (codes "a") NoExpr) NoEnumerators) false ∷ []) (name k))) ≡ Some (Breaks 6 2)
+two_enumerations_behind_int : file_fault (of (of_int ∷ []) (name k) ++ (of (EnumTag 1 (codes "e") ∷ []) (name k) ++ again (Enum 1 None (Enumerators (Enumerator 1 (codes "a") NoExpr) NoEnumerators) false ∷ []) (name k))) ≡ Some (Breaks 6 2)
 unfolding fold fault_at init_fault decl_fault
 two_enumerations_behind_int = refl
 
 -- int k; enum e k; int k;
-enumeration_between_ints : file_fault (of (of_int ∷ []) (name k) ++ (of (EnumerationTag 1 (codes "e") ∷ []) (name k) ++ again (of_int ∷ []) (name k))) ≡ None
+enumeration_between_ints : file_fault (of (of_int ∷ []) (name k) ++ (of (EnumTag 1 (codes "e") ∷ []) (name k) ++ again (of_int ∷ []) (name k))) ≡ None
 unfolding fold fault_at init_fault decl_fault
 enumeration_between_ints = refl
 
@@ -285,12 +285,12 @@ unfolding fold fault_at init_fault decl_fault
 sizes_in_blocks = refl
 
 -- extern int k; { extern enum e k; extern enum e k; }
-enumeration_in_a_block : fault_of (nested outside (of (with_class class.Extern) (name k) ∷ (of (Stored 1 class.Extern ∷ EnumerationTag 1 (codes "e") ∷ []) (name k) ++ again (Stored 1 class.Extern ∷ EnumerationTag 1 (codes "e") ∷ []) (name k)) ∷ [])) ≡ None
+enumeration_in_a_block : fault_of (nested outside (of (with_class class.Extern) (name k) ∷ (of (Stored 1 class.Extern ∷ EnumTag 1 (codes "e") ∷ []) (name k) ++ again (Stored 1 class.Extern ∷ EnumTag 1 (codes "e") ∷ []) (name k)) ∷ [])) ≡ None
 unfolding fold fault_at init_fault decl_fault
 enumeration_in_a_block = refl
 
 -- extern int k; { extern enum e k; extern enum {a} k; }
-two_enumerations_in_a_block : fault_of (nested outside (of (with_class class.Extern) (name k) ∷ (of (Stored 1 class.Extern ∷ EnumerationTag 1 (codes "e") ∷ []) (name k) ++ again (Stored 1 class.Extern ∷ Enumeration 1 None (Enumerators (Enumerator 1 (codes "a") NoExpr) NoEnumerators) false ∷ []) (name k)) ∷ [])) ≡ Some (Breaks 6 2)
+two_enumerations_in_a_block : fault_of (nested outside (of (with_class class.Extern) (name k) ∷ (of (Stored 1 class.Extern ∷ EnumTag 1 (codes "e") ∷ []) (name k) ++ again (Stored 1 class.Extern ∷ Enum 1 None (Enumerators (Enumerator 1 (codes "a") NoExpr) NoEnumerators) false ∷ []) (name k)) ∷ [])) ≡ Some (Breaks 6 2)
 unfolding fold fault_at init_fault decl_fault
 two_enumerations_in_a_block = refl
 
@@ -468,17 +468,17 @@ tentative_array = refl
 -- ---- 24: objects with static storage
 
 -- int k; int m = k;
-object_outside_by_a_variable : file_fault (of (of_int ∷ []) (name k) ++ set_again (of_int ∷ []) (name (codes "m")) (ByExpr 2 (Variable 2 k))) ≡ Some (Breaks 24 2)
+object_outside_by_a_variable : file_fault (of (of_int ∷ []) (name k) ++ set_again (of_int ∷ []) (name (codes "m")) (ByExpr 2 (Name 2 k))) ≡ Some (Breaks 24 2)
 unfolding fold fault_at init_fault decl_fault
 object_outside_by_a_variable = refl
 
 -- static int k = x;
-static_local_by_a_variable : block_fault (is (with_class class.Static) (name k) (ByExpr 1 (Variable 1 (codes "x")))) ≡ Some (Breaks 24 1)
+static_local_by_a_variable : block_fault (is (with_class class.Static) (name k) (ByExpr 1 (Name 1 (codes "x")))) ≡ Some (Breaks 24 1)
 unfolding fold fault_at init_fault decl_fault
 static_local_by_a_variable = refl
 
 -- int k = x;
-local_by_a_variable : block_fault (is (of_int ∷ []) (name k) (ByExpr 1 (Variable 1 (codes "x")))) ≡ None
+local_by_a_variable : block_fault (is (of_int ∷ []) (name k) (ByExpr 1 (Name 1 (codes "x")))) ≡ None
 unfolding fold fault_at init_fault decl_fault
 local_by_a_variable = refl
 
@@ -510,12 +510,12 @@ unfolding fold fault_at init_fault decl_fault
 function_initialised = refl
 
 -- struct open k = {sizeof(struct open {int m;})};
-completed_by_its_list : file_fault (is (structure (codes "open") ∷ []) (name k) (list (ByExpr 1 (SizedType 1 (TypeNamed 1 (Specified 1 (parts (completing ∷ []))) NoDeclarator)) ∷ []))) ≡ Some (Breaks 27 1)
+completed_by_its_list : file_fault (is (structure (codes "open") ∷ []) (name k) (list (ByExpr 1 (SizeofType 1 (TypeNamed 1 (Specified 1 (parts (completing ∷ []))) NoDeclarator)) ∷ []))) ≡ Some (Breaks 27 1)
 unfolding fold fault_at init_fault decl_fault
 completed_by_its_list = refl
 
 -- struct open k = sizeof(struct open {int m;});
-completed_by_its_expression : file_fault (is (structure (codes "open") ∷ []) (name k) (ByExpr 1 (SizedType 1 (TypeNamed 1 (Specified 1 (parts (completing ∷ []))) NoDeclarator)))) ≡ Some (Breaks 27 1)
+completed_by_its_expression : file_fault (is (structure (codes "open") ∷ []) (name k) (ByExpr 1 (SizeofType 1 (TypeNamed 1 (Specified 1 (parts (completing ∷ []))) NoDeclarator)))) ≡ Some (Breaks 27 1)
 unfolding fold fault_at init_fault decl_fault
 completed_by_its_expression = refl
 
@@ -525,6 +525,6 @@ unfolding fold fault_at init_fault decl_fault
 in_their_order = refl
 
 -- int k = sizeof k;
-name_is_in_force : file_fault (is (of_int ∷ []) (name k) (ByExpr 1 (SizedExpr 1 (Variable 1 k)))) ≡ None
+name_is_in_force : file_fault (is (of_int ∷ []) (name k) (ByExpr 1 (SizeofExpr 1 (Name 1 k)))) ≡ None
 unfolding fold fault_at init_fault decl_fault
 name_is_in_force = refl

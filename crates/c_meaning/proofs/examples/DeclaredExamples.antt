@@ -3,7 +3,7 @@ use Rattle.std.specs.Prelude.{◌≡◌, refl, pos, codes, true, false, Some, No
 use Rattle.c_ast.specs.declared.specifier.BasicType.TheVariants as word
 use Rattle.c_ast.specs.declared.specifier.Qualifier.TheVariants as qualifier
 use Rattle.c_ast.specs.declared.specifier.Storage.TheVariants as class
-use Rattle.c_ast.specs.Trees.{Literal, Qualified, Basic, ByExpr, Braced}
+use Rattle.c_ast.specs.Trees.{Text, Qualified, Basic, ByExpr, Braced}
 use Rattle.c_symbols.specs.declared.symbol.Storage.TheVariants as storage
 use Rattle.c_types.specs.CType.{Array, Open}
 use Rattle.c_meaning.specs.declared.core_expr.CoreKind.TheVariants as kind
@@ -205,7 +205,7 @@ unfolding fold fault_at init_fault decl_fault
 structure_begins = refl
 
 -- char k[6] = "ab";
-string_begins : begun_in (all_typed block (is (Basic 1 word.Char ∷ []) (array k 6) (ByExpr 1 (Literal 1 (codes "ab" ∷ []))))) ≡ record { local = 2; zero = true; places = 1 } ∷ []
+string_begins : begun_in (all_typed block (is (Basic 1 word.Char ∷ []) (array k 6) (ByExpr 1 (Text 1 (codes "ab" ∷ []))))) ≡ record { local = 2; zero = true; places = 1 } ∷ []
 unfolding fold fault_at init_fault decl_fault
 string_begins = refl
 

@@ -161,72 +161,72 @@ pointer_behind_the_parameters = refl
 
 -- 32: a subscript isn't a pointer to an object and an integer
 
-subscript_of_an_int : is_no_subscript sample (node.Subscript x x) ≡ true
+subscript_of_an_int : is_no_subscript sample (node.Index x x) ≡ true
 subscript_of_an_int = refl
 
-subscript_by_a_pointer : is_no_subscript sample (node.Subscript p p) ≡ true
+subscript_by_a_pointer : is_no_subscript sample (node.Index p p) ≡ true
 subscript_by_a_pointer = refl
 
-subscript_of_a_void_pointer : is_no_subscript sample (node.Subscript to_void x) ≡ true
+subscript_of_a_void_pointer : is_no_subscript sample (node.Index to_void x) ≡ true
 subscript_of_a_void_pointer = refl
 
-subscript_of_an_open_structure : is_no_subscript sample (node.Subscript to_open x) ≡ true
+subscript_of_an_open_structure : is_no_subscript sample (node.Index to_open x) ≡ true
 subscript_of_an_open_structure = refl
 
-subscript_of_a_function : is_no_subscript sample (node.Subscript f x) ≡ true
+subscript_of_a_function : is_no_subscript sample (node.Index f x) ≡ true
 subscript_of_a_function = refl
 
-subscript_of_an_array_of_a_call : is_no_subscript sample (node.Subscript (select (called struct_s) (codes "list")) x) ≡ true
+subscript_of_an_array_of_a_call : is_no_subscript sample (node.Index (select (called struct_s) (codes "list")) x) ≡ true
 subscript_of_an_array_of_a_call = refl
 
-subscript_of_an_array : is_no_subscript sample (node.Subscript a (constant 1)) ≡ false
+subscript_of_an_array : is_no_subscript sample (node.Index a (constant 1)) ≡ false
 subscript_of_an_array = refl
 
-subscript_of_a_pointer : is_no_subscript sample (node.Subscript p byte) ≡ false
+subscript_of_a_pointer : is_no_subscript sample (node.Index p byte) ≡ false
 subscript_of_a_pointer = refl
 
-subscript_turned_round : is_no_subscript sample (node.Subscript (constant 1) a) ≡ false
+subscript_turned_round : is_no_subscript sample (node.Index (constant 1) a) ≡ false
 subscript_turned_round = refl
 
 -- 33: `.` or `->` has no structure or union before it, or no such member
 
-member_of_an_int : selects_nothing sample (node.Select member.Dot x (codes "m")) ≡ true
+member_of_an_int : selects_nothing sample (node.Member member.Dot x (codes "m")) ≡ true
 member_of_an_int = refl
 
-member_that_is_not_there : selects_nothing sample (node.Select member.Dot s (codes "n")) ≡ true
+member_that_is_not_there : selects_nothing sample (node.Member member.Dot s (codes "n")) ≡ true
 member_that_is_not_there = refl
 
-member_of_a_pointer : selects_nothing sample (node.Select member.Dot to_s (codes "m")) ≡ true
+member_of_a_pointer : selects_nothing sample (node.Member member.Dot to_s (codes "m")) ≡ true
 member_of_a_pointer = refl
 
-member_of_an_open_structure : selects_nothing sample (node.Select member.Dot (pointed to_open) (codes "m")) ≡ true
+member_of_an_open_structure : selects_nothing sample (node.Member member.Dot (pointed to_open) (codes "m")) ≡ true
 member_of_an_open_structure = refl
 
-member_of_a_structure : selects_nothing sample (node.Select member.Dot s (codes "m")) ≡ false
+member_of_a_structure : selects_nothing sample (node.Member member.Dot s (codes "m")) ≡ false
 member_of_a_structure = refl
 
-member_of_a_const_union : selects_nothing sample (node.Select member.Dot (local (const union_u)) (codes "m")) ≡ false
+member_of_a_const_union : selects_nothing sample (node.Member member.Dot (local (const union_u)) (codes "m")) ≡ false
 member_of_a_const_union = refl
 
-member_of_a_call : selects_nothing sample (node.Select member.Dot (called struct_s) (codes "m")) ≡ false
+member_of_a_call : selects_nothing sample (node.Member member.Dot (called struct_s) (codes "m")) ≡ false
 member_of_a_call = refl
 
-arrow_from_a_structure : selects_nothing sample (node.Select member.Arrow s (codes "m")) ≡ true
+arrow_from_a_structure : selects_nothing sample (node.Member member.Arrow s (codes "m")) ≡ true
 arrow_from_a_structure = refl
 
-arrow_from_a_pointer_to_int : selects_nothing sample (node.Select member.Arrow p (codes "m")) ≡ true
+arrow_from_a_pointer_to_int : selects_nothing sample (node.Member member.Arrow p (codes "m")) ≡ true
 arrow_from_a_pointer_to_int = refl
 
-arrow_to_a_member_that_is_not_there : selects_nothing sample (node.Select member.Arrow to_s (codes "n")) ≡ true
+arrow_to_a_member_that_is_not_there : selects_nothing sample (node.Member member.Arrow to_s (codes "n")) ≡ true
 arrow_to_a_member_that_is_not_there = refl
 
-arrow_into_an_open_structure : selects_nothing sample (node.Select member.Arrow to_open (codes "m")) ≡ true
+arrow_into_an_open_structure : selects_nothing sample (node.Member member.Arrow to_open (codes "m")) ≡ true
 arrow_into_an_open_structure = refl
 
-arrow_from_a_pointer : selects_nothing sample (node.Select member.Arrow to_s (codes "m")) ≡ false
+arrow_from_a_pointer : selects_nothing sample (node.Member member.Arrow to_s (codes "m")) ≡ false
 arrow_from_a_pointer = refl
 
-arrow_from_an_array : selects_nothing sample (node.Select member.Arrow (local (Array struct_s (Some 2))) (codes "m")) ≡ false
+arrow_from_an_array : selects_nothing sample (node.Member member.Arrow (local (Array struct_s (Some 2))) (codes "m")) ≡ false
 arrow_from_an_array = refl
 
 -- 34: `=`, a compound assignment, `++` or `--` has no modifiable lvalue

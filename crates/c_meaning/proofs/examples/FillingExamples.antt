@@ -8,7 +8,7 @@ use Rattle.c_ast.specs.declared.specifier.BasicType.{BasicType}
 use Rattle.c_ast.specs.declared.specifier.BasicType.TheVariants as word
 use Rattle.c_ast.specs.declared.specifier.RecordKind.TheVariants as record_kind
 use Rattle.c_ast.specs.declared.specifier.Storage.TheVariants as class
-use Rattle.c_ast.specs.Trees.{ExprTree, Variable, IntegerConstant, Literal, Enclosed, Prefixed, Combined, Converted, Called, NoExprs, TypeNamed, SpecifiersTree, Specified, Basic, NoSpecifiers, Specifiers, NoDeclarator, ADeclarator, Declarator, Omitted, NoSuffixes, InitialiserTree, ByExpr, Braced, InitialiserTrees, NoInitialisers, Initialisers}
+use Rattle.c_ast.specs.Trees.{ExprTree, Name, Integer, Text, Enclosed, Prefix, Binary, Cast, Call, NoExprs, TypeNamed, SpecifiersTree, Specified, Basic, NoSpecifiers, Specifiers, NoDeclarator, ADeclarator, Declarator, Omitted, NoSuffixes, InitialiserTree, ByExpr, Braced, InitialiserTrees, NoInitialisers, Initialisers}
 use Rattle.c_types.specs.CType.{Char, SignedChar, UnsignedChar, Unsigned, Void, CType, Plain, Array, Structure, Union, Open, basic}
 use Rattle.c_meaning.specs.declared.core_expr.CoreKind.TheVariants as kind
 use Rattle.c_meaning.specs.CoreTrees.{Core, none, one}
@@ -39,21 +39,21 @@ list is = Braced 1 (items is) false
 
 -- a number, and a string
 abbrev n : ℕ → InitialiserTree
-n k = ByExpr 1 (IntegerConstant 1 k int_kind.Int)
+n k = ByExpr 1 (Integer 1 k int_kind.Int)
 
 abbrev text : List ℕ → InitialiserTree
-text bytes = ByExpr 1 (Literal 1 (bytes ∷ []))
+text bytes = ByExpr 1 (Text 1 (bytes ∷ []))
 
 abbrev expr : ExprTree → InitialiserTree
 expr e = ByExpr 1 e
 
 -- the local objects x, and s, a structure
 abbrev x : ExprTree
-x = Variable 1 (codes "x")
+x = Name 1 (codes "x")
 
 -- the function g
 abbrev g : ExprTree
-g = Variable 1 (codes "g")
+g = Name 1 (codes "g")
 
 -- In the function, behind `struct s t; extern int number;` and
 --
@@ -165,32 +165,32 @@ values (Bad f) = []
 -- ---- further expressions
 
 abbrev number : ExprTree
-number = Variable 1 (codes "number")
+number = Name 1 (codes "number")
 
 abbrev t : ExprTree
-t = Variable 1 (codes "t")
+t = Name 1 (codes "t")
 
 abbrev address : ExprTree → ExprTree
-address e = Prefixed 1 prefix.Address e
+address e = Prefix 1 prefix.Address e
 
 abbrev ab : ExprTree
-ab = Literal 1 (codes "ab" ∷ [])
+ab = Text 1 (codes "ab" ∷ [])
 
 abbrev plus : ExprTree → ℕ → ExprTree
-plus e k = Combined 1 binary.Add e (IntegerConstant 1 k int_kind.Int)
+plus e k = Binary 1 binary.Add e (Integer 1 k int_kind.Int)
 
 abbrev minus : ExprTree → ℕ → ExprTree
-minus e k = Combined 1 binary.Subtract e (IntegerConstant 1 k int_kind.Int)
+minus e k = Binary 1 binary.Subtract e (Integer 1 k int_kind.Int)
 
 abbrev specified : BasicType → SpecifiersTree
 specified w = Specified 1 (Specifiers (Basic 1 w) NoSpecifiers)
 
 -- (int)e, (char *)k
 abbrev cast : ExprTree → ExprTree
-cast e = Converted 1 (TypeNamed 1 (specified word.Int) NoDeclarator) e
+cast e = Cast 1 (TypeNamed 1 (specified word.Int) NoDeclarator) e
 
 abbrev pointer_cast : ℕ → ExprTree
-pointer_cast k = Converted 1 (TypeNamed 1 (specified word.Char) (ADeclarator (Declarator 1 ([] ∷ []) Omitted NoSuffixes))) (IntegerConstant 1 k int_kind.Int)
+pointer_cast k = Cast 1 (TypeNamed 1 (specified word.Char) (ADeclarator (Declarator 1 ([] ∷ []) Omitted NoSuffixes))) (Integer 1 k int_kind.Int)
 
 -- ---- arrays and structures
 
@@ -347,7 +347,7 @@ unfolding fold fault_at init_fault
 string_in_braces = refl
 
 -- char c[4] = {("abc")};
-string_in_both_kinds_of_parentheses : filled (automatic (Array (basic Char) (Some 4)) (list (ByExpr 1 (Enclosed 1 (Literal 1 (codes "abc" ∷ []))) ∷ []))) ≡ string 0 (Array (basic Char) (Some 4)) (codes "abc") ∷ []
+string_in_both_kinds_of_parentheses : filled (automatic (Array (basic Char) (Some 4)) (list (ByExpr 1 (Enclosed 1 (Text 1 (codes "abc" ∷ []))) ∷ []))) ≡ string 0 (Array (basic Char) (Some 4)) (codes "abc") ∷ []
 unfolding fold fault_at init_fault
 string_in_both_kinds_of_parentheses = refl
 
@@ -625,7 +625,7 @@ unfolding fold fault_at init_fault
 static_number_as_a_pointer = refl
 
 -- static int y = g();
-static_call : fault_of (static int (expr (Called 1 g NoExprs))) ≡ Some (Breaks 24 1)
+static_call : fault_of (static int (expr (Call 1 g NoExprs))) ≡ Some (Breaks 24 1)
 unfolding fold fault_at init_fault
 static_call = refl
 
@@ -648,7 +648,7 @@ pointers (suc n) = pointer_to (pointers n)
 
 -- void *q = d; where d is a function with a result of so many pointers
 abbrev pointer_by_a_function : ℕ → Outcome Filled
-pointer_by_a_function n = typed_initialiser (with_name here 1 None (codes "d") (function (pointers n) Open)) (record { of = pointer_to (basic Void); static = false; barred = false }) (expr (Variable 1 (codes "d")))
+pointer_by_a_function n = typed_initialiser (with_name here 1 None (codes "d") (function (pointers n) Open)) (record { of = pointer_to (basic Void); static = false; barred = false }) (expr (Name 1 (codes "d")))
 
 value_of_a_less_deep_type : fault_of (pointer_by_a_function 497) ≡ None
 unfolding fold fault_at init_fault

@@ -95,15 +95,15 @@ linked_function_name : becomes (node.NewFunction (codes "before")) ≡ of int_fu
 linked_function_name = refl
 
 -- a[1]
-subscript : becomes (node.Subscript a (constant 1)) ≡ of int kind.Pointed (one (of (pointer_to int) (kind.Move 4 false) (two (of (pointer_to int) kind.First (one a)) (number int 1))))
+subscript : becomes (node.Index a (constant 1)) ≡ of int kind.Pointed (one (of (pointer_to int) (kind.Move 4 false) (two (of (pointer_to int) kind.First (one a)) (number int 1))))
 subscript = refl
 
 -- 1[a]
-subscript_turned_round : becomes (node.Subscript (constant 1) a) ≡ of int kind.Pointed (one (of (pointer_to int) (kind.Move 4 false) (two (number int 1) (of (pointer_to int) kind.First (one a)))))
+subscript_turned_round : becomes (node.Index (constant 1) a) ≡ of int kind.Pointed (one (of (pointer_to int) (kind.Move 4 false) (two (number int 1) (of (pointer_to int) kind.First (one a)))))
 subscript_turned_round = refl
 
 -- t.m
-member_of_a_const_structure : becomes (node.Select member.Dot t (codes "m")) ≡ of (const int) (kind.Member 0 0 0) (one t)
+member_of_a_const_structure : becomes (node.Member member.Dot t (codes "m")) ≡ of (const int) (kind.Member 0 0 0) (one t)
 member_of_a_const_structure = refl
 
 -- s.b

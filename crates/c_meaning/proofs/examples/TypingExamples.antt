@@ -8,7 +8,7 @@ use Rattle.c_ast.specs.declared.operator.PostfixOperator.TheVariants as postfix
 use Rattle.c_ast.specs.declared.operator.PrefixOperator.TheVariants as prefix
 use Rattle.c_ast.specs.declared.specifier.BasicType.TheVariants as word
 use Rattle.c_ast.specs.declared.specifier.RecordKind.TheVariants as record_kind
-use Rattle.c_ast.specs.Trees.{ExprTree, Variable, IntegerConstant, Enclosed, Called, Stepped, Prefixed, SizedType, Combined, Assigned, NoExprs, Exprs, NoExpr, AnExpr, TypeNamed, SpecifiersTree, Specified, SpecifierTree, Basic, Record, RecordTag, Enumeration, NoSpecifiers, Specifiers, Members, NoMembers, MoreMembers, Field, NoFields, Fields, Enumerator, NoEnumerators, Enumerators, Declarator, MaybeDeclarator, NoDeclarator, ADeclarator, Named, Inner, Omitted, SuffixTree, ArraySuffix, Prototype, NameList, NoSuffixes, Suffixes, Parameter, NoParameter, Parameters}
+use Rattle.c_ast.specs.Trees.{ExprTree, Name, Integer, Enclosed, Call, Postfix, Prefix, SizeofType, Binary, Assign, NoExprs, Exprs, NoExpr, AnExpr, TypeNamed, SpecifiersTree, Specified, SpecifierTree, Basic, Record, RecordTag, Enum, NoSpecifiers, Specifiers, Members, NoMembers, MoreMembers, Field, NoFields, Fields, Enumerator, NoEnumerators, Enumerators, Declarator, MaybeDeclarator, NoDeclarator, ADeclarator, Named, Inner, Omitted, SuffixTree, ArraySuffix, Prototype, NameList, NoSuffixes, Suffixes, Parameter, NoParameter, Parameters}
 use Rattle.c_types.specs.CType.{CType}
 use Rattle.c_meaning.specs.CoreTrees.{NoCore, Cores}
 use Rattle.c_meaning.specs.Types.{pointer_to}
@@ -29,20 +29,20 @@ fault e = fault_of (typed sample e)
 -- ---- trees, of line 1 where no line is given
 
 abbrev x : ExprTree
-x = Variable 1 (codes "x")
+x = Name 1 (codes "x")
 
 abbrev f : ExprTree
-f = Variable 1 (codes "f")
+f = Name 1 (codes "f")
 
 -- a name that isn't declared
 abbrev y : ℕ → ExprTree
-y line = Variable line (codes "y")
+y line = Name line (codes "y")
 
 abbrev one : ExprTree
-one = IntegerConstant 1 1 int_kind.Int
+one = Integer 1 1 int_kind.Int
 
 abbrev address : ExprTree → ExprTree
-address e = Prefixed 1 prefix.Address e
+address e = Prefix 1 prefix.Address e
 
 abbrev specified : SpecifierTree → SpecifiersTree
 specified s = Specified 1 (Specifiers s NoSpecifiers)
@@ -52,13 +52,13 @@ int = specified (Basic 1 word.Int)
 
 -- `sizeof` of a type, which a declarator without a name may go on
 abbrev size_of : SpecifiersTree → ExprTree
-size_of specs = SizedType 1 (TypeNamed 1 specs NoDeclarator)
+size_of specs = SizeofType 1 (TypeNamed 1 specs NoDeclarator)
 
 abbrev size_of_formed : SpecifiersTree → SuffixTree → ExprTree
-size_of_formed specs suffix = SizedType 1 (TypeNamed 1 specs (ADeclarator (Declarator 1 [] Omitted (Suffixes suffix NoSuffixes))))
+size_of_formed specs suffix = SizeofType 1 (TypeNamed 1 specs (ADeclarator (Declarator 1 [] Omitted (Suffixes suffix NoSuffixes))))
 
 abbrev array_of : ℕ → SuffixTree
-array_of n = ArraySuffix 1 (AnExpr (IntegerConstant 1 n int_kind.Int))
+array_of n = ArraySuffix 1 (AnExpr (Integer 1 n int_kind.Int))
 
 abbrev named : List ℕ → MaybeDeclarator
 named n = ADeclarator (Declarator 2 [] (Named n) NoSuffixes)
@@ -66,7 +66,7 @@ named n = ADeclarator (Declarator 2 [] (Named n) NoSuffixes)
 -- sizeof(int (*)(int n, int m)), each parameter's declarator in line 2
 abbrev size_of_function_pointer : List ℕ → List ℕ → ExprTree
 size_of_function_pointer n m =
-    SizedType 1 (TypeNamed 1 int (ADeclarator (Declarator 1 [] (Inner (Declarator 1 ([] ∷ []) Omitted NoSuffixes)) (Suffixes (Prototype 1 (Parameters (Parameter 1 int (named n)) (Parameters (Parameter 1 int (named m)) NoParameter)) false) NoSuffixes))))
+    SizeofType 1 (TypeNamed 1 int (ADeclarator (Declarator 1 [] (Inner (Declarator 1 ([] ∷ []) Omitted NoSuffixes)) (Suffixes (Prototype 1 (Parameters (Parameter 1 int (named n)) (Parameters (Parameter 1 int (named m)) NoParameter)) false) NoSuffixes))))
 
 -- struct {int n, m;}, its second member in line 2
 abbrev structure : List ℕ → List ℕ → SpecifierTree
@@ -76,86 +76,86 @@ structure n m =
 -- ---- names and calls
 
 -- x+1
-sum : fault (Combined 1 binary.Add x one) ≡ None
+sum : fault (Binary 1 binary.Add x one) ≡ None
 unfolding fold fault_at
 sum = refl
 
 -- x+y
-sum_of_an_undeclared_name : fault (Combined 1 binary.Add x (y 2)) ≡ Some (Breaks 28 2)
+sum_of_an_undeclared_name : fault (Binary 1 binary.Add x (y 2)) ≡ Some (Breaks 28 2)
 unfolding fold fault_at
 sum_of_an_undeclared_name = refl
 
 -- y(1)
-call_declares_a_name : fault (Called 1 (y 1) (Exprs one NoExprs)) ≡ None
+call_declares_a_name : fault (Call 1 (y 1) (Exprs one NoExprs)) ≡ None
 unfolding fold fault_at
 call_declares_a_name = refl
 
 -- (y)(1)
-call_in_parentheses_declares_none : fault (Called 1 (Enclosed 1 (y 2)) (Exprs one NoExprs)) ≡ Some (Breaks 28 2)
+call_in_parentheses_declares_none : fault (Call 1 (Enclosed 1 (y 2)) (Exprs one NoExprs)) ≡ Some (Breaks 28 2)
 unfolding fold fault_at
 call_in_parentheses_declares_none = refl
 
 -- y(y)
-declared_before_its_arguments : fault (Called 1 (y 1) (Exprs (y 2) NoExprs)) ≡ None
+declared_before_its_arguments : fault (Call 1 (y 1) (Exprs (y 2) NoExprs)) ≡ None
 unfolding fold fault_at
 declared_before_its_arguments = refl
 
 -- y(1)+y
-declared_behind_the_call : fault (Combined 1 binary.Add (Called 1 (y 1) (Exprs one NoExprs)) (y 2)) ≡ Some (Breaks 41 1)
+declared_behind_the_call : fault (Binary 1 binary.Add (Call 1 (y 1) (Exprs one NoExprs)) (y 2)) ≡ Some (Breaks 41 1)
 unfolding fold fault_at
 declared_behind_the_call = refl
 
 -- narrow(1)
-call_of_what_is_declared_otherwise : fault (Called 1 (Variable 2 (codes "narrow")) (Exprs one NoExprs)) ≡ Some (Breaks 6 2)
+call_of_what_is_declared_otherwise : fault (Call 1 (Name 2 (codes "narrow")) (Exprs one NoExprs)) ≡ Some (Breaks 6 2)
 unfolding fold fault_at
 call_of_what_is_declared_otherwise = refl
 
 -- ---- parts before wholes, and from left to right
 
 -- f()+y
-left_part_first : fault (Combined 1 binary.Add (Called 3 f NoExprs) (y 2)) ≡ Some (Breaks 30 3)
+left_part_first : fault (Binary 1 binary.Add (Call 3 f NoExprs) (y 2)) ≡ Some (Breaks 30 3)
 unfolding fold fault_at
 left_part_first = refl
 
 -- f(y)
-argument_before_its_call : fault (Called 1 f (Exprs (y 2) (Exprs x NoExprs))) ≡ Some (Breaks 28 2)
+argument_before_its_call : fault (Call 1 f (Exprs (y 2) (Exprs x NoExprs))) ≡ Some (Breaks 28 2)
 unfolding fold fault_at
 argument_before_its_call = refl
 
 -- f(&x,1)
-number_before_kind : fault (Called 1 f (Exprs (address x) (Exprs one NoExprs))) ≡ Some (Breaks 30 1)
+number_before_kind : fault (Call 1 f (Exprs (address x) (Exprs one NoExprs))) ≡ Some (Breaks 30 1)
 unfolding fold fault_at
 number_before_kind = refl
 
 -- f(&x)
-kind_of_an_argument : fault (Called 1 f (Exprs (address x) NoExprs)) ≡ Some (Breaks 31 1)
+kind_of_an_argument : fault (Call 1 f (Exprs (address x) NoExprs)) ≡ Some (Breaks 31 1)
 unfolding fold fault_at
 kind_of_an_argument = refl
 
 -- ---- smaller numbers first
 
 -- 1+=&x
-place_before_kind : fault (Assigned 1 assign.Add one (address x)) ≡ Some (Breaks 34 1)
+place_before_kind : fault (Assign 1 assign.Add one (address x)) ≡ Some (Breaks 34 1)
 unfolding fold fault_at
 place_before_kind = refl
 
 -- x+=&x
-kind_of_an_operand : fault (Assigned 1 assign.Add x (address x)) ≡ Some (Breaks 40 1)
+kind_of_an_operand : fault (Assign 1 assign.Add x (address x)) ≡ Some (Breaks 40 1)
 unfolding fold fault_at
 kind_of_an_operand = refl
 
 -- f++
-place_before_elements : fault (Stepped 1 postfix.Increment f) ≡ Some (Breaks 34 1)
+place_before_elements : fault (Postfix 1 postfix.Increment f) ≡ Some (Breaks 34 1)
 unfolding fold fault_at
 place_before_elements = refl
 
 -- f+1
-elements : fault (Combined 1 binary.Add f one) ≡ Some (Breaks 41 1)
+elements : fault (Binary 1 binary.Add f one) ≡ Some (Breaks 41 1)
 unfolding fold fault_at
 elements = refl
 
 -- &x<1
-order_of_other_kinds : fault (Combined 1 binary.Less (address x) one) ≡ Some (Breaks 42 1)
+order_of_other_kinds : fault (Binary 1 binary.Less (address x) one) ≡ Some (Breaks 42 1)
 unfolding fold fault_at
 order_of_other_kinds = refl
 
@@ -207,12 +207,12 @@ unfolding fold fault_at
 member_twice = refl
 
 -- sizeof(enum{x})
-enumerator_with_a_name_of_its_scope : fault (size_of (specified (Enumeration 1 None (Enumerators (Enumerator 2 (codes "x") NoExpr) NoEnumerators) false))) ≡ Some (Breaks 5 2)
+enumerator_with_a_name_of_its_scope : fault (size_of (specified (Enum 1 None (Enumerators (Enumerator 2 (codes "x") NoExpr) NoEnumerators) false))) ≡ Some (Breaks 5 2)
 unfolding fold fault_at
 enumerator_with_a_name_of_its_scope = refl
 
 -- sizeof(enum{y})+y
-enumerator_in_force_behind_it : fault (Combined 1 binary.Add (size_of (specified (Enumeration 1 None (Enumerators (Enumerator 1 (codes "y") NoExpr) NoEnumerators) false))) (y 2)) ≡ None
+enumerator_in_force_behind_it : fault (Binary 1 binary.Add (size_of (specified (Enum 1 None (Enumerators (Enumerator 1 (codes "y") NoExpr) NoEnumerators) false))) (y 2)) ≡ None
 unfolding fold fault_at
 enumerator_in_force_behind_it = refl
 

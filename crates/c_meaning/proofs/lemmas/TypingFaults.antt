@@ -1,7 +1,7 @@
 -- The fault that typing as a function gives is that of the first node, in postorder, that has one.
 use Rattle.std.proofs.Common.{refl}
 use Rattle.std.specs.Prelude.{ℕ, ℤ, pos, ◌+◌, ◌+ℤ◌, Bool, true, false, List, [], ◌∷◌, ◌++◌, is_none}
-use Rattle.c_ast.specs.Trees.{ExprTree, Variable, IntegerConstant, CharacterConstant, Literal, Enclosed, Subscript, Called, Selected, Stepped, Prefixed, SizedExpr, SizedType, Converted, Combined, Chosen, Assigned, Sequence, ExprTrees, NoExprs, Exprs, MaybeExpr, NoExpr, AnExpr, TypeNameTree, TypeNamed, SpecifiersTree, SpecifierTree, SpecifierTrees, NoSpecifiers, Specifiers, MemberTree, Members, MemberTrees, NoMembers, MoreMembers, FieldTree, Field, FieldTrees, NoFields, Fields, EnumeratorTree, Enumerator, EnumeratorTrees, NoEnumerators, Enumerators, DeclaratorTree, Declarator, MaybeDeclarator, NoDeclarator, ADeclarator, CoreTree, Named, Inner, Omitted, SuffixTree, ArraySuffix, Prototype, NameList, NoParameters, SuffixTrees, NoSuffixes, Suffixes, ParameterTree, Parameter, ParameterTrees, NoParameter, Parameters}
+use Rattle.c_ast.specs.Trees.{ExprTree, Name, Integer, Character, Text, Enclosed, Index, Call, Member, Postfix, Prefix, SizeofExpr, SizeofType, Cast, Binary, Conditional, Assign, Comma, ExprTrees, NoExprs, Exprs, MaybeExpr, NoExpr, AnExpr, TypeNameTree, TypeNamed, SpecifiersTree, SpecifierTree, SpecifierTrees, NoSpecifiers, Specifiers, MemberTree, Members, MemberTrees, NoMembers, MoreMembers, FieldTree, Field, FieldTrees, NoFields, Fields, EnumeratorTree, Enumerator, EnumeratorTrees, NoEnumerators, Enumerators, DeclaratorTree, Declarator, MaybeDeclarator, NoDeclarator, ADeclarator, CoreTree, Named, Inner, Omitted, SuffixTree, ArraySuffix, Prototype, NameList, NoParameters, SuffixTrees, NoSuffixes, Suffixes, ParameterTree, Parameter, ParameterTrees, NoParameter, Parameters}
 use Rattle.c_ast.specs.Trees as tree
 use Rattle.c_types.specs.CType.{CType}
 use Rattle.c_types.specs.Layout.{MemberType}
@@ -20,28 +20,28 @@ named_first s l x true o places h = at_first _ _ _ _ _
 named_first s l x false o places h = h
 
 callee_first : (s : State) (f : ExprTree) (o : Outcome values.CoreTree) (places : List Place) → IsFirst o places → IsFirst (callee s f o) (callee_nodes s f places)
-callee_first s (Variable l x) o places h = named_first s l x (is_none (place_of s x)) o places h
+callee_first s (Name l x) o places h = named_first s l x (is_none (place_of s x)) o places h
 callee_first s f o places h = h
 
 mutual
   pub expr_first : (s : State) (e : ExprTree) → IsFirst (typed s e) (nodes s e)
-  expr_first s (Variable l x) = at_first _ _ _ _ _
-  expr_first s (IntegerConstant l n k) = at_first _ _ _ _ _
-  expr_first s (CharacterConstant l z) = at_first _ _ _ _ _
-  expr_first s (Literal l texts) = at_first _ _ _ _ _
+  expr_first s (Name l x) = at_first _ _ _ _ _
+  expr_first s (Integer l n k) = at_first _ _ _ _ _
+  expr_first s (Character l z) = at_first _ _ _ _ _
+  expr_first s (Text l texts) = at_first _ _ _ _ _
   expr_first s (Enclosed l e) = expr_first s e
-  expr_first s (Subscript l a i) = visit_first _ _ _ _ (expr_first s a) (λ s c. visit_first _ _ _ _ (expr_first s i) (λ s d. at_first _ _ _ _ _))
-  expr_first s (Called l f es) = visit_first _ _ _ _ (callee_first s f (typed s f) (nodes s f) (expr_first s f)) (λ s c. visit_first _ _ _ _ (exprs_first s es) (λ s cs. at_first _ _ _ _ _))
-  expr_first s (Selected l op a x) = visit_first _ _ _ _ (expr_first s a) (λ s c. at_first _ _ _ _ _)
-  expr_first s (Stepped l op a) = visit_first _ _ _ _ (expr_first s a) (λ s c. at_first _ _ _ _ _)
-  expr_first s (Prefixed l op a) = visit_first _ _ _ _ (expr_first s a) (λ s c. at_first _ _ _ _ _)
-  expr_first s (SizedExpr l a) = visit_first _ _ _ _ (expr_first s a) (λ s c. at_first _ _ _ _ _)
-  expr_first s (SizedType l t) = visit_first _ _ _ _ (name_first s t) (λ s of. at_first _ _ _ _ _)
-  expr_first s (Converted l t a) = visit_first _ _ _ _ (name_first s t) (λ s to. visit_first _ _ _ _ (expr_first s a) (λ s c. at_first _ _ _ _ _))
-  expr_first s (Combined l op a b) = visit_first _ _ _ _ (expr_first s a) (λ s c. visit_first _ _ _ _ (expr_first s b) (λ s d. at_first _ _ _ _ _))
-  expr_first s (Chosen l a b c) = visit_first _ _ _ _ (expr_first s a) (λ s u. visit_first _ _ _ _ (expr_first s b) (λ s v. visit_first _ _ _ _ (expr_first s c) (λ s w. at_first _ _ _ _ _)))
-  expr_first s (Assigned l op a b) = visit_first _ _ _ _ (expr_first s a) (λ s c. visit_first _ _ _ _ (expr_first s b) (λ s d. at_first _ _ _ _ _))
-  expr_first s (Sequence l es) = visit_first _ _ _ _ (exprs_first s es) (λ s cs. at_first _ _ _ _ _)
+  expr_first s (Index l a i) = visit_first _ _ _ _ (expr_first s a) (λ s c. visit_first _ _ _ _ (expr_first s i) (λ s d. at_first _ _ _ _ _))
+  expr_first s (Call l f es) = visit_first _ _ _ _ (callee_first s f (typed s f) (nodes s f) (expr_first s f)) (λ s c. visit_first _ _ _ _ (exprs_first s es) (λ s cs. at_first _ _ _ _ _))
+  expr_first s (Member l op a x) = visit_first _ _ _ _ (expr_first s a) (λ s c. at_first _ _ _ _ _)
+  expr_first s (Postfix l op a) = visit_first _ _ _ _ (expr_first s a) (λ s c. at_first _ _ _ _ _)
+  expr_first s (Prefix l op a) = visit_first _ _ _ _ (expr_first s a) (λ s c. at_first _ _ _ _ _)
+  expr_first s (SizeofExpr l a) = visit_first _ _ _ _ (expr_first s a) (λ s c. at_first _ _ _ _ _)
+  expr_first s (SizeofType l t) = visit_first _ _ _ _ (name_first s t) (λ s of. at_first _ _ _ _ _)
+  expr_first s (Cast l t a) = visit_first _ _ _ _ (name_first s t) (λ s to. visit_first _ _ _ _ (expr_first s a) (λ s c. at_first _ _ _ _ _))
+  expr_first s (Binary l op a b) = visit_first _ _ _ _ (expr_first s a) (λ s c. visit_first _ _ _ _ (expr_first s b) (λ s d. at_first _ _ _ _ _))
+  expr_first s (Conditional l a b c) = visit_first _ _ _ _ (expr_first s a) (λ s u. visit_first _ _ _ _ (expr_first s b) (λ s v. visit_first _ _ _ _ (expr_first s c) (λ s w. at_first _ _ _ _ _)))
+  expr_first s (Assign l op a b) = visit_first _ _ _ _ (expr_first s a) (λ s c. visit_first _ _ _ _ (expr_first s b) (λ s d. at_first _ _ _ _ _))
+  expr_first s (Comma l es) = visit_first _ _ _ _ (exprs_first s es) (λ s cs. at_first _ _ _ _ _)
 
   pub exprs_first : (s : State) (es : ExprTrees) → IsFirst (all_typed s es) (all_nodes s es)
   exprs_first s NoExprs = refl
@@ -74,8 +74,8 @@ mutual
   part_first s (tree.Basic l word) = refl
   part_first s (tree.NamedType l x) = refl
   part_first s (tree.RecordTag l k tag) = at_first _ _ _ _ _
-  part_first s (tree.EnumerationTag l tag) = at_first _ _ _ _ _
-  part_first s (tree.Enumeration l tag es comma) = visit_first _ _ _ _ (enumerators_first (awaited s l tag) (pos 0) es) (λ s next. at_first _ _ _ _ _)
+  part_first s (tree.EnumTag l tag) = at_first _ _ _ _ _
+  part_first s (tree.Enum l tag es comma) = visit_first _ _ _ _ (enumerators_first (awaited s l tag) (pos 0) es) (λ s next. at_first _ _ _ _ _)
   part_first s (tree.Record l k tag ms) = visit_first _ _ _ _ (members_first (opened s l k tag).state [] ms) (λ t members. at_first _ _ _ _ _)
 
   -- the members behind others

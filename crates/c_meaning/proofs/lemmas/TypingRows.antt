@@ -1,6 +1,6 @@
 -- What the rows type is what typing as a function gives, and nothing else.
 use Rattle.std.specs.Prelude.{ℕ, ℤ, pos, ◌+◌, ◌+ℤ◌, Bool, true, false, List, [], ◌∷◌, ◌++◌, is_none}
-use Rattle.c_ast.specs.Trees.{ExprTree, Variable, IntegerConstant, CharacterConstant, Literal, Enclosed, Subscript, Called, Selected, Stepped, Prefixed, SizedExpr, SizedType, Converted, Combined, Chosen, Assigned, Sequence, ExprTrees, NoExprs, Exprs, MaybeExpr, NoExpr, AnExpr, TypeNameTree, TypeNamed, SpecifiersTree, SpecifierTree, SpecifierTrees, NoSpecifiers, Specifiers, MemberTree, Members, MemberTrees, NoMembers, MoreMembers, FieldTree, Field, FieldTrees, NoFields, Fields, EnumeratorTree, Enumerator, EnumeratorTrees, NoEnumerators, Enumerators, DeclaratorTree, Declarator, MaybeDeclarator, NoDeclarator, ADeclarator, CoreTree, Named, Inner, Omitted, SuffixTree, ArraySuffix, Prototype, NameList, NoParameters, SuffixTrees, NoSuffixes, Suffixes, ParameterTree, Parameter, ParameterTrees, NoParameter, Parameters}
+use Rattle.c_ast.specs.Trees.{ExprTree, Name, Integer, Character, Text, Enclosed, Index, Call, Member, Postfix, Prefix, SizeofExpr, SizeofType, Cast, Binary, Conditional, Assign, Comma, ExprTrees, NoExprs, Exprs, MaybeExpr, NoExpr, AnExpr, TypeNameTree, TypeNamed, SpecifiersTree, SpecifierTree, SpecifierTrees, NoSpecifiers, Specifiers, MemberTree, Members, MemberTrees, NoMembers, MoreMembers, FieldTree, Field, FieldTrees, NoFields, Fields, EnumeratorTree, Enumerator, EnumeratorTrees, NoEnumerators, Enumerators, DeclaratorTree, Declarator, MaybeDeclarator, NoDeclarator, ADeclarator, CoreTree, Named, Inner, Omitted, SuffixTree, ArraySuffix, Prototype, NameList, NoParameters, SuffixTrees, NoSuffixes, Suffixes, ParameterTree, Parameter, ParameterTrees, NoParameter, Parameters}
 use Rattle.c_ast.specs.Trees as tree
 use Rattle.c_types.specs.CType.{CType}
 use Rattle.c_types.specs.Layout.{MemberType}
@@ -19,28 +19,28 @@ named_rows s l x true h = at_typing
 named_rows s l x false h = h
 
 callee_rows : (s : State) (f : ExprTree) {o : Outcome values.CoreTree} {types : State → values.CoreTree → Type 0} → IsTyping o types → IsTyping (callee s f o) (TypesCallee s f types)
-callee_rows s (Variable l x) h = named_rows s l x (is_none (place_of s x)) h
+callee_rows s (Name l x) h = named_rows s l x (is_none (place_of s x)) h
 callee_rows s f h = h
 
 mutual
   pub expr_rows : (s : State) (e : ExprTree) → IsTyping (typed s e) (Types s e)
-  expr_rows s (Variable l x) = at_typing
-  expr_rows s (IntegerConstant l n k) = at_typing
-  expr_rows s (CharacterConstant l z) = at_typing
-  expr_rows s (Literal l texts) = at_typing
+  expr_rows s (Name l x) = at_typing
+  expr_rows s (Integer l n k) = at_typing
+  expr_rows s (Character l z) = at_typing
+  expr_rows s (Text l texts) = at_typing
   expr_rows s (Enclosed l e) = expr_rows s e
-  expr_rows s (Subscript l a i) = then_typing (expr_rows s a) (λ s c. then_typing (expr_rows s i) (λ s d. at_typing))
-  expr_rows s (Called l f es) = then_typing (callee_rows s f (expr_rows s f)) (λ s c. then_typing (exprs_rows s es) (λ s cs. at_typing))
-  expr_rows s (Selected l op a x) = then_typing (expr_rows s a) (λ s c. at_typing)
-  expr_rows s (Stepped l op a) = then_typing (expr_rows s a) (λ s c. at_typing)
-  expr_rows s (Prefixed l op a) = then_typing (expr_rows s a) (λ s c. at_typing)
-  expr_rows s (SizedExpr l a) = then_typing (expr_rows s a) (λ s c. at_typing)
-  expr_rows s (SizedType l t) = then_typing (name_rows s t) (λ s of. at_typing)
-  expr_rows s (Converted l t a) = then_typing (name_rows s t) (λ s to. then_typing (expr_rows s a) (λ s c. at_typing))
-  expr_rows s (Combined l op a b) = then_typing (expr_rows s a) (λ s c. then_typing (expr_rows s b) (λ s d. at_typing))
-  expr_rows s (Chosen l a b c) = then_typing (expr_rows s a) (λ s u. then_typing (expr_rows s b) (λ s v. then_typing (expr_rows s c) (λ s w. at_typing)))
-  expr_rows s (Assigned l op a b) = then_typing (expr_rows s a) (λ s c. then_typing (expr_rows s b) (λ s d. at_typing))
-  expr_rows s (Sequence l es) = then_typing (exprs_rows s es) (λ s cs. at_typing)
+  expr_rows s (Index l a i) = then_typing (expr_rows s a) (λ s c. then_typing (expr_rows s i) (λ s d. at_typing))
+  expr_rows s (Call l f es) = then_typing (callee_rows s f (expr_rows s f)) (λ s c. then_typing (exprs_rows s es) (λ s cs. at_typing))
+  expr_rows s (Member l op a x) = then_typing (expr_rows s a) (λ s c. at_typing)
+  expr_rows s (Postfix l op a) = then_typing (expr_rows s a) (λ s c. at_typing)
+  expr_rows s (Prefix l op a) = then_typing (expr_rows s a) (λ s c. at_typing)
+  expr_rows s (SizeofExpr l a) = then_typing (expr_rows s a) (λ s c. at_typing)
+  expr_rows s (SizeofType l t) = then_typing (name_rows s t) (λ s of. at_typing)
+  expr_rows s (Cast l t a) = then_typing (name_rows s t) (λ s to. then_typing (expr_rows s a) (λ s c. at_typing))
+  expr_rows s (Binary l op a b) = then_typing (expr_rows s a) (λ s c. then_typing (expr_rows s b) (λ s d. at_typing))
+  expr_rows s (Conditional l a b c) = then_typing (expr_rows s a) (λ s u. then_typing (expr_rows s b) (λ s v. then_typing (expr_rows s c) (λ s w. at_typing)))
+  expr_rows s (Assign l op a b) = then_typing (expr_rows s a) (λ s c. then_typing (expr_rows s b) (λ s d. at_typing))
+  expr_rows s (Comma l es) = then_typing (exprs_rows s es) (λ s cs. at_typing)
 
   pub exprs_rows : (s : State) (es : ExprTrees) → IsTyping (all_typed s es) (TypesAll s es)
   exprs_rows s NoExprs = is_typing
@@ -73,8 +73,8 @@ mutual
   part_rows s (tree.Basic l word) = is_typing
   part_rows s (tree.NamedType l x) = is_typing
   part_rows s (tree.RecordTag l k tag) = at_typing
-  part_rows s (tree.EnumerationTag l tag) = at_typing
-  part_rows s (tree.Enumeration l tag es comma) = then_typing (enumerators_rows (awaited s l tag) (pos 0) es) (λ s next. at_typing)
+  part_rows s (tree.EnumTag l tag) = at_typing
+  part_rows s (tree.Enum l tag es comma) = then_typing (enumerators_rows (awaited s l tag) (pos 0) es) (λ s next. at_typing)
   part_rows s (tree.Record l k tag ms) = then_typing (members_rows (opened s l k tag).state [] ms) (λ t members. at_typing)
 
   -- the members behind others

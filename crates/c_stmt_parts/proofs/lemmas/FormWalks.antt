@@ -1,7 +1,7 @@
 -- A statement by its form; and those with no statement and no expression in them.
 use Rattle.std.proofs.Common.{◌≡◌, ℕ, List, length, refl, sym, ap, ◌∙◌, subst}
 use Rattle.std.specs.Prelude.{Result, Ok, Err, IfOk, IfErr, OnOk}
-use Rattle.c_ast.specs.Trees.{NoExpr, StatementTree, Evaluate, Goto, Continue, Break}
+use Rattle.c_ast.specs.Trees.{NoExpr, StatementTree, Expression, Goto, Continue, Break}
 use Rattle.c_ast.specs.declared.statement.Statement.{Statement, out-Statement}
 use Rattle.c_ast.specs.declared.statement.StatementForm.{StatementForm}
 use Rattle.c_symbols.specs.Scoping.{Scoping}
@@ -52,7 +52,7 @@ module _ (f : WithinTrees) (around : AroundTrees) (s : Scoping) (a : Table) (x :
   pub continue_walk : (r : Result CoreStmt CheckFault) → IfOk r (λ v. v ≡ stmt.Continue) → OnOk r ((t : Table) → IsSound t line (node.Continue around)) → IfErr r (λ e. (t : Table) → IsToldAt t line (node.Continue around) e) → WalksStmt (statement_in f around s a (body_in a x) (Continue line)) s a s a x r
   continue_walk r ok sound told = walk_as _ _ (continue_is f around s a (body_in a x) line) (leaf_walk line (node.Continue around) code.Continue stmt.Continue s a x known within (continue_seen a) (within, continue_within (length a.forms)) r ok sound told)
 
-  pub nothing_walk : WalksStmt (statement_in f around s a (body_in a x) (Evaluate line NoExpr)) s a s a x (Ok stmt.Nothing)
+  pub nothing_walk : WalksStmt (statement_in f around s a (body_in a x) (Expression line NoExpr)) s a s a x (Ok stmt.Nothing)
   nothing_walk =
       record {
         ok = nothing_is f around s a (body_in a x) line ∙ ap (λ c. Fine (state_of s a) (done (body_in a x) c)) (sym (nothing_seen a));

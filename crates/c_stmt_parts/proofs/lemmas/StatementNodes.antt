@@ -1,7 +1,7 @@
 -- Each statement's node, and the code that it becomes.
 use Rattle.std.proofs.Common.{◌≡◌, ℕ, Option, None, List, [], length, refl, sym, ap, ◌∙◌, subst}
 use Rattle.std.specs.Global.{Box}
-use Rattle.c_ast.specs.Trees.{ExprTree, MaybeExpr, NoExpr, AnExpr, StatementTree, Labelled, Case, Default, Evaluate, If, IfElse, Switch, While, Do, For, Goto, Continue, Break, Return}
+use Rattle.c_ast.specs.Trees.{ExprTree, MaybeExpr, NoExpr, AnExpr, StatementTree, Label, Case, Default, Expression, If, IfElse, Switch, While, Do, For, Goto, Continue, Break, Return}
 use Rattle.c_symbols.specs.Scoping.{Scoping}
 use Rattle.c_types.specs.CType.{CType}
 use Rattle.c_types.specs.Table.{Table, Extends}
@@ -76,7 +76,7 @@ module _ (f : WithinTrees) (around : AroundTrees) (s : Scoping) (a : Table) (b :
   if_else_is other = refl
 
 module _ (f : WithinTrees) (around : AroundTrees) (s : Scoping) (a : Table) (b : BodyTrees) (line : ℕ) (st : StatementTree) where
-  pub labelled_is : (name : List ℕ) → statement_in f around s a b (Labelled line name st) ≡ then_do {T = ℕ} (Fine (state_of s a) 0) (λ m n. then_do (typed_stmt f around m (marked b) st) (λ u t. at_stmt u line (node.Labelled (stands_again f b name)) (labelled b t)))
+  pub labelled_is : (name : List ℕ) → statement_in f around s a b (Label line name st) ≡ then_do {T = ℕ} (Fine (state_of s a) 0) (λ m n. then_do (typed_stmt f around m (marked b) st) (λ u t. at_stmt u line (node.Label (stands_again f b name)) (labelled b t)))
   unfolding statement_in
   labelled_is name = refl
 
@@ -95,11 +95,11 @@ module _ (f : WithinTrees) (around : AroundTrees) (s : Scoping) (a : Table) (b :
   unfolding statement_in maybe_expr_in
   return_is v = refl
 
-  pub evaluate_is : (e : ExprTree) → statement_in f around s a b (Evaluate line (AnExpr e)) ≡ then_do (expr_in s a e) (λ m c. at_stmt m line (node.Evaluate c) (done b (code.Expression (value c))))
+  pub evaluate_is : (e : ExprTree) → statement_in f around s a b (Expression line (AnExpr e)) ≡ then_do (expr_in s a e) (λ m c. at_stmt m line (node.Expression c) (done b (code.Expression (value c))))
   unfolding statement_in expr_in
   evaluate_is e = refl
 
-  pub nothing_is : statement_in f around s a b (Evaluate line NoExpr) ≡ Fine (state_of s a) (done b code.Nothing)
+  pub nothing_is : statement_in f around s a b (Expression line NoExpr) ≡ Fine (state_of s a) (done b code.Nothing)
   unfolding statement_in
   nothing_is = refl
 
@@ -131,7 +131,7 @@ module _ (w : Within) (around : AroundTrees) (s : Scoping) (a : Table) (x : Body
   case_parts = record { o = expr_in s a e; inner = around; before = λ c. with_case around (body_in a x) c; st = st; line = line; node = λ c. node.Case c around (is_case_again around (body_in a x) c); make = λ c t. labelled (body_in a x) t; is = case_is (within_in a w) around s a (body_in a x) line e st }
 
 module _ (w : Within) (around : AroundTrees) (s : Scoping) (a : Table) (x : Body) (line : ℕ) (st : StatementTree) where
-  abbrev pub labelled_parts : (name : List ℕ) → Parts ℕ w a (statement_in (within_in a w) around s a (body_in a x) (Labelled line name st))
+  abbrev pub labelled_parts : (name : List ℕ) → Parts ℕ w a (statement_in (within_in a w) around s a (body_in a x) (Label line name st))
   labelled_parts name =
       record {
         o = Fine (state_of s a) 0;
@@ -139,7 +139,7 @@ module _ (w : Within) (around : AroundTrees) (s : Scoping) (a : Table) (x : Body
         before = λ n. marked (body_in a x);
         st = st;
         line = line;
-        node = λ n. node.Labelled (stands_again (within_in a w) (body_in a x) name);
+        node = λ n. node.Label (stands_again (within_in a w) (body_in a x) name);
         make = λ n t. labelled (body_in a x) t;
         is = labelled_is (within_in a w) around s a (body_in a x) line st name;
       }

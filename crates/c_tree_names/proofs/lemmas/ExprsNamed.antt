@@ -2,56 +2,56 @@
 use Rattle.std.specs.Prelude.{ℕ, Bool, true, false, List, ◌&&◌, ◌||◌}
 use Rattle.c_ast.specs.Marks.{Mark}
 use Rattle.c_ast.specs.ExprMarks.{expr, sequence, more_sequence, arguments, more_arguments, maybe_expr, expr_behind, type_name, specifiers, specifier_list, specifier, members, member, fields, more_fields, field, enumerators, more_enumerators, enumerator, maybe_declarator, declarator, core, suffixes, suffix, parameters, more_parameters, parameter, says_type, is_own, has_typedef, maybe_name}
-use Rattle.c_ast.specs.Trees.{ExprTree, Variable, IntegerConstant, CharacterConstant, Literal, Enclosed, Subscript, Called, Selected, Stepped, Prefixed, SizedExpr, SizedType, Converted, Combined, Chosen, Assigned, Sequence, ExprTrees, NoExprs, Exprs, MaybeExpr, NoExpr, AnExpr, TypeNameTree, TypeNamed, SpecifiersTree, Specified, SpecifierTree, Stored, Qualified, Basic, Record, RecordTag, Enumeration, EnumerationTag, NamedType, SpecifierTrees, NoSpecifiers, Specifiers, MemberTree, Members, MemberTrees, NoMembers, MoreMembers, FieldTree, Field, FieldTrees, NoFields, Fields, EnumeratorTree, Enumerator, EnumeratorTrees, NoEnumerators, Enumerators, DeclaratorTree, Declarator, MaybeDeclarator, NoDeclarator, ADeclarator, CoreTree, Named as NamedCore, Inner, Omitted, SuffixTree, ArraySuffix, Prototype, NameList, NoParameters, SuffixTrees, NoSuffixes, Suffixes, ParameterTree, Parameter, ParameterTrees, NoParameter, Parameters}
+use Rattle.c_ast.specs.Trees.{ExprTree, Name, Integer, Character, Text, Enclosed, Index, Call, Member, Postfix, Prefix, SizeofExpr, SizeofType, Cast, Binary, Conditional, Assign, Comma, ExprTrees, NoExprs, Exprs, MaybeExpr, NoExpr, AnExpr, TypeNameTree, TypeNamed, SpecifiersTree, Specified, SpecifierTree, Stored, Qualified, Basic, Record, RecordTag, Enum, EnumTag, NamedType, SpecifierTrees, NoSpecifiers, Specifiers, MemberTree, Members, MemberTrees, NoMembers, MoreMembers, FieldTree, Field, FieldTrees, NoFields, Fields, EnumeratorTree, Enumerator, EnumeratorTrees, NoEnumerators, Enumerators, DeclaratorTree, Declarator, MaybeDeclarator, NoDeclarator, ADeclarator, CoreTree, Named as NamedCore, Inner, Omitted, SuffixTree, ArraySuffix, Prototype, NameList, NoParameters, SuffixTrees, NoSuffixes, Suffixes, ParameterTree, Parameter, ParameterTrees, NoParameter, Parameters}
 use Rattle.c_tree_names.specs.Names.{ExprNames, AllNames, MaybeNames, TypeNames, SpecifiersNames, AllSpecifierNames, SpecifierNames, AllMemberNames, MemberNames, AllFieldNames, FieldNames, AllEnumeratorNames, EnumeratorNames, MaybeDeclaratorNames, DeclaratorNames, CoreNames, AllSuffixNames, SuffixNames, AllParameterNames, ParameterNames}
 use Rattle.c_tree_names.proofs.lemmas.Named.{Named, behind_texts, behind_pointers, listed_names, behind_tag, behind_end, behind_dots, behind_put, behind_closed, behind_asked}
 
 mutual
   pub expr_named : (e : ExprTree) (r : List Mark) → Named (expr e r) → ExprNames e × Named r
-  expr_named (Variable l n) r h = h
-  expr_named (IntegerConstant l v k) r h = h
-  expr_named (CharacterConstant l v) r h = h
-  expr_named (Literal l bs) r h = (tt, behind_texts bs r h)
+  expr_named (Name l n) r h = h
+  expr_named (Integer l v k) r h = h
+  expr_named (Character l v) r h = h
+  expr_named (Text l bs) r h = (tt, behind_texts bs r h)
   expr_named (Enclosed l e) r h =
       let p = expr_named e _ h.1 in
       (p.0, p.1.1)
-  expr_named (Subscript l a i) r h =
+  expr_named (Index l a i) r h =
       let p = expr_named a _ h in
       let q = expr_named i _ p.1.1 in
       ((p.0, q.0), q.1.1)
-  expr_named (Called l f es) r h =
+  expr_named (Call l f es) r h =
       let p = expr_named f _ h in
       let q = arguments_named es r p.1.1 in
       ((p.0, q.0), q.1)
-  expr_named (Selected l op a n) r h =
+  expr_named (Member l op a n) r h =
       let p = expr_named a _ h in
       (p.0, p.1.1.1)
-  expr_named (Stepped l op a) r h =
+  expr_named (Postfix l op a) r h =
       let p = expr_named a _ h in
       (p.0, p.1.1)
-  expr_named (Prefixed l op a) r h = expr_named a r h.1
-  expr_named (SizedExpr l a) r h = expr_named a r h.1
-  expr_named (SizedType l t) r h =
+  expr_named (Prefix l op a) r h = expr_named a r h.1
+  expr_named (SizeofExpr l a) r h = expr_named a r h.1
+  expr_named (SizeofType l t) r h =
       let p = type_named t _ h.1.1 in
       (p.0, p.1.1)
-  expr_named (Converted l t a) r h =
+  expr_named (Cast l t a) r h =
       let p = type_named t _ h.1 in
       let q = expr_named a r p.1.1 in
       ((p.0, q.0), q.1)
-  expr_named (Combined l op a b) r h =
+  expr_named (Binary l op a b) r h =
       let p = expr_named a _ h in
       let q = expr_named b r p.1.1 in
       ((p.0, q.0), q.1)
-  expr_named (Chosen l a b c) r h =
+  expr_named (Conditional l a b c) r h =
       let p = expr_named a _ h in
       let q = expr_named b _ p.1.1 in
       let s = expr_named c r q.1.1 in
       ((p.0, (q.0, s.0)), s.1)
-  expr_named (Assigned l op a b) r h =
+  expr_named (Assign l op a b) r h =
       let p = expr_named a _ h in
       let q = expr_named b r p.1.1 in
       ((p.0, q.0), q.1)
-  expr_named (Sequence l es) r h = sequence_named es r h
+  expr_named (Comma l es) r h = sequence_named es r h
 
   sequence_named : (es : ExprTrees) (r : List Mark) → Named (sequence es r) → AllNames es × Named r
   sequence_named NoExprs r h = (tt, h)
@@ -111,8 +111,8 @@ mutual
   specifier_named (Basic l b) r h = (tt, h.1)
   specifier_named (Record l k tag ms) r h = members_named ms r (behind_tag tag _ h.1).1
   specifier_named (RecordTag l k n) r h = (tt, h.1.1)
-  specifier_named (Enumeration l tag es comma) r h = enumerators_named es comma r (behind_tag tag _ h.1).1
-  specifier_named (EnumerationTag l n) r h = (tt, h.1.1)
+  specifier_named (Enum l tag es comma) r h = enumerators_named es comma r (behind_tag tag _ h.1).1
+  specifier_named (EnumTag l n) r h = (tt, h.1.1)
   specifier_named (NamedType l n) r h = (tt, h.1)
 
   members_named : (ms : MemberTrees) (r : List Mark) → Named (members ms r) → AllMemberNames ms × Named r

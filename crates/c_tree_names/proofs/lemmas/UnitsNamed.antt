@@ -3,7 +3,7 @@ use Rattle.std.specs.Prelude.{Bool, Option, Some, None, List, [], ◌∷◌}
 use Rattle.c_ast.specs.Marks.{Mark, Reopen}
 use Rattle.c_ast.specs.ExprMarks.{has_typedef, declared_name}
 use Rattle.c_ast.specs.UnitMarks.{initialiser, initialisers, more_initialisers, maybe_initialiser, whole_declarator, init, more_inits, inits, declaration, declarations, statement, statements, block, function_body, maybe_specifiers, maybe_typedef, external, externals, unit}
-use Rattle.c_ast.specs.Trees.{DeclaratorTree, InitialiserTree, ByExpr, Braced, InitialiserTrees, NoInitialisers, Initialisers, InitTree, SpecifiersTree, DeclarationTree, StatementTree, Labelled, Case, Default, Evaluate, Compound, If, IfElse, Switch, While, Do, For, Goto, Continue, Break, Return, StatementTrees, NoStatements, Statements, BlockTree, Block, ExternalTree, Function, Declares, Empty, UnitTree}
+use Rattle.c_ast.specs.Trees.{DeclaratorTree, InitialiserTree, ByExpr, Braced, InitialiserTrees, NoInitialisers, Initialisers, InitTree, SpecifiersTree, DeclarationTree, StatementTree, Label, Case, Default, Expression, Compound, If, IfElse, Switch, While, Do, For, Goto, Continue, Break, Return, StatementTrees, NoStatements, Statements, BlockTree, Block, ExternalTree, Function, Declares, Empty, UnitTree}
 use Rattle.c_tree_names.specs.Names.{DeclaratorNames, InitialiserNames, AllInitialiserNames, MaybeInitialiserNames, InitNames, AllInitNames, DeclarationNames, AllDeclarationNames, StatementNames, AllStatementNames, BlockNames, MaybeSpecifiersNames, ExternalNames, AllExternalNames, HasNames}
 use Rattle.c_tree_names.proofs.lemmas.Named.{Named, behind_end, behind_put}
 use Rattle.c_tree_names.proofs.lemmas.ExprsNamed.{expr_named, maybe_named, specifiers_named, declarator_named}
@@ -75,13 +75,13 @@ declarations_named (d ∷ ds) r h =
 
 mutual
   statement_named : (s : StatementTree) (r : List Mark) → Named (statement s r) → StatementNames s × Named r
-  statement_named (Labelled l n s) r h = statement_named s r h.1.1
+  statement_named (Label l n s) r h = statement_named s r h.1.1
   statement_named (Case l e s) r h =
       let p = expr_named e _ h.1 in
       let q = statement_named s r p.1.1 in
       ((p.0, q.0), q.1)
   statement_named (Default l s) r h = statement_named s r h.1.1
-  statement_named (Evaluate l e) r h =
+  statement_named (Expression l e) r h =
       let p = maybe_named e _ h in
       (p.0, p.1.1)
   statement_named (Compound l b) r h = block_named b r h

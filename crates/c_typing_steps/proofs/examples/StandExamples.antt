@@ -1,7 +1,7 @@
 -- Examples: what steps lead to, and which names stand in the function of the samples and where nothing is declared.
 use Rattle.std.proofs.Common.{◌≡◌, ℕ, ◌≤◌, Bool, false, List, [], ◌∷◌, length, refl, arith}
 use Rattle.std.specs.Prelude.{codes, Some}
-use Rattle.c_ast.specs.Trees.{Variable}
+use Rattle.c_ast.specs.Trees.{Name}
 use Rattle.c_types.specs.CType.{CType, Char, Int, basic}
 use Rattle.c_meaning.specs.declared.core_expr.CoreKind.TheVariants as kind
 use Rattle.c_meaning.specs.CoreTrees.{Core, none, one}
@@ -44,12 +44,12 @@ not_forgotten_inside f = let l : length sample.symbols ≤ 0 = (inside_keeps f).
 -- ---- names
 
 -- `x` is a local object of the function
-x_typed : Types sample (Variable 1 (codes "x")) sample (row sample 1 (node.Name (codes "x")))
+x_typed : Types sample (Name 1 (codes "x")) sample (row sample 1 (node.Name (codes "x")))
 unfolding fault_at
 x_typed = (refl, (refl, refl))
 
 x_stands : EachName (StandsFor sample sample) (Core (kind.Local 0 false) (basic Int) 1 none)
-x_stands = expr_names sample (Variable 1 (codes "x")) sample (row sample 1 (node.Name (codes "x"))) refl x_typed
+x_stands = expr_names sample (Name 1 (codes "x")) sample (row sample 1 (node.Name (codes "x"))) refl x_typed
 
 -- a name stands for no local object where nothing is declared
 no_local_there : (place : ℕ) (register : Bool) (of : CType) → Stands nothing nothing (kind.Local place register) of → ⊥

@@ -1,7 +1,8 @@
 -- Each name in a typed expression stands for what the declaration in force says where it stands.
 use Rattle.std.proofs.Common.{◌≡◌, ℕ, List, [], ◌∷◌, ◌++◌, length, refl, subst}
 use Rattle.std.specs.Prelude.{false, Option, Some, None, IfSome, ℤ, pos, is_none}
-use Rattle.c_ast.specs.Trees.{ExprTree, Variable, IntegerConstant, CharacterConstant, Literal, Enclosed, Subscript, Called, Selected, Stepped, Prefixed, SizedExpr, SizedType, Converted, Combined, Chosen, Assigned, Sequence, ExprTrees, NoExprs, Exprs, MaybeExpr, NoExpr, AnExpr}
+use Rattle.c_ast.specs.Trees.{ExprTree, Name, Integer, Character, Text, Enclosed, Index, Member, Postfix, Prefix, SizeofExpr, SizeofType, Cast, Binary, Conditional, Assign, Comma, ExprTrees, NoExprs, Exprs, MaybeExpr, NoExpr, AnExpr}
+use Rattle.c_ast.specs.Trees as tree
 use Rattle.c_symbols.specs.declared.symbol.Storage.{Storage}
 use Rattle.c_symbols.specs.declared.symbol.Storage.TheVariants as storage
 use Rattle.c_symbols.specs.Scoping.{found, or_else, symbol_named}
@@ -112,35 +113,35 @@ named_callee s l x types u c n g h = by (place_of s x) refl h
     by (Some id) e h = g h
 
 callee_names : (s : State) (f : ExprTree) (u : State) (c : CoreTree) → ExprNames f → (Types s f u c → EachName (StandsFor s u) c) → TypesCallee s f (Types s f) u c → EachName (StandsFor s u) c
-callee_names s (Variable l x) u c n g h = named_callee s l x (Types s (Variable l x)) u c n g h
+callee_names s (Name l x) u c n g h = named_callee s l x (Types s (Name l x)) u c n g h
 callee_names s f u c n g h = g h
 
 mutual
   pub expr_names : (s : State) (e : ExprTree) (u : State) (c : CoreTree) → ExprNames e → Types s e u c → EachName (StandsFor s u) c
-  expr_names s (Variable l x) u c n h = ends s s u l (node.Name x) c (meant_stands s x l (place_of s x) n refl) h
-  expr_names s (IntegerConstant l v k) u c n h = ends s s u l (node.Integer v k) c tt h
-  expr_names s (CharacterConstant l z) u c n h = ends s s u l (node.Character z) c tt h
-  expr_names s (Literal l texts) u c n h = ends s s u l (node.Text texts) c (refl, tt) h
+  expr_names s (Name l x) u c n h = ends s s u l (node.Name x) c (meant_stands s x l (place_of s x) n refl) h
+  expr_names s (Integer l v k) u c n h = ends s s u l (node.Integer v k) c tt h
+  expr_names s (Character l z) u c n h = ends s s u l (node.Character z) c tt h
+  expr_names s (Text l texts) u c n h = ends s s u l (node.Text texts) c (refl, tt) h
   expr_names s (Enclosed l e) u c n h = expr_names s e u c n h
-  expr_names s (Subscript l a i) u c n h =
-      ends s h.3.0 u l (node.Subscript h.1 h.3.1) c
+  expr_names s (Index l a i) u c n h =
+      ends s h.3.0 u l (node.Index h.1 h.3.1) c
       (onward s h.0 h.3.0 h.1 (expr_steps h.0 i h.3.0 h.3.1 n.1 h.3.2) (expr_names s a h.0 h.1 n.0 h.2), back s h.0 h.3.0 h.3.1 (expr_steps s a h.0 h.1 n.0 h.2) (expr_names h.0 i h.3.0 h.3.1 n.1 h.3.2)) h.3.3
-  expr_names s (Called l f es) u c n h =
+  expr_names s (tree.Call l f es) u c n h =
       ends s h.3.0 u l (node.Call h.1 h.3.1) c (
         onward s h.0 h.3.0 h.1 (all_steps h.0 es h.3.0 h.3.1 n.1 h.3.2) (callee_names s f h.0 h.1 n.0 (expr_names s f h.0 h.1 n.0) h.2),
         all_between s h.0 h.3.0 h.3.0 h.3.1 (callee_steps s f h.0 h.1 n.0 (expr_steps s f h.0 h.1 n.0) h.2) Stay (all_names h.0 es h.3.0 h.3.1 n.1 h.3.2),
       ) h.3.3
-  expr_names s (Selected l op a x) u c n h = ends s h.0 u l (node.Select op h.1 x) c (expr_names s a h.0 h.1 n h.2) h.3
-  expr_names s (Stepped l op a) u c n h = ends s h.0 u l (node.Postfix op h.1) c (expr_names s a h.0 h.1 n h.2) h.3
-  expr_names s (Prefixed l op a) u c n h = ends s h.0 u l (node.Prefix op h.1) c (expr_names s a h.0 h.1 n h.2) h.3
-  expr_names s (SizedExpr l a) u c n h = ends s h.0 u l (node.SizeofExpr h.1) c tt h.3
-  expr_names s (SizedType l t) u c n h = ends s h.0 u l (node.SizeofType h.1) c tt h.3
-  expr_names s (Converted l t a) u c n h =
+  expr_names s (Member l op a x) u c n h = ends s h.0 u l (node.Member op h.1 x) c (expr_names s a h.0 h.1 n h.2) h.3
+  expr_names s (Postfix l op a) u c n h = ends s h.0 u l (node.Postfix op h.1) c (expr_names s a h.0 h.1 n h.2) h.3
+  expr_names s (Prefix l op a) u c n h = ends s h.0 u l (node.Prefix op h.1) c (expr_names s a h.0 h.1 n h.2) h.3
+  expr_names s (SizeofExpr l a) u c n h = ends s h.0 u l (node.SizeofExpr h.1) c tt h.3
+  expr_names s (SizeofType l t) u c n h = ends s h.0 u l (node.SizeofType h.1) c tt h.3
+  expr_names s (Cast l t a) u c n h =
       ends s h.3.0 u l (node.Cast h.1 h.3.1) c (back s h.0 h.3.0 h.3.1 (type_steps s t h.0 h.1 n.0 h.2) (expr_names h.0 a h.3.0 h.3.1 n.1 h.3.2)) h.3.3
-  expr_names s (Combined l op a b) u c n h =
+  expr_names s (Binary l op a b) u c n h =
       ends s h.3.0 u l (node.Binary op h.1 h.3.1) c
       (onward s h.0 h.3.0 h.1 (expr_steps h.0 b h.3.0 h.3.1 n.1 h.3.2) (expr_names s a h.0 h.1 n.0 h.2), back s h.0 h.3.0 h.3.1 (expr_steps s a h.0 h.1 n.0 h.2) (expr_names h.0 b h.3.0 h.3.1 n.1 h.3.2)) h.3.3
-  expr_names s (Chosen l a b d) u c n h =
+  expr_names s (Conditional l a b d) u c n h =
       let f = expr_steps s a h.0 h.1 n.0 h.2 in
       let g = expr_steps h.0 b h.3.0 h.3.1 n.1.0 h.3.2 in
       let k = expr_steps h.3.0 d h.3.3.0 h.3.3.1 n.1.1 h.3.3.2 in
@@ -148,10 +149,10 @@ mutual
         onward s h.0 h.3.3.0 h.1 (Go g k) (expr_names s a h.0 h.1 n.0 h.2),
         (each_between s h.0 h.3.0 h.3.3.0 h.3.1 f k (expr_names h.0 b h.3.0 h.3.1 n.1.0 h.3.2), back s h.3.0 h.3.3.0 h.3.3.1 (Go f g) (expr_names h.3.0 d h.3.3.0 h.3.3.1 n.1.1 h.3.3.2)),
       ) h.3.3.3
-  expr_names s (Assigned l op a b) u c n h =
+  expr_names s (Assign l op a b) u c n h =
       ends s h.3.0 u l (node.Assign op h.1 h.3.1) c
       (onward s h.0 h.3.0 h.1 (expr_steps h.0 b h.3.0 h.3.1 n.1 h.3.2) (expr_names s a h.0 h.1 n.0 h.2), back s h.0 h.3.0 h.3.1 (expr_steps s a h.0 h.1 n.0 h.2) (expr_names h.0 b h.3.0 h.3.1 n.1 h.3.2)) h.3.3
-  expr_names s (Sequence l es) u c n h = ends s h.0 u l (node.Comma h.1) c (all_names s es h.0 h.1 n h.2) h.3
+  expr_names s (Comma l es) u c n h = ends s h.0 u l (node.Comma h.1) c (all_names s es h.0 h.1 n h.2) h.3
 
   pub all_names : (s : State) (es : ExprTrees) (u : State) (cs : CoreTrees) → AllNames es → TypesAll s es u cs → EachNameOf (StandsFor s u) cs
   all_names s NoExprs u cs n h = subst (EachNameOf (StandsFor s u)) h.1 tt

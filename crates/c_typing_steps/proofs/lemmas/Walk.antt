@@ -1,7 +1,7 @@
 -- What is known behind each part of an expression or a type comes by steps from what was known before it.
 use Rattle.std.proofs.Common.{◌≡◌, ℕ, ◌+◌, ◌+ℤ◌, Bool, false, List, [], ◌∷◌, ◌++◌, refl, subst}
 use Rattle.std.specs.Prelude.{Option, Some, None, IfSome, ℤ, pos, is_none, is_some}
-use Rattle.c_ast.specs.Trees.{ExprTree, Variable, IntegerConstant, CharacterConstant, Literal, Enclosed, Subscript, Called, Selected, Stepped, Prefixed, SizedExpr, SizedType, Converted, Combined, Chosen, Assigned, Sequence, ExprTrees, NoExprs, Exprs, MaybeExpr, NoExpr, AnExpr, TypeNameTree, TypeNamed, SpecifiersTree, SpecifierTree, SpecifierTrees, NoSpecifiers, Specifiers, MemberTree, Members, MemberTrees, NoMembers, MoreMembers, FieldTree, Field, FieldTrees, NoFields, Fields, EnumeratorTree, Enumerator, EnumeratorTrees, NoEnumerators, Enumerators, DeclaratorTree, Declarator, MaybeDeclarator, NoDeclarator, ADeclarator, CoreTree, Named, Inner, Omitted, SuffixTree, ArraySuffix, Prototype, NameList, NoParameters, SuffixTrees, NoSuffixes, Suffixes, ParameterTree, Parameter, ParameterTrees, NoParameter, Parameters}
+use Rattle.c_ast.specs.Trees.{ExprTree, Name, Integer, Character, Text, Enclosed, Index, Member, Postfix, Prefix, SizeofExpr, SizeofType, Cast, Binary, Conditional, Assign, Comma, ExprTrees, NoExprs, Exprs, MaybeExpr, NoExpr, AnExpr, TypeNameTree, TypeNamed, SpecifiersTree, SpecifierTree, SpecifierTrees, NoSpecifiers, Specifiers, MemberTree, Members, MemberTrees, NoMembers, MoreMembers, FieldTree, Field, FieldTrees, NoFields, Fields, EnumeratorTree, Enumerator, EnumeratorTrees, NoEnumerators, Enumerators, DeclaratorTree, Declarator, MaybeDeclarator, NoDeclarator, ADeclarator, CoreTree, Named, Inner, Omitted, SuffixTree, ArraySuffix, Prototype, NameList, NoParameters, SuffixTrees, NoSuffixes, Suffixes, ParameterTree, Parameter, ParameterTrees, NoParameter, Parameters}
 use Rattle.c_ast.specs.Trees as tree
 use Rattle.c_symbols.specs.Scoping.{symbol_named}
 use Rattle.c_types.specs.CType.{CType}
@@ -74,29 +74,29 @@ named_callee s l x types u c n g h = by (place_of s x) refl h
     by (Some id) e h = g h
 
 pub callee_steps : (s : State) (f : ExprTree) (u : State) (c : values.CoreTree) → ExprNames f → (Types s f u c → Steps s u) → TypesCallee s f (Types s f) u c → Steps s u
-callee_steps s (Variable l x) u c n g h = named_callee s l x (Types s (Variable l x)) u c n g h
+callee_steps s (Name l x) u c n g h = named_callee s l x (Types s (Name l x)) u c n g h
 callee_steps s f u c n g h = g h
 
 mutual
   pub expr_steps : (s : State) (e : ExprTree) (u : State) (c : values.CoreTree) → ExprNames e → Types s e u c → Steps s u
-  expr_steps s (Variable l x) u c n h = stay h.1.0
-  expr_steps s (IntegerConstant l v k) u c n h = stay h.1.0
-  expr_steps s (CharacterConstant l z) u c n h = stay h.1.0
-  expr_steps s (Literal l texts) u c n h = stay h.1.0
+  expr_steps s (Name l x) u c n h = stay h.1.0
+  expr_steps s (Integer l v k) u c n h = stay h.1.0
+  expr_steps s (Character l z) u c n h = stay h.1.0
+  expr_steps s (Text l texts) u c n h = stay h.1.0
   expr_steps s (Enclosed l e) u c n h = expr_steps s e u c n h
-  expr_steps s (Subscript l a i) u c n h = Go (expr_steps s a h.0 h.1 n.0 h.2) (to (expr_steps h.0 i h.3.0 h.3.1 n.1 h.3.2) h.3.3.1.0)
-  expr_steps s (Called l f es) u c n h = Go (callee_steps s f h.0 h.1 n.0 (expr_steps s f h.0 h.1 n.0) h.2) (to (all_steps h.0 es h.3.0 h.3.1 n.1 h.3.2) h.3.3.1.0)
-  expr_steps s (Selected l op a x) u c n h = to (expr_steps s a h.0 h.1 n h.2) h.3.1.0
-  expr_steps s (Stepped l op a) u c n h = to (expr_steps s a h.0 h.1 n h.2) h.3.1.0
-  expr_steps s (Prefixed l op a) u c n h = to (expr_steps s a h.0 h.1 n h.2) h.3.1.0
-  expr_steps s (SizedExpr l a) u c n h = to (expr_steps s a h.0 h.1 n h.2) h.3.1.0
-  expr_steps s (SizedType l t) u c n h = to (type_steps s t h.0 h.1 n h.2) h.3.1.0
-  expr_steps s (Converted l t a) u c n h = Go (type_steps s t h.0 h.1 n.0 h.2) (to (expr_steps h.0 a h.3.0 h.3.1 n.1 h.3.2) h.3.3.1.0)
-  expr_steps s (Combined l op a b) u c n h = Go (expr_steps s a h.0 h.1 n.0 h.2) (to (expr_steps h.0 b h.3.0 h.3.1 n.1 h.3.2) h.3.3.1.0)
-  expr_steps s (Chosen l a b d) u c n h =
+  expr_steps s (Index l a i) u c n h = Go (expr_steps s a h.0 h.1 n.0 h.2) (to (expr_steps h.0 i h.3.0 h.3.1 n.1 h.3.2) h.3.3.1.0)
+  expr_steps s (tree.Call l f es) u c n h = Go (callee_steps s f h.0 h.1 n.0 (expr_steps s f h.0 h.1 n.0) h.2) (to (all_steps h.0 es h.3.0 h.3.1 n.1 h.3.2) h.3.3.1.0)
+  expr_steps s (Member l op a x) u c n h = to (expr_steps s a h.0 h.1 n h.2) h.3.1.0
+  expr_steps s (Postfix l op a) u c n h = to (expr_steps s a h.0 h.1 n h.2) h.3.1.0
+  expr_steps s (Prefix l op a) u c n h = to (expr_steps s a h.0 h.1 n h.2) h.3.1.0
+  expr_steps s (SizeofExpr l a) u c n h = to (expr_steps s a h.0 h.1 n h.2) h.3.1.0
+  expr_steps s (SizeofType l t) u c n h = to (type_steps s t h.0 h.1 n h.2) h.3.1.0
+  expr_steps s (Cast l t a) u c n h = Go (type_steps s t h.0 h.1 n.0 h.2) (to (expr_steps h.0 a h.3.0 h.3.1 n.1 h.3.2) h.3.3.1.0)
+  expr_steps s (Binary l op a b) u c n h = Go (expr_steps s a h.0 h.1 n.0 h.2) (to (expr_steps h.0 b h.3.0 h.3.1 n.1 h.3.2) h.3.3.1.0)
+  expr_steps s (Conditional l a b d) u c n h =
       Go (expr_steps s a h.0 h.1 n.0 h.2) (Go (expr_steps h.0 b h.3.0 h.3.1 n.1.0 h.3.2) (to (expr_steps h.3.0 d h.3.3.0 h.3.3.1 n.1.1 h.3.3.2) h.3.3.3.1.0))
-  expr_steps s (Assigned l op a b) u c n h = Go (expr_steps s a h.0 h.1 n.0 h.2) (to (expr_steps h.0 b h.3.0 h.3.1 n.1 h.3.2) h.3.3.1.0)
-  expr_steps s (Sequence l es) u c n h = to (all_steps s es h.0 h.1 n h.2) h.3.1.0
+  expr_steps s (Assign l op a b) u c n h = Go (expr_steps s a h.0 h.1 n.0 h.2) (to (expr_steps h.0 b h.3.0 h.3.1 n.1 h.3.2) h.3.3.1.0)
+  expr_steps s (Comma l es) u c n h = to (all_steps s es h.0 h.1 n h.2) h.3.1.0
 
   pub all_steps : (s : State) (es : ExprTrees) (u : State) (cs : CoreTrees) → AllNames es → TypesAll s es u cs → Steps s u
   all_steps s NoExprs u cs n h = stay h.0
@@ -128,8 +128,8 @@ mutual
   part_steps s (tree.Basic l word) u q n h = stay h.0
   part_steps s (tree.NamedType l x) u q n h = stay h.0
   part_steps s (tree.RecordTag l k tag) u q n h = to (Tag s l tag (record_type k s.count)) h.1.0
-  part_steps s (tree.EnumerationTag l tag) u q n h = to (Tag s l tag (enumeration_type s.count)) h.1.0
-  part_steps s (tree.Enumeration l tag es comma) u q n h =
+  part_steps s (tree.EnumTag l tag) u q n h = to (Tag s l tag (enumeration_type s.count)) h.1.0
+  part_steps s (tree.Enum l tag es comma) u q n h =
       Go (Await s l tag) (Go (enumerators_steps (awaited s l tag) (pos 0) es h.0 h.1 n h.2) (to (Enumerate h.0 l tag) h.3.1.0))
   part_steps s (tree.Record l k tag ms) u q n h =
       Go (Open s l k tag) (Go (members_steps (opened s l k tag).state [] ms h.0 h.1 n h.2) (to (Complete h.0 k (number_of (opened s l k tag).of) h.1) h.3.1.0))

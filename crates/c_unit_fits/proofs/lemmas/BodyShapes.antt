@@ -3,7 +3,7 @@ use Rattle.std.proofs.Common.{◌≡◌, ℕ, suc, ◌+◌, ◌<◌, ◌≤◌, 
 use Rattle.std.specs.Prelude.{Some, is_some, if◌then◌else◌}
 use Rattle.std.specs.List.{range_with_len}
 use Rattle.std.specs.Str.{bytes_eq}
-use Rattle.c_ast.specs.Trees.{StatementTree, Labelled, Case, Default, Compound, If, IfElse, Switch, While, Do, For, StatementTrees, NoStatements, Statements, BlockTree, Block}
+use Rattle.c_ast.specs.Trees.{StatementTree, Label, Case, Default, Compound, If, IfElse, Switch, While, Do, For, StatementTrees, NoStatements, Statements, BlockTree, Block}
 use Rattle.c_symbols.specs.Scoping.{symbol_named}
 use Rattle.c_types.specs.CType.{CType}
 use Rattle.c_types.specs.Table.{AreBelow}
@@ -38,7 +38,7 @@ in_more low high less more (x ∷ xs) l k h = ((let p = h.0.0 in omega (arith, p
 
 mutual
   labels_in : (n : ℕ) (s : StatementTree) → AreIn n (n + marks s) (labels n s)
-  labels_in n (Labelled l name s) = ((omega arith, omega arith), in_more (suc n) (suc n + marks s) n (n + suc (marks s)) (labels (suc n) s) (omega arith) (omega arith) (labels_in (suc n) s))
+  labels_in n (Label l name s) = ((omega arith, omega arith), in_more (suc n) (suc n + marks s) n (n + suc (marks s)) (labels (suc n) s) (omega arith) (omega arith) (labels_in (suc n) s))
   labels_in n (Case l e s) = in_more (suc n) (suc n + marks s) n (n + suc (marks s)) (labels (suc n) s) (omega arith) (omega arith) (labels_in (suc n) s)
   labels_in n (Default l s) = in_more (suc n) (suc n + marks s) n (n + suc (marks s)) (labels (suc n) s) (omega arith) (omega arith) (labels_in (suc n) s)
   labels_in n (Compound l b) = block_labels_in n b

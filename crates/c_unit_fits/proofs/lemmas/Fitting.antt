@@ -2,7 +2,7 @@
 use Rattle.std.proofs.Common.{◌≡◌, ℕ, Bool, true, false, List, [], ◌∷◌, ◌++◌, ap, subst, ◌∙◌}
 use Rattle.std.specs.Prelude.{Option, Some, None}
 use Rattle.c_ast.specs.Levels.{FitsBlock, FitsDeclarations, FitsMaybe, FitsStatement, FitsStatements, Parts}
-use Rattle.c_ast.specs.Trees.{ExprTree, MaybeExpr, NoExpr, AnExpr, DeclarationTree, StatementTree, Labelled, Case, Default, Evaluate, Compound, If, IfElse, Switch, While, Do, For, Goto, Continue, Break, Return, StatementTrees, NoStatements, Statements, BlockTree, Block}
+use Rattle.c_ast.specs.Trees.{ExprTree, MaybeExpr, NoExpr, AnExpr, DeclarationTree, StatementTree, Label, Case, Default, Expression, Compound, If, IfElse, Switch, While, Do, For, Goto, Continue, Break, Return, StatementTrees, NoStatements, Statements, BlockTree, Block}
 use Rattle.c_types.specs.CType.{CType}
 use Rattle.c_types.specs.Conversions.{is_integer}
 use Rattle.c_types.specs.Layout.{Tag}
@@ -119,7 +119,7 @@ left_leads s t h f = record { sound = left_sound s t h f.sound f.symbols; count 
 
 mutual
   pub stmt_fits : {ps : List CType} (f : Within) (a : Around) (s : State) (b : Body) (st : StatementTree) (u : State) (t : Typed (StmtOf CType)) → TypesStmt f a s b st u t → IsSound s → FitsStatement st → BodyFits s.tags ps b → StmtFits f.result ps s u t
-  stmt_fits f a s b (Labelled l name st) u t h k g w =
+  stmt_fits f a s b (Label l name st) u t h k g w =
       let i = stmt_fits f a s (marked b) st h.0 h.1 h.2 k g (marked_fits s.tags b w) in
       fits_at f.result s h.0 u _ t h.3.1.0 h.3.1.1 (record { leads = i.leads; code = i.code; body = i.body })
   stmt_fits f a s b (Case l e st) u t h k g w =
@@ -129,8 +129,8 @@ mutual
   stmt_fits f a s b (Default l st) u t h k g w =
       let i = stmt_fits f a s (with_default a b) st h.0 h.1 h.2 k g (stands_fits s.tags a b _ _ w) in
       fits_at f.result s h.0 u _ t h.3.1.0 h.3.1.1 (record { leads = i.leads; code = i.code; body = i.body })
-  stmt_fits f a s b (Evaluate l NoExpr) u t h k g w = fits_at f.result s s u _ t h.0 h.1 (record { leads = same_leads s k; code = tt; body = w })
-  stmt_fits f a s b (Evaluate l (AnExpr e)) u t h k g w =
+  stmt_fits f a s b (Expression l NoExpr) u t h k g w = fits_at f.result s s u _ t h.0 h.1 (record { leads = same_leads s k; code = tt; body = w })
+  stmt_fits f a s b (Expression l (AnExpr e)) u t h k g w =
       let p = expr_has s e h.0 h.1 h.2 g.1 k in
       fits_at f.result s h.0 u _ t h.3.1.0 h.3.1.1 (record { leads = p.0; code = value_is h.0.tags h.1 p.1; body = body_stays s.tags h.0.tags p.0.tags b w })
   stmt_fits f a s b (Compound l block) u t h k g w =

@@ -2,7 +2,7 @@
 use Rattle.std.proofs.Common.{◌≡◌, ℕ, ◌+◌, ◌<◌, ◌≤◌, Bool, true, false, List, [], ◌∷◌, ◌++◌, refl, sym, subst, arith}
 use Rattle.std.specs.Prelude.{IfSome, Option, Some, None}
 use Rattle.std.specs.List.{range_with_len}
-use Rattle.c_ast.specs.Trees.{NoExpr, AnExpr, StatementTree, Labelled, Case, Default, Evaluate, Compound, If, IfElse, Switch, While, Do, For, Goto, Continue, Break, Return, StatementTrees, NoStatements, Statements, BlockTree, Block}
+use Rattle.c_ast.specs.Trees.{NoExpr, AnExpr, StatementTree, Label, Case, Default, Expression, Compound, If, IfElse, Switch, While, Do, For, Goto, Continue, Break, Return, StatementTrees, NoStatements, Statements, BlockTree, Block}
 use Rattle.c_types.specs.CType.{CType}
 use Rattle.c_meaning.specs.declared.core_stmt.CoreCase.{CoreCase}
 use Rattle.c_meaning.specs.State.{State, entered}
@@ -121,11 +121,11 @@ again_marked low b c h l =
 
 mutual
   pub stmt_marked : (f : Within) (a : Around) (s : State) (b : Body) (st : StatementTree) (u : State) (t : Typed (StmtOf CType)) → TypesStmt f a s b st u t → (low : ℕ) → Marked low b → Marked low t.body
-  stmt_marked f a s b (Labelled l name st) u t h low k = subst (λ (t : Typed (StmtOf CType)). Marked low t.body) h.3.1.1 (stmt_marked f a s (marked b) st h.0 h.1 h.2 low (marked_marked low b k))
+  stmt_marked f a s b (Label l name st) u t h low k = subst (λ (t : Typed (StmtOf CType)). Marked low t.body) h.3.1.1 (stmt_marked f a s (marked b) st h.0 h.1 h.2 low (marked_marked low b k))
   stmt_marked f a s b (Case l e st) u t h low k = subst (λ (t : Typed (StmtOf CType)). Marked low t.body) h.3.3.1.1 (stmt_marked f a h.0 (with_case a b h.1) st h.3.0 h.3.1 h.3.2 low (case_marked low a b h.1 k))
   stmt_marked f a s b (Default l st) u t h low k = subst (λ (t : Typed (StmtOf CType)). Marked low t.body) h.3.1.1 (stmt_marked f a s (with_default a b) st h.0 h.1 h.2 low (default_marked low a b k))
-  stmt_marked f a s b (Evaluate l NoExpr) u t h low k = subst (λ (t : Typed (StmtOf CType)). Marked low t.body) h.1 k
-  stmt_marked f a s b (Evaluate l (AnExpr e)) u t h low k = subst (λ (t : Typed (StmtOf CType)). Marked low t.body) h.3.1.1 k
+  stmt_marked f a s b (Expression l NoExpr) u t h low k = subst (λ (t : Typed (StmtOf CType)). Marked low t.body) h.1 k
+  stmt_marked f a s b (Expression l (AnExpr e)) u t h low k = subst (λ (t : Typed (StmtOf CType)). Marked low t.body) h.3.1.1 k
   stmt_marked f a s b (Compound l block) u t h low k = subst (λ (t : Typed (StmtOf CType)). Marked low t.body) h.3.1 (block_marked f a (entered s) b block h.0 h.1 h.2 low k)
   stmt_marked f a s b (If l e st) u t h low k = subst (λ (t : Typed (StmtOf CType)). Marked low t.body) h.3.3.1.1 (stmt_marked f a h.0 b st h.3.0 h.3.1 h.3.2 low k)
   stmt_marked f a s b (IfElse l e st su) u t h low k =

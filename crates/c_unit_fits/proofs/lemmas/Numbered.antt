@@ -4,7 +4,7 @@ use Rattle.std.proofs.Common.{◌≡◌, ℕ, suc, ◌+◌, Bool, true, false, �
 use Rattle.std.specs.Prelude.{◌==◌, Option, None}
 use Rattle.std.specs.List.{range_with_len}
 use Rattle.std.proofs.lemmas.List.{length-append}
-use Rattle.c_ast.specs.Trees.{NoExpr, AnExpr, StatementTree, Labelled, Case, Default, Evaluate, Compound, If, IfElse, Switch, While, Do, For, Goto, Continue, Break, Return, StatementTrees, NoStatements, Statements, BlockTree, Block}
+use Rattle.c_ast.specs.Trees.{NoExpr, AnExpr, StatementTree, Label, Case, Default, Expression, Compound, If, IfElse, Switch, While, Do, For, Goto, Continue, Break, Return, StatementTrees, NoStatements, Statements, BlockTree, Block}
 use Rattle.c_types.specs.CType.{CType}
 use Rattle.c_meaning.specs.BlockLocals.{declared_in, all_declared_in, are_next, all_are_next}
 use Rattle.c_meaning.specs.Declarations.{Declares}
@@ -126,7 +126,7 @@ block_numbered b what n t f h =
 
 mutual
   pub stmt_numbered : (f : Within) (a : Around) (s : State) (b : Body) (st : StatementTree) (u : State) (t : Typed (StmtOf CType)) → TypesStmt f a s b st u t → IsNumbered b (marks st) t
-  stmt_numbered f a s b (Labelled l name st) u t h =
+  stmt_numbered f a s b (Label l name st) u t h =
       subst (IsNumbered b (suc (marks st))) h.3.1.1 (with_label b (marked b) (marks st) h.1 refl refl refl (stmt_numbered f a s (marked b) st h.0 h.1 h.2))
   stmt_numbered f a s b (Case l e st) u t h =
       let i = stmt_numbered f a h.0 (with_case a b h.1) st h.3.0 h.3.1 h.3.2 in
@@ -134,8 +134,8 @@ mutual
   stmt_numbered f a s b (Default l st) u t h =
       let i = stmt_numbered f a s (with_default a b) st h.0 h.1 h.2 in
       subst (IsNumbered b (suc (marks st))) h.3.1.1 (with_label b (with_default a b) (marks st) h.1 (stands_marks a b _ _) (stands_locals a b _ _) (stands_lost a b _ _) i)
-  stmt_numbered f a s b (Evaluate l NoExpr) u t h = subst (IsNumbered b 0) h.1 (unmarked b)
-  stmt_numbered f a s b (Evaluate l (AnExpr e)) u t h = subst (IsNumbered b 0) h.3.1.1 (unmarked b)
+  stmt_numbered f a s b (Expression l NoExpr) u t h = subst (IsNumbered b 0) h.1 (unmarked b)
+  stmt_numbered f a s b (Expression l (AnExpr e)) u t h = subst (IsNumbered b 0) h.3.1.1 (unmarked b)
   stmt_numbered f a s b (Compound l block) u t h = subst (IsNumbered b (block_marks block)) h.3.1 (block_is_numbered f a (entered s) b block h.0 h.1 h.2)
   stmt_numbered f a s b (If l e st) u t h =
       let i = stmt_numbered f a h.0 b st h.3.0 h.3.1 h.3.2 in

@@ -2,7 +2,7 @@
 use Rattle.std.proofs.Common.{◌≡◌, ℕ, ◌≤◌, true, false, List, [], ◌∷◌, length, refl, subst, arith}
 use Rattle.std.specs.Prelude.{Option, Some, None, is_none}
 use Rattle.std.proofs.lemmas.List.{length-append}
-use Rattle.c_ast.specs.Trees.{NoExpr, AnExpr, StatementTree, Labelled, Case, Default, Evaluate, Compound, If, IfElse, Switch, While, Do, For, Goto, Continue, Break, Return, StatementTrees, NoStatements, Statements, BlockTree, Block}
+use Rattle.c_ast.specs.Trees.{NoExpr, AnExpr, StatementTree, Label, Case, Default, Expression, Compound, If, IfElse, Switch, While, Do, For, Goto, Continue, Break, Return, StatementTrees, NoStatements, Statements, BlockTree, Block}
 use Rattle.c_symbols.specs.Scoping.{symbol_named}
 use Rattle.c_types.specs.CType.{CType}
 use Rattle.c_meaning.specs.Declarations.{or_zero}
@@ -34,14 +34,14 @@ fills_shaped n ns (f ∷ fs) ss h k = absurd h.0
 
 mutual
   pub stmt_shaped : (f : Within) (a : Around) (s : State) (b : Body) (st : StatementTree) (u : State) (t : Typed (StmtOf CType)) → TypesStmt f a s b st u t → (n : ℕ) (ns : List ℕ) → AreFound f ns → length t.body.locals ≤ n → t.body.lost ≡ false → IsShaped n ns t.code
-  stmt_shaped f a s b (Labelled l name st) u t h n ns g k e =
+  stmt_shaped f a s b (Label l name st) u t h n ns g k e =
       subst (λ (t : Typed (StmtOf CType)). length t.body.locals ≤ n → t.body.lost ≡ false → IsShaped n ns t.code) h.3.1.1 (stmt_shaped f a s (marked b) st h.0 h.1 h.2 n ns g) k e
   stmt_shaped f a s b (Case l x st) u t h n ns g k e =
       subst (λ (t : Typed (StmtOf CType)). length t.body.locals ≤ n → t.body.lost ≡ false → IsShaped n ns t.code) h.3.3.1.1 (stmt_shaped f a h.0 (with_case a b h.1) st h.3.0 h.3.1 h.3.2 n ns g) k e
   stmt_shaped f a s b (Default l st) u t h n ns g k e =
       subst (λ (t : Typed (StmtOf CType)). length t.body.locals ≤ n → t.body.lost ≡ false → IsShaped n ns t.code) h.3.1.1 (stmt_shaped f a s (with_default a b) st h.0 h.1 h.2 n ns g) k e
-  stmt_shaped f a s b (Evaluate l NoExpr) u t h n ns g k e = subst (λ (t : Typed (StmtOf CType)). IsShaped n ns t.code) h.1 tt
-  stmt_shaped f a s b (Evaluate l (AnExpr x)) u t h n ns g k e = subst (λ (t : Typed (StmtOf CType)). IsShaped n ns t.code) h.3.1.1 tt
+  stmt_shaped f a s b (Expression l NoExpr) u t h n ns g k e = subst (λ (t : Typed (StmtOf CType)). IsShaped n ns t.code) h.1 tt
+  stmt_shaped f a s b (Expression l (AnExpr x)) u t h n ns g k e = subst (λ (t : Typed (StmtOf CType)). IsShaped n ns t.code) h.3.1.1 tt
   stmt_shaped f a s b (Compound l block) u t h n ns g k e =
       subst (λ (t : Typed (StmtOf CType)). length t.body.locals ≤ n → t.body.lost ≡ false → IsShaped n ns t.code) h.3.1 (block_shaped f a (entered s) b block h.0 h.1 h.2 n ns g) k e
   stmt_shaped f a s b (If l x st) u t h n ns g k e =

@@ -3,7 +3,7 @@ use Rattle.std.specs.Prelude.{◌≡◌, refl, ℕ, codes, true, false, Option, 
 use Rattle.c_ast.specs.declared.specifier.Storage.TheVariants as class
 use Rattle.c_ast.specs.declared.specifier.BasicType.TheVariants as word
 use Rattle.c_ast.specs.declared.specifier.RecordKind.TheVariants as record_kind
-use Rattle.c_ast.specs.Trees.{ExprTree, Variable, Called, NoExprs, NoExpr, AnExpr, SizedExpr, SizedType, TypeNamed, Prototype, NameList, NoParameters, Parameter, NoDeclarator, SuffixTree, Basic, RecordTag, Enumeration, Enumerator, Enumerators, NoEnumerators, Declarator, Named, ArraySuffix, NoSuffixes, Suffixes, DeclarationTree}
+use Rattle.c_ast.specs.Trees.{ExprTree, Name, Call, NoExprs, NoExpr, AnExpr, SizeofExpr, SizeofType, TypeNamed, Prototype, NameList, NoParameters, Parameter, NoDeclarator, SuffixTree, Basic, RecordTag, Enum, Enumerator, Enumerators, NoEnumerators, Declarator, Named, ArraySuffix, NoSuffixes, Suffixes, DeclarationTree}
 use Rattle.c_meaning.specs.Constants.{fold}
 use Rattle.c_meaning.specs.Constraints.{Fault, Breaks, fault_at}
 use Rattle.c_meaning.specs.Declarations.{decl_fault}
@@ -78,7 +78,7 @@ sized e =
     (record { line = 1; declarator = Declarator 1 [] (Named (codes "b")) (Suffixes (ArraySuffix 1 (AnExpr e)) NoSuffixes); initialiser = None } ∷ []) ∷ []
 
 abbrev sized_by_call : List ℕ → List DeclarationTree
-sized_by_call name = sized (SizedExpr 1 (Called 1 (Variable 1 name) NoExprs))
+sized_by_call name = sized (SizeofExpr 1 (Call 1 (Name 1 name) NoExprs))
 
 -- int f(a, b) char b[sizeof a()]; {}: the call declares a function in the parameters' scope
 called_parameter : with (NameList 1 (a ∷ codes "b" ∷ [])) (sized_by_call a) ≡ Some (Breaks 5 1)
@@ -93,7 +93,7 @@ called_other = refl
 -- int f(a, b) char b[sizeof(enum { a })]; {}
 enumerated_parameter :
     with (NameList 1 (a ∷ codes "b" ∷ []))
-    (sized (SizedType 1 (TypeNamed 1 (specifiers 1 (Enumeration 1 None (Enumerators (Enumerator 1 a NoExpr) NoEnumerators) false ∷ [])) NoDeclarator)))
+    (sized (SizeofType 1 (TypeNamed 1 (specifiers 1 (Enum 1 None (Enumerators (Enumerator 1 a NoExpr) NoEnumerators) false ∷ [])) NoDeclarator)))
     ≡ Some (Breaks 5 1)
 unfolding fold fault_at init_fault decl_fault stmt_fault definition_fault parameter_fault unit_fault
 enumerated_parameter = refl

@@ -2,7 +2,7 @@
 use Rattle.std.specs.Prelude.{◌≡◌, true, false, refl, ℕ, codes, Option, Some, None, [], ◌∷◌, ◌++◌}
 use Rattle.c_ast.specs.declared.specifier.Storage.TheVariants as class
 use Rattle.c_ast.specs.declared.operator.BinaryOperator.TheVariants as binary
-use Rattle.c_ast.specs.Trees.{Variable, Combined, ByExpr, Evaluate, AnExpr, SizedExpr, NoParameters}
+use Rattle.c_ast.specs.Trees.{Name, Binary, ByExpr, Expression, AnExpr, SizeofExpr, NoParameters}
 use Rattle.c_meaning.specs.Constants.{fold}
 use Rattle.c_meaning.specs.Constraints.{Fault, Breaks, fault_at}
 use Rattle.c_meaning.specs.Declarations.{decl_fault}
@@ -34,7 +34,7 @@ abbrev past : ℕ → Option Fault
 past size =
     fault
     (declares 1 (of (with_class class.Extern) (open_array k))
-    ++ declares 2 (is (of_int ∷ []) (pointer (codes "p")) (ByExpr 2 (Combined 2 binary.Add (Variable 2 k) (number 3))))
+    ++ declares 2 (is (of_int ∷ []) (pointer (codes "p")) (ByExpr 2 (Binary 2 binary.Add (Name 2 k) (number 3))))
     ++ declares 3 (of (of_int ∷ []) (array k size))
     ++ main 4 [] ∷ [])
 
@@ -63,7 +63,7 @@ undefined_name : fault (declares 1 (of (with_class class.Extern) (name k)) ++ ma
 unfolding fold fault_at init_fault decl_fault stmt_fault definition_fault parameter_fault unit_fault
 undefined_name = refl
 
-unused_name : fault (declares 1 (of (with_class class.Extern) (name k)) ++ main 2 (Evaluate 3 (AnExpr (SizedExpr 3 (Variable 3 k))) ∷ []) ∷ []) ≡ None
+unused_name : fault (declares 1 (of (with_class class.Extern) (name k)) ++ main 2 (Expression 3 (AnExpr (SizeofExpr 3 (Name 3 k))) ∷ []) ∷ []) ≡ None
 unfolding fold fault_at init_fault decl_fault stmt_fault definition_fault parameter_fault unit_fault
 unused_name = refl
 

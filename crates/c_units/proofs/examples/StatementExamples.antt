@@ -1,7 +1,7 @@
 -- Examples of statements that break a constraint, each with the nearest that breaks none beside it.
 use Rattle.std.specs.Prelude.{◌≡◌, refl, ℕ, codes, Option, Some, None, List, [], ◌∷◌}
 use Rattle.c_ast.specs.declared.operator.PrefixOperator.TheVariants as prefix
-use Rattle.c_ast.specs.Trees.{ExprTree, Variable, Called, NoExprs, Prefixed, StatementTree, Labelled, Case, Default, Evaluate, If, Switch, While, Do, Goto, Continue, Break, Return, NoExpr, AnExpr, NoParameters}
+use Rattle.c_ast.specs.Trees.{ExprTree, Name, Call, NoExprs, Prefix, StatementTree, Label, Case, Default, Expression, If, Switch, While, Do, Goto, Continue, Break, Return, NoExpr, AnExpr, NoParameters}
 use Rattle.c_meaning.specs.Constants.{fold}
 use Rattle.c_meaning.specs.Constraints.{Fault, Breaks, fault_at}
 use Rattle.c_meaning.specs.Declarations.{decl_fault}
@@ -13,7 +13,7 @@ use Rattle.c_units.specs.Ends.{unit_fault}
 use Rattle.c_units.specs.UnitSamples.{number, void, function, main, fault}
 
 abbrev empty : ℕ → StatementTree
-empty line = Evaluate line NoExpr
+empty line = Expression line NoExpr
 
 -- `int main() { int x; ..`, the statement on line 2 or behind it
 abbrev in_main : List StatementTree → Option Fault
@@ -27,10 +27,10 @@ abbrev behind_void : List StatementTree → Option Fault
 behind_void ss = fault (function 1 (void ∷ []) (codes "f") (NoParameters 1) [] [] [] ∷ main 2 ss ∷ [])
 
 abbrev x : ExprTree
-x = Variable 2 (codes "x")
+x = Name 2 (codes "x")
 
 abbrev of_f : ExprTree
-of_f = Called 2 (Variable 2 (codes "f")) NoExprs
+of_f = Call 2 (Name 2 (codes "f")) NoExprs
 
 -- ---- 46 and 47: tests
 
@@ -45,12 +45,12 @@ unfolding fold fault_at init_fault decl_fault stmt_fault definition_fault parame
 scalar_test = refl
 
 -- switch (&x) ;
-pointer_switch : in_main (Switch 2 (Prefixed 2 prefix.Address x) (empty 2) ∷ []) ≡ Some (Breaks 47 2)
+pointer_switch : in_main (Switch 2 (Prefix 2 prefix.Address x) (empty 2) ∷ []) ≡ Some (Breaks 47 2)
 unfolding fold fault_at init_fault decl_fault stmt_fault definition_fault parameter_fault unit_fault
 pointer_switch = refl
 
 -- while (&x) ;
-pointer_test : in_main (While 2 (Prefixed 2 prefix.Address x) (empty 2) ∷ []) ≡ None
+pointer_test : in_main (While 2 (Prefix 2 prefix.Address x) (empty 2) ∷ []) ≡ None
 unfolding fold fault_at init_fault decl_fault stmt_fault definition_fault parameter_fault unit_fault
 pointer_test = refl
 
@@ -111,7 +111,7 @@ continue_in_a_loop = refl
 -- ---- 50: labels
 
 -- l: l: ;
-label_twice : in_main (Labelled 2 (codes "l") (Labelled 3 (codes "l") (empty 3)) ∷ []) ≡ Some (Breaks 50 3)
+label_twice : in_main (Label 2 (codes "l") (Label 3 (codes "l") (empty 3)) ∷ []) ≡ Some (Breaks 50 3)
 unfolding fold fault_at init_fault decl_fault stmt_fault definition_fault parameter_fault unit_fault
 label_twice = refl
 
@@ -121,7 +121,7 @@ unfolding fold fault_at init_fault decl_fault stmt_fault definition_fault parame
 goto_nowhere = refl
 
 -- goto l; l: ;
-goto_forwards : in_main (Goto 2 (codes "l") ∷ Labelled 3 (codes "l") (empty 3) ∷ []) ≡ None
+goto_forwards : in_main (Goto 2 (codes "l") ∷ Label 3 (codes "l") (empty 3) ∷ []) ≡ None
 unfolding fold fault_at init_fault decl_fault stmt_fault definition_fault parameter_fault unit_fault
 goto_forwards = refl
 
@@ -138,7 +138,7 @@ unfolding fold fault_at init_fault decl_fault stmt_fault definition_fault parame
 nothing_of_void = refl
 
 -- return &x; where int is given
-unfit_value : in_main (Return 2 (AnExpr (Prefixed 2 prefix.Address x)) ∷ []) ≡ Some (Breaks 51 2)
+unfit_value : in_main (Return 2 (AnExpr (Prefix 2 prefix.Address x)) ∷ []) ≡ Some (Breaks 51 2)
 unfolding fold fault_at init_fault decl_fault stmt_fault definition_fault parameter_fault unit_fault
 unfit_value = refl
 

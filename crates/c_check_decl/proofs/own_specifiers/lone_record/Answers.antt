@@ -25,9 +25,9 @@ returns-in-Storage-clause-none c =
           | inr h ↦ elim h [
             | inl x ↦ other (specifier_form.Record x.0 x.1 x.2) (λ line. tree.Record line x.0 x.1 (members_of (map member_seen x.2))) c.if-list-ne1.false x.3 (form_record x.0 x.1 x.2) (λ line. refl)
             | inr h ↦ elim h [
-              | inl x ↦ other (specifier_form.Enum x.0 x.1 x.2) (λ line. tree.Enumeration line x.0 (enumerators_of (map enumerator_seen x.1)) x.2) c.if-list-ne1.false x.3 (form_enum x.0 x.1 x.2) (λ line. refl)
+              | inl x ↦ other (specifier_form.Enum x.0 x.1 x.2) (λ line. tree.Enum line x.0 (enumerators_of (map enumerator_seen x.1)) x.2) c.if-list-ne1.false x.3 (form_enum x.0 x.1 x.2) (λ line. refl)
               | inr h ↦ elim h [
-                | inl x ↦ other (specifier_form.EnumTag x.0) (λ line. tree.EnumerationTag line x.0) c.if-list-ne1.false x.1 (form_enum_tag x.0) (λ line. refl)
+                | inl x ↦ other (specifier_form.EnumTag x.0) (λ line. tree.EnumTag line x.0) c.if-list-ne1.false x.1 (form_enum_tag x.0) (λ line. refl)
                 | inr x ↦ other (specifier_form.Named x.0) (λ line. tree.NamedType line x.0) c.if-list-ne1.false x.1 (form_named x.0) (λ line. refl)
               ]
             ]

@@ -13,7 +13,7 @@ returns-clause-sound c =
     let t = c.args.types.now in
     let x = core t c.args.e in
     on_ok_weaker c.into_value.result
-    (λ d. sound_by t c.args.line (node.Evaluate x) (λ g. None) (evaluate_first x) refl (value_sound t c.args.e c.types_are_within_limits.ensures c.requires d))
+    (λ d. sound_by t c.args.line (node.Expression x) (λ g. None) (evaluate_first x) refl (value_sound t c.args.e c.types_are_within_limits.ensures c.requires d))
     c.into_value.ensures.shallow
 
 pub returns-clause-told : goal.returns-clause-told
@@ -21,5 +21,5 @@ returns-clause-told c =
     let t = c.args.types.now in
     let x = core t c.args.e in
     IfErr-weaker c.into_value.result _ _
-    (λ f d. limit_by t c.args.line (node.Evaluate x) (λ g. None) (evaluate_first x) f refl (value_told t c.args.e c.types_are_within_limits.ensures c.requires f c.e.inside.line (ap line_of (sym c.e.view_is)) d))
+    (λ f d. limit_by t c.args.line (node.Expression x) (λ g. None) (evaluate_first x) f refl (value_told t c.args.e c.types_are_within_limits.ensures c.requires f c.e.inside.line (ap line_of (sym c.e.view_is)) d))
     c.into_value.ensures.deep
