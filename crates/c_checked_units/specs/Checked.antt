@@ -1,14 +1,15 @@
 -- What holds of each checked unit and isn't said by its rows.
 -- Source: ISO/IEC 9899:1990, 6.3, 6.6.4.2, 6.6.6; the profile of this compiler.
-use Rattle.std.specs.Prelude.{◌≡◌, ◌≤◌, false, Some}
+use Rattle.std.specs.Prelude.{◌≡◌, ◌≤◌, false, Some, length}
 use Rattle.c_types.specs.CType.{CType}
 use Rattle.c_meaning.specs.declared.core_expr.CoreKind.{CoreKind}
 use Rattle.c_meaning.specs.declared.core_expr.CoreKind.TheVariants as kind
 use Rattle.c_meaning.specs.Copies.{LocalAt, copies_in}
 use Rattle.c_meaning.specs.Each.{EachExpr, EachIs, EachKind}
 use Rattle.c_meaning.specs.Laws.{IsLocalOf}
-use Rattle.c_meaning.specs.StmtTrees.{FilledOf, StmtOf}
-use Rattle.c_meaning.specs.Units.{FunctionTree, ObjectTree, UnitTree, IsExpr, IsFunction, IsUnit}
+use Rattle.c_meaning.specs.StmtTrees.{FilledOf, StmtOf, StmtsOf}
+use Rattle.c_meaning.specs.StmtTrees as stmt
+use Rattle.c_meaning.specs.Units.{FunctionTree, ObjectTree, UnitTree, IsExpr, IsFunction, IsUnit, labels}
 use Rattle.c_meaning.specs.Values.{CoreTree}
 use Rattle.c_runs.specs.Calls.{built_in_at, built_in_number}
 use Rattle.c_runs.specs.Places.{size_of}
@@ -48,9 +49,26 @@ IsCheckedPlace u f p = IsCheckedExpr u f p.value
 abbrev pub AreCheckedIn : UnitTree → FunctionTree → StmtOf CType → Type 0
 AreCheckedIn u f s = EachExpr (IsCheckedExpr u f) (IsCheckedPlace u f) s
 
--- the numbers of cases are words, and each `break` and `continue` stands in what it leaves or goes on with
+-- each switch has no more cases than labels stand in its body, as each case is one of them
+abbrev mutual
+  pub HasOwnCases : StmtOf CType → Type 0
+  HasOwnCases (stmt.Block first locals ts) = AllHaveOwnCases ts
+  HasOwnCases (stmt.If e t u) = HasOwnCases t × HasOwnCases u
+  HasOwnCases (stmt.While e t) = HasOwnCases t
+  HasOwnCases (stmt.Do t e) = HasOwnCases t
+  HasOwnCases (stmt.For first test last t) = HasOwnCases t
+  HasOwnCases (stmt.Switch e cases default t) = (length cases ≤ length (labels t)) × HasOwnCases t
+  HasOwnCases (stmt.Label n t) = HasOwnCases t
+  HasOwnCases t = Unit {0}
+
+  pub AllHaveOwnCases : StmtsOf CType → Type 0
+  AllHaveOwnCases stmt.NoStmt = Unit {0}
+  AllHaveOwnCases (stmt.Stmts t ts) = HasOwnCases t × AllHaveOwnCases ts
+
+-- the numbers of cases are words, each case is a label of its own, and each `break` and `continue` stands in what it leaves or goes on with
 pub record HasOwnJumps (f : FunctionTree) : Type 0 where
   pub cases : HasWordCases f.body
+  pub labelled : HasOwnCases f.body
   pub jumps : StaysWithin false false f.body
 
 -- an object of the type has no more bytes than an object may

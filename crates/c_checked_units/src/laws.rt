@@ -6,8 +6,8 @@ use c_meaning::copies_have_locals;
 use c_runs::runs_stay_sound;
 use c_types::{compatible_types_are_mutual, composites_are_compatible};
 
-/// In a unit that is typed without a fault the numbers of cases are words, and each `break` and `continue` stands in what it
-/// leaves or goes on with.
+/// In a unit that is typed without a fault the numbers of cases are words, each case is a label of its own, and each `break` and
+/// `continue` stands in what it leaves or goes on with.
 pub fn jumps_stay_in_bodies()
     ensures { TypedUnitsHaveOwnJumps }
 {}

@@ -14,14 +14,11 @@ use Rattle.c_agreement.specs.Agrees.{UnitAgrees}
 use Rattle.c_agreement.specs.CameTo.{CameTo}
 use Rattle.c_agreement.specs.Pairs.{pair_of}
 use Rattle.c_tests_agree.specs.Tested.{AreMarkedOnce}
-use Rattle.lowered_statements.specs.FunctionBodies.{no_exits}
-use Rattle.lowered_statements.specs.Statements.{low_s}
 use Rattle.c_stmt_agreement.specs.Comings.{HasFrame}
 use Rattle.c_stmts_agree.specs.FunctionBodies.{CameBack}
 use Rattle.c_stmts_agree.specs.Jumps.{StaysWithin}
 use Rattle.c_stmts_agree.specs.Parts.{PartsAgree}
-use Rattle.c_stmts_agree.specs.Tables.{HasTables}
-use Rattle.c_entries_agree.specs.Activations.{lowering, activation, ending, start_of, first_body, Enters}
+use Rattle.c_entries_agree.specs.Activations.{lowering, activation, ending, start_of, Enters}
 use Rattle.c_entries_agree.specs.Laws.{IsCallOf}
 use Rattle.c_entries_agree.specs.Lowered.{IsFunctionLowering, IsLoweringOf, HasLocalsWithRoom}
 
@@ -37,15 +34,14 @@ CallsReturn =
 
 -- ---- each function agrees
 
--- the parts of the statements of each function agree, wherever a call of it has a frame, and the tables of its switches are objects of the unit
+-- the parts of the statements of each function agree, wherever a call of it has a frame
 abbrev pub BodiesAgree : UnitTree → LoweredUnit → Type 0
 BodiesAgree u l =
     (f : FunctionTree) (a : Call) (map : Map) (w : World) → IsCallOf u l f a map w → (x : IsFunctionLowering u l a.function f)
     → HasFrame (activation u l a.function f x a w) → AreMarkedOnce (activation u l a.function f x a w).scene.body
     → PartsAgree (activation u l a.function f x a w) (lowering u l a.function f x) (ending u l a.function f x a) f.body
-    × HasTables (activation u l a.function f x a w) (lowering u l a.function f x) (low_s (lowering u l a.function f x) no_exits f.body (first_body u l a.function f x))
 
--- what is asked of a checked function beside that: objects of its locals' types have a byte and aren't large, and each `break` and `continue` stands in what it leaves or goes on with
+-- what is asked of a checked function beside that: objects of its locals' types aren't large, and each `break` and `continue` stands in what it leaves or goes on with
 pub record IsFairFunction (u : UnitTree) (f : FunctionTree) : Type 0 where
   pub room : HasLocalsWithRoom u f
   pub jumps : StaysWithin false false f.body

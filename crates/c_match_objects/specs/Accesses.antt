@@ -1,5 +1,5 @@
 -- What accesses of forests do where those of C that they stand for are defined.
-use Rattle.std.specs.Prelude.{◌≡◌, ℕ, ◌%◌, ◌^◌, Some, None, Ok, List, length}
+use Rattle.std.specs.Prelude.{◌≡◌, ℕ, ◌%◌, ◌^◌, true, Some, None, Ok, List, length, slice_get}
 use Rattle.lcc_base.specs.declared.order.Order.{Order}
 use Rattle.objects.specs.declared.byte.Byte.{Byte}
 use Rattle.objects.specs.declared.purpose.Purpose.{Purpose}
@@ -51,11 +51,12 @@ NumbersAreRead =
 -- ---- stores
 
 -- Behind a store of C's, and the one of forests that stands for it: the objects are held as before, and what held nothing of C is as
--- it was, and holds nothing still.
+-- it was, and holds nothing still. An object of forests that may not be written is as it was too.
 pub record IsKept (map : Map) (old new : List Old) (objects after : List Object) : Type 0 where
   pub held : AreHeld map new after
   pub left : IsLeft map old objects after
   pub private : (place : ℕ) → IsPrivate map old place → IsPrivate map new place
+  pub constants : (place : ℕ) (home : Object) → slice_get objects place ≡ Some home → home.constant ≡ true → slice_get after place ≡ Some home
 
 -- bytes of any number
 abbrev pub StoresGo : Type 0

@@ -36,13 +36,13 @@ StoresKeep =
     → Matches u own map old w → IsKept map (c.objects old) new w.objects after → AreSoundObjects after
     → Matches u own map (c.with_objects old new) (with_objects w after)
 
--- what changes private objects alone, and argument words, as the lowering's own temporaries do
+-- what changes private objects behind the unit's alone, and argument words, as the lowering's own temporaries do
 abbrev pub PrivateStoresKeep : Type 0
 PrivateStoresKeep =
     (u : LoweredUnit) (own : ℕ) (map : Map) (old : c.World) (w new : World)
     → Matches u own map old w → IsSound new → new.input ≡ w.input → new.trace ≡ w.trace
     → ((place : ℕ) → (IsPrivate map (c.objects old) place → ⊥) → slice_get new.objects place ≡ slice_get w.objects place)
-    → ((t : ℕ) (o : LoweredObject) → own ≤ t → slice_get u.objects t ≡ Some o → slice_get new.objects t ≡ slice_get w.objects t)
+    → ((t : ℕ) (o : LoweredObject) → slice_get u.objects t ≡ Some o → slice_get new.objects t ≡ slice_get w.objects t)
     → Matches u own map old new
 
 -- something is seen, and input is read

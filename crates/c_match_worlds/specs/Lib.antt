@@ -1,3 +1,4 @@
 pub mod Matches
 pub mod Starts
+pub mod Texts
 pub mod Laws

@@ -6,3 +6,7 @@ pub mod Bases
 pub mod Stores
 pub mod Zeroing
 pub mod Filling
+pub mod Texts
+pub mod Copies
+pub mod Strings
+pub mod Filled

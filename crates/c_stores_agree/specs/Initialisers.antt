@@ -1,12 +1,13 @@
 -- Initialisers of locals: zeros as a whole, where it is said, and then a value in each place, in turn: scalars, bit-fields and structures.
 -- Source: ISO/IEC 9899:1990, 6.5.7.
-use Rattle.std.specs.Prelude.{◌≡◌, ℕ, Bool, false, Some, List, slice_get}
+use Rattle.std.specs.Prelude.{◌≡◌, ℕ, Bool, false, Some, List, length, slice_get}
 use Rattle.c_types.specs.CType.{CType}
 use Rattle.c_meaning.specs.Each.{EachIs}
 use Rattle.c_meaning.specs.StmtTrees as stmt
 use Rattle.c_meaning.specs.StmtTrees.{FilledOf}
 use Rattle.c_meaning.specs.Types.{is_array}
 use Rattle.c_meaning.specs.Units.{AreOf}
+use Rattle.c_match_worlds.specs.Texts.{HasTexts}
 use Rattle.lowered_statements.specs.Functions.{Function}
 use Rattle.lowered_statements.specs.Initialisers.{initialised}
 use Rattle.c_straight_agree.specs.Layouts.{context_in}
@@ -25,3 +26,9 @@ abbrev pub PlainInitialisersAgree : Type 0
 PlainInitialisersAgree =
     (p : Activation) → HasFrame p → AreMarkedOnce p.scene.body → (f : Function) (e : Ending) (n : ℕ) (of : CType) → IsLocal p f n of → (locals : List CType) (xs : List (FilledOf CType)) → AreOf p.scene.unit locals of xs
     → EachIs (λ (x : FilledOf CType). is_array x.of ≡ false) xs → EachIs (λ (x : FilledOf CType). ValueAgrees p f x.value) xs → (zero : Bool) → RowAgrees p e (stmt.Initialise n zero xs) (λ l. initialised f n zero xs l)
+
+-- So it is with strings, where the unit's texts stand in its lowering.
+abbrev pub InitialisersAgree : Type 0
+InitialisersAgree =
+    (p : Activation) → HasFrame p → HasTexts p.scene.lowered (length p.scene.unit.objects) p.scene.unit.texts → AreMarkedOnce p.scene.body → (f : Function) (e : Ending) (n : ℕ) (of : CType) → IsLocal p f n of → (locals : List CType) (xs : List (FilledOf CType)) → AreOf p.scene.unit locals of xs
+    → EachIs (λ (x : FilledOf CType). ValueAgrees p f x.value) xs → (zero : Bool) → RowAgrees p e (stmt.Initialise n zero xs) (λ l. initialised f n zero xs l)

@@ -1,5 +1,5 @@
 //! Laws of statements that copy structures, and of initialisers.
-ghost use Rattle.c_stores_agree.specs.Initialisers.{PlainInitialisersAgree};
+ghost use Rattle.c_stores_agree.specs.Initialisers.{InitialisersAgree, PlainInitialisersAgree};
 ghost use Rattle.c_stores_agree.specs.Returns.{StructureReturnsAgree};
 
 use c_runs::runs_stay_sound;
@@ -16,10 +16,11 @@ pub fn structures_are_returned()
     split_trees_mean();
 }
 
-/// The lowering of a local's initialiser without strings agrees with C: zeros as a whole, by words and bytes or by a loop, and then a value
-/// in each place, const or not: a scalar, a bit-field or a structure.
+/// The lowering of a local's initialiser agrees with C: zeros as a whole, by words and bytes or by a loop, and then a value in each place,
+/// const or not: a scalar, a bit-field or a structure, and where the unit's texts stand in its lowering a string too.
 pub fn initialisers_agree()
-    ensures { PlainInitialisersAgree }
+    ensures plain { PlainInitialisersAgree }
+    ensures all { InitialisersAgree }
 {
     narrow_operators_give_narrow_words();
     runs_stay_sound();

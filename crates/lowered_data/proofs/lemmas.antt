@@ -6,6 +6,8 @@ pub mod Still
 pub mod Filling
 pub mod Sound
 pub mod Standing
+pub mod Leaving
+pub mod Texts
 pub mod Beginning
 pub mod Fitting
 pub mod Numbering

@@ -13,6 +13,7 @@ use Rattle.c_runs.specs.Run.{setting, started}
 use Rattle.c_runs.specs.Soundness.{IsSound}
 use Rattle.c_runs.specs.Worlds.{World, objects}
 use Rattle.c_match_worlds.specs.Starts.{own_map, StandsAt}
+use Rattle.c_match_worlds.specs.Texts.{HasTexts}
 use Rattle.lowered_data.specs.Data.{IsFunctionNumber}
 use Rattle.lowered_data.specs.Initial.{IsInitialData, StartsIn}
 use Rattle.lowered_data.specs.Still.{are_still_objects}
@@ -29,6 +30,10 @@ DataStand =
     (u : UnitTree) (order : Order) (data_of behind : List LoweredObject) (d : IsInitialData u order data_of) (l : LoweredUnit)
     → l.objects ≡ data_of ++ behind → l.order ≡ order → NamesStand u (length (objects d.world)) l → (place : ℕ) (x : Object)
     → slice_get (objects d.world) place ≡ Some x → StandsAt l (own_map l (length (objects d.world))) place x
+
+-- So do the unit's texts, as the objects behind those of its own objects.
+abbrev pub TextsStand : Type 0
+TextsStand = (u : UnitTree) (order : Order) (data_of behind : List LoweredObject) → IsInitialData u order data_of → (l : LoweredUnit) → l.objects ≡ data_of ++ behind → HasTexts l (length u.objects) u.texts
 
 -- Where no initialiser calls or changes anything, the world in which a unit starts with no input is that in which it starts with any; and just
 -- its objects and texts were made.

@@ -1,6 +1,6 @@
 //! Laws of initial data.
 ghost use Rattle.lowered_data.specs.Fitting.{DataFit};
-ghost use Rattle.lowered_data.specs.Laws.{DataStand, StartIsSound, StartStandsAlone};
+ghost use Rattle.lowered_data.specs.Laws.{DataStand, StartIsSound, StartStandsAlone, TextsStand};
 ghost use Rattle.lowered_data.specs.Numbering.{NumbersStand};
 
 use c_runs::runs_stay_sound;
@@ -9,6 +9,11 @@ use c_runs::runs_stay_sound;
 /// alike asks.
 pub fn data_stand()
     ensures { DataStand }
+{}
+
+/// Its texts stand there too.
+pub fn texts_stand()
+    ensures { TextsStand }
 {}
 
 /// Names in order stand for what they number.

@@ -11,4 +11,6 @@ mod still;
 mod stretches;
 
 pub use data::initial_data;
-pub use laws::{data_fits, data_stand, numbers_stand, start_is_sound, start_stands_alone};
+pub use laws::{
+    data_fits, data_stand, numbers_stand, start_is_sound, start_stands_alone, texts_stand,
+};

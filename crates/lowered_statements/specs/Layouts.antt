@@ -1,7 +1,7 @@
 -- Where a function's locals stand: a parameter in its word, if it has the size of one or is passed by its address; any other local, and a
 -- narrower parameter, in a slot of the frame. The slots are in the order of the locals.
 -- Source: Fraser and Hanson, A Retargetable C Compiler, chapters 5, 11 and 13 (parameters, offsets of locals).
-use Rattle.std.specs.Prelude.{ℕ, suc, ◌+◌, ◌*◌, ◌/◌, ℤ, pos, ◌-ℤ◌, nat_lt, ◌&&◌, not, Bool, true, false, List, [], ◌∷◌, ◌++◌, take, drop}
+use Rattle.std.specs.Prelude.{ℕ, suc, ◌+◌, ◌*◌, ◌/◌, ◌-◌, ℤ, pos, ◌-ℤ◌, nat_lt, ◌&&◌, not, Bool, true, false, List, [], ◌∷◌, ◌++◌, take, drop}
 use Rattle.op_forest.specs.declared.frame.Slot.{Slot}
 use Rattle.op_forest.specs.Frames.{lowest}
 use Rattle.c_types.specs.CType.{CType}
@@ -16,9 +16,9 @@ pub record Layout : Type 0 where
   pub places : List ℤ
   pub slots : List Slot
 
--- a multiple of four that is no less
+-- a multiple of four that is no less, and no 0: so slots are at different places, also those of objects without a byte
 abbrev pub rounded : ℕ → ℕ
-rounded n = 4 * ((n + 3) / 4)
+rounded n = 4 * ((n - 1) / 4 + 1)
 
 -- a slot right below others, of so many bytes rounded up
 abbrev pub offset_under : ℕ → List Slot → ℤ

@@ -35,6 +35,7 @@ empty_match first second third fourth words are events = record {
   held = record { held = λ p x e. absurd (let never : ⊥ = cc in never); apart = λ p q x y r s e f ne i j. absurd (let never : ⊥ = cc in never) };
   made = λ m r e. absurd (let never : ⊥ = cc in never);
   whole = λ p h. absurd (let never : ⊥ = omega arith in never);
+  constants = λ t o lt e locked. absurd (let never : ⊥ = cc in never);
   tables = λ t o h e. absurd (let never : ⊥ = cc in never);
   input = refl;
   trace = refl;

@@ -52,7 +52,7 @@ words_with (w ∷ ws) u h g = (h.0, words_with ws u h.1 g)
 -- other argument words change nothing else
 pub arguments_match : (s : Scene) (map : Map) (old : c.World) (w : World) (ws : List Word) → AreWords ws → Matches s.lowered s.own map old w → Matches s.lowered s.own map old (with_arguments w ws)
 arguments_match s map old w ws words m =
-    private_keeps s.lowered s.own map old w (with_arguments w ws) m (record { objects = m.sound.objects; arguments = words; input = m.sound.input }) refl refl (λ place open_to. refl) (λ t o own is. refl)
+    private_keeps s.lowered s.own map old w (with_arguments w ws) m (record { objects = m.sound.objects; arguments = words; input = m.sound.input }) refl refl (λ place open_to. refl) (λ t o is. refl)
 
 abbrev pub passing : Word → World → World
 passing u w = with_arguments w (w.arguments ++ u ∷ [])

@@ -5,7 +5,7 @@ use Rattle.c_types.specs.CType.{CType, Function, Int, Listed, NoType, Plain, Str
 use Rattle.c_meaning.specs.declared.built_in.BuiltIn.TheVariants.{Putchar}
 use Rattle.c_meaning.specs.declared.core_expr.CoreKind.TheVariants as kind
 use Rattle.c_meaning.specs.CoreTrees.{Core, none, one}
-use Rattle.c_meaning.specs.StmtTrees.{Break, Nothing, Return, StmtOf, Switch, While}
+use Rattle.c_meaning.specs.StmtTrees.{Break, Label, Nothing, Return, StmtOf, Switch, While}
 use Rattle.c_meaning.specs.Types.{pointer_to}
 use Rattle.c_meaning.specs.Units.{FunctionTree, IsFunction, IsUnit, UnitTree}
 use Rattle.c_meaning.specs.Values.{CoreTree}
@@ -31,7 +31,7 @@ unit fs = record { functions = fs; objects = []; texts = []; tags = []; main = 0
 
 -- while (1) break;
 leaves : HasOwnJumps (main (While (number 1) Break))
-leaves = record { cases = tt; jumps = refl }
+leaves = record { cases = tt; labelled = tt; jumps = refl }
 
 -- break;
 leaves_nothing : HasOwnJumps (main Break) → ⊥
@@ -40,6 +40,14 @@ leaves_nothing h = true≢false (sym h.jumps)
 -- a case whose number is no word
 wide_case : HasOwnJumps (main (Switch (number 1) (record { number = 2 ^ 32; label = 0 } ∷ []) None Nothing)) → ⊥
 wide_case h = let l = h.cases.0.0 in omega (arith, l)
+
+-- switch (1) { case 7: ; }
+own_case : HasOwnJumps (main (Switch (number 1) (record { number = 7; label = 0 } ∷ []) None (Label 0 Nothing)))
+own_case = record { cases = ((omega arith, tt), tt); labelled = (omega arith, tt); jumps = tt }
+
+-- a case that stands nowhere
+no_case : HasOwnJumps (main (Switch (number 1) (record { number = 7; label = 0 } ∷ []) None Nothing)) → ⊥
+no_case h = let l = h.labelled.0 in omega (arith, l)
 
 -- ---- built-in functions
 
@@ -102,7 +110,7 @@ is_function =
     }
 
 function : IsCheckedFunction (returns 3) (main (Return (Some (number 3))))
-function = record { fits = is_function; sizes = tt; own = record { cases = tt; jumps = tt }; expressions = expression }
+function = record { fits = is_function; sizes = tt; own = record { cases = tt; labelled = tt; jumps = tt }; expressions = expression }
 
 is_unit : IsUnit (returns 3)
 is_unit = record { functions = (is_function, tt); objects = tt; names = refl; texts = refl; bytes = tt; main = (main (Return (Some (number 3))), refl, refl); few = omega arith }

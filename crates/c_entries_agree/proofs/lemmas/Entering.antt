@@ -163,7 +163,7 @@ parameter_short order t v false = let le = bytes_short order (scalar_of t).width
 
 locals_short : (tags : List Tag) (us : List CType) → EachIs (HasRoom tags) us → EachIs IsShort (local_beginnings tags us)
 locals_short tags [] room = tt
-locals_short tags (t ∷ us) room = ((let n = length-replicate (size_of tags t) (unknown_byte {V = Value}) in let lt = room.0.1 in omega (arith, n, lt)), locals_short tags us room.1)
+locals_short tags (t ∷ us) room = ((let n = length-replicate (size_of tags t) (unknown_byte {V = Value}) in let lt = room.0 in omega (arith, n, lt)), locals_short tags us room.1)
 
 beginnings_short : (tags : List Tag) (order : Order) (ts us : List CType) (vs : List Value) → EachIs (HasRoom tags) us → EachIs IsShort (parameter_beginnings true tags order ts vs ++ local_beginnings tags us)
 beginnings_short tags order [] us vs room = locals_short tags us room

@@ -113,7 +113,7 @@ module _ (u : UnitTree) (l : LoweredUnit) (f : FunctionTree) (a : Call) (map : M
     is_frame = subst IsFrame (sym x.slots) (frames u l.order a.function x.tables f).frame
 
     pub all_in_layout : AllStand (layout u.tags f).slots home.words u.tags f.locals stands_at (layout u.tags f).places
-    all_in_layout = subst (λ (n : ℕ). AllStand (layout u.tags f).slots n u.tags f.locals stands_at (layout u.tags f).places) (sym x.words) (locals_stand u.tags f is.room)
+    all_in_layout = subst (λ (n : ℕ). AllStand (layout u.tags f).slots n u.tags f.locals stands_at (layout u.tags f).places) (sym x.words) (locals_stand u.tags f)
 
     pub all_stand : AllStand home.slots home.words u.tags f.locals stands_at (layout u.tags f).places
     all_stand = subst (λ (ss : List Slot). AllStand ss home.words u.tags f.locals stands_at (layout u.tags f).places) (sym slots_front.is) (all_stand_on (layout u.tags f).slots slots_front.more home.words u.tags f.locals stands_at (layout u.tags f).places all_in_layout)

@@ -16,7 +16,6 @@ use Rattle.dag_forest.proofs.lemmas.Frames.{lowest_le}
 use Rattle.dag_seam.proofs.lemmas.Acts.{get_left, get_last}
 use Rattle.lowered_statements.specs.Layouts.{Layout, rounded, offset_under, slot_under, in_slot, is_narrow, parameter_by, with_parameters, with_locals, first_word, words_of, layout}
 use Rattle.c_entries_agree.specs.Standpoints.{Standpoint, InSlot, InWord, AsPassed, parameter_stands, slot_behind, slot_behind_all, parameters_stand, others_stand, standpoints}
-use Rattle.c_entries_agree.specs.Lowered.{HasRoom}
 
 -- ---- a local stands at its place
 
@@ -26,7 +25,7 @@ pub record IsSlotOf (slots : List Slot) (n size : ℕ) (z : ℤ) : Type 0 where
   pub is : z ≡ slot.offset
   pub below : ℕ
   pub low : z ≡ negsuc below
-  pub some : 1 ≤ size
+  pub some : 1 ≤ slot.size
   pub fits : size ≤ slot.size
 
 abbrev pub StandsIn : List Slot → ℕ → List Tag → CType → Standpoint → ℤ → Type 0
@@ -84,25 +83,25 @@ below_top : (z : ℤ) → z <ℤ pos 0 → (m : ℕ) × (z ≡ negsuc m)
 below_top (pos n) lt = absurd (let never : ⊥ = omega (arith, ints, lt) in never)
 below_top (negsuc m) lt = (m, refl)
 
-round_up : (size : ℕ) → size ≤ rounded size
-round_up size = omega arith
+round_up : (size : ℕ) → (size ≤ rounded size) × (1 ≤ rounded size)
+round_up size = (omega arith, omega arith)
 
 goes_below : (low : ℤ) (m : ℕ) → low ≤ℤ pos 0 → 1 ≤ m → (low -ℤ pos m) <ℤ pos 0
 goes_below low m le some = omega (arith, ints, le, some)
 
-new_slot : (size least : ℕ) (slots : List Slot) → 1 ≤ least → least ≤ size → IsSlotOf (slots ++ slot_under size slots ∷ []) (length slots) least (offset_under size slots)
-new_slot size least slots some le =
+new_slot : (size least : ℕ) (slots : List Slot) → least ≤ size → IsSlotOf (slots ++ slot_under size slots ∷ []) (length slots) least (offset_under size slots)
+new_slot size least slots le =
     let low = (lowest_le slots (pos 0)).0 in
     let up = round_up size in
-    let b = below_top (offset_under size slots) (goes_below (lowest slots) (rounded size) low (omega (arith, some, le, up))) in
+    let b = below_top (offset_under size slots) (goes_below (lowest slots) (rounded size) low up.1) in
     record {
       slot = slot_under size slots;
       there = get_last slots (slot_under size slots);
       is = refl;
       below = b.0;
       low = b.1;
-      some = some;
-      fits = omega (arith, le, up);
+      some = up.1;
+      fits = (let h = up.0 in omega (arith, le, h));
     }
 
 -- ---- layouts go on
@@ -139,44 +138,39 @@ module _ (words : ℕ) (tags : List Tag) where
       small false size g = grind (arith, g)
 
   -- a parameter, by its kind
-  parameter_laid : (t : CType) (ts : List CType) (slot word : ℕ) (a d : Layout) (hs : List Standpoint) → length a.slots ≡ slot → HasRoom tags t → word < words → (whole narrow : Bool) → is_record t ≡ whole → is_narrow tags t ≡ narrow
+  parameter_laid : (t : CType) (ts : List CType) (slot word : ℕ) (a d : Layout) (hs : List Standpoint) → length a.slots ≡ slot → word < words → (whole narrow : Bool) → is_record t ≡ whole → is_narrow tags t ≡ narrow
       → Laid words tags ts (parameter_by narrow word a) d hs → Laid words tags (t ∷ ts) a d (parameter_stands whole narrow slot word ∷ hs)
-  parameter_laid t ts slot word a d hs count room lt true true e f r = absurd (let g = (narrow_is t true true e f).0 refl in let never : ⊥ = cc in never)
-  parameter_laid t ts slot word a d hs count room lt true false e f r = laid_then t ts a (parameter_by false word a) d (AsPassed word) hs (pos (4 * word)) [] refl refl (refl, lt) r
-  parameter_laid t ts slot word a d hs count room lt false true e f r =
+  parameter_laid t ts slot word a d hs count lt true true e f r = absurd (let g = (narrow_is t true true e f).0 refl in let never : ⊥ = cc in never)
+  parameter_laid t ts slot word a d hs count lt true false e f r = laid_then t ts a (parameter_by false word a) d (AsPassed word) hs (pos (4 * word)) [] refl refl (refl, lt) r
+  parameter_laid t ts slot word a d hs count lt false true e f r =
       laid_then t ts a (parameter_by true word a) d (InSlot slot) hs (offset_under 4 a.slots) (slot_under 4 a.slots ∷ []) refl refl
-      (subst (λ (n : ℕ). IsSlotOf (a.slots ++ slot_under 4 a.slots ∷ []) n (size_of tags t) (offset_under 4 a.slots)) count (new_slot 4 (size_of tags t) a.slots room.0 ((narrow_is t false true e f).1 refl))) r
-  parameter_laid t ts slot word a d hs count room lt false false e f r = laid_then t ts a (parameter_by false word a) d (InWord word) hs (pos (4 * word)) [] refl refl (refl, lt) r
+      (subst (λ (n : ℕ). IsSlotOf (a.slots ++ slot_under 4 a.slots ∷ []) n (size_of tags t) (offset_under 4 a.slots)) count (new_slot 4 (size_of tags t) a.slots ((narrow_is t false true e f).1 refl))) r
+  parameter_laid t ts slot word a d hs count lt false false e f r = laid_then t ts a (parameter_by false word a) d (InWord word) hs (pos (4 * word)) [] refl refl (refl, lt) r
 
   slots_after : (narrow : Bool) (slot word : ℕ) (a : Layout) → length a.slots ≡ slot → length (parameter_by narrow word a).slots ≡ slot_behind narrow slot
   slots_after true slot word a count = length-append a.slots (slot_under 4 a.slots ∷ []) ∙ (let e = count in omega (arith, e))
   slots_after false slot word a count = ap length (append-nil a.slots) ∙ count
 
-  parameters_laid : (slot word : ℕ) (ts : List CType) (a : Layout) → length a.slots ≡ slot → EachIs (HasRoom tags) ts → word + length ts ≤ words
+  parameters_laid : (slot word : ℕ) (ts : List CType) (a : Layout) → length a.slots ≡ slot → word + length ts ≤ words
       → Laid words tags ts a (with_parameters tags word ts a) (parameters_stand tags slot word ts) × (length (with_parameters tags word ts a).slots ≡ slot_behind_all tags slot ts)
-  parameters_laid slot word [] a count room le = (laid_none a, count)
-  parameters_laid slot word (t ∷ ts) a count room le =
+  parameters_laid slot word [] a count le = (laid_none a, count)
+  parameters_laid slot word (t ∷ ts) a count le =
       let narrow = is_narrow tags t in
       let b = parameter_by narrow word a in
-      let rest = parameters_laid (slot_behind narrow slot) (suc word) ts b (slots_after narrow slot word a count) room.1 (omega (arith, le)) in
-      (parameter_laid t ts slot word a (with_parameters tags (suc word) ts b) (parameters_stand tags (slot_behind narrow slot) (suc word) ts) count room.0 (omega (arith, le)) (is_record t) narrow refl refl rest.0, rest.1)
+      let rest = parameters_laid (slot_behind narrow slot) (suc word) ts b (slots_after narrow slot word a count) (omega (arith, le)) in
+      (parameter_laid t ts slot word a (with_parameters tags (suc word) ts b) (parameters_stand tags (slot_behind narrow slot) (suc word) ts) count (omega (arith, le)) (is_record t) narrow refl refl rest.0, rest.1)
 
-  locals_laid : (slot : ℕ) (ts : List CType) (a : Layout) → length a.slots ≡ slot → EachIs (HasRoom tags) ts → Laid words tags ts a (with_locals tags ts a) (others_stand slot ts)
-  locals_laid slot [] a count room = laid_none a
-  locals_laid slot (t ∷ ts) a count room =
+  locals_laid : (slot : ℕ) (ts : List CType) (a : Layout) → length a.slots ≡ slot → Laid words tags ts a (with_locals tags ts a) (others_stand slot ts)
+  locals_laid slot [] a count = laid_none a
+  locals_laid slot (t ∷ ts) a count =
       let size = size_of tags t in
       let b = in_slot size a in
       let more : length b.slots ≡ suc slot = length-append a.slots (slot_under size a.slots ∷ []) ∙ (let e = count in omega (arith, e)) in
       laid_then t ts a b (with_locals tags ts b) (InSlot slot) (others_stand (suc slot) ts) (offset_under size a.slots) (slot_under size a.slots ∷ []) refl refl
-      (subst (λ (n : ℕ). IsSlotOf (a.slots ++ slot_under size a.slots ∷ []) n size (offset_under size a.slots)) count (new_slot size size a.slots room.0.0 (omega arith)))
-      (locals_laid (suc slot) ts b more room.1)
+      (subst (λ (n : ℕ). IsSlotOf (a.slots ++ slot_under size a.slots ∷ []) n size (offset_under size a.slots)) count (new_slot size size a.slots (omega arith)))
+      (locals_laid (suc slot) ts b more)
 
 -- ---- a function's
-
-pub each_take : {A : Type 0} (P : A → Type 0) (n : ℕ) (xs : List A) → EachIs P xs → EachIs P (take n xs)
-each_take P zero xs h = tt
-each_take P (suc n) [] h = tt
-each_take P (suc n) (x ∷ xs) h = (h.0, each_take P n xs h.1)
 
 pub each_drop : {A : Type 0} (P : A → Type 0) (n : ℕ) (xs : List A) → EachIs P xs → EachIs P (drop n xs)
 each_drop P zero xs h = h
@@ -191,18 +185,18 @@ take_short (suc n) (x ∷ xs) = let h = take_short n xs in omega (arith, h)
 abbrev none : Layout
 none = record { places = []; slots = [] }
 
-module _ (tags : List Tag) (f : FunctionTree) (room : EachIs (HasRoom tags) f.locals) where
+module _ (tags : List Tag) (f : FunctionTree) where
   abbrev after_parameters : Layout
   after_parameters = with_parameters tags (first_word f) (own_parameters f) none
 
   parameters_part : Laid (words_of f) tags (own_parameters f) none after_parameters (parameters_stand tags 0 (first_word f) (own_parameters f)) × (length after_parameters.slots ≡ slot_behind_all tags 0 (own_parameters f))
-  parameters_part = parameters_laid (words_of f) tags 0 (first_word f) (own_parameters f) none refl (each_take (HasRoom tags) f.parameters f.locals room) (let h = take_short f.parameters f.locals in omega (arith, h))
+  parameters_part = parameters_laid (words_of f) tags 0 (first_word f) (own_parameters f) none refl (let h = take_short f.parameters f.locals in omega (arith, h))
 
   -- each local stands at the place that its layout has
   pub locals_stand : AllStand (layout tags f).slots (words_of f) tags f.locals (standpoints tags f) (layout tags f).places
   locals_stand =
       let one = parameters_part in
-      let two = locals_laid (words_of f) tags (slot_behind_all tags 0 (own_parameters f)) (drop f.parameters f.locals) after_parameters one.1 (each_drop (HasRoom tags) f.parameters f.locals room) in
+      let two = locals_laid (words_of f) tags (slot_behind_all tags 0 (own_parameters f)) (drop f.parameters f.locals) after_parameters one.1 in
       let first = subst (λ (ss : List Slot). AllStand ss (words_of f) tags (own_parameters f) (parameters_stand tags 0 (first_word f) (own_parameters f)) one.0.zs) (sym two.slots)
       (all_stand_on after_parameters.slots two.more (words_of f) tags (own_parameters f) (parameters_stand tags 0 (first_word f) (own_parameters f)) one.0.zs one.0.stand) in
       let both = all_append (layout tags f).slots (words_of f) tags (own_parameters f) (drop f.parameters f.locals) (parameters_stand tags 0 (first_word f) (own_parameters f)) (others_stand (slot_behind_all tags 0 (own_parameters f)) (drop f.parameters f.locals)) one.0.zs two.zs first two.stand in

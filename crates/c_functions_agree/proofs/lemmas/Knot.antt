@@ -28,15 +28,17 @@ use Rattle.c_agreement.specs.CameTo.{CameTo}
 use Rattle.c_agreement.specs.Pairs.{pair_of}
 use Rattle.c_agreement.proofs.lemmas.Turns.{turns_suffice}
 use Rattle.lowered_labels.specs.Used.{GoesWithin}
-use Rattle.lowered_statements.specs.FunctionBodies.{begun}
+use Rattle.lowered_statements.specs.FunctionBodies.{begun, no_exits}
 use Rattle.lowered_statements.specs.Functions.{label_at}
 use Rattle.lowered_statements.specs.Layouts.{first_word, layout}
+use Rattle.lowered_statements.specs.Statements.{low_s}
 use Rattle.c_straight_agree.proofs.lemmas.Putting.{each_at}
 use Rattle.c_tests_agree.specs.Tested.{AreMarkedOnce}
 use Rattle.c_stmt_agreement.specs.Comings.{Activation, HasFrame, Origin}
 use Rattle.c_stmts_agree.specs.FunctionBodies.{FunctionBodiesAgree, FunctionsHaveLabels}
 use Rattle.c_stmts_agree.specs.Jumps.{CheckedJumpsStay}
 use Rattle.c_stmts_agree.specs.Labels.{FunctionsMarkOnce}
+use Rattle.c_stmts_agree.specs.Tables.{HasTables}
 use Rattle.c_stmts_agree.specs.Ways.{IsEnding}
 use Rattle.c_entries_agree.specs.Activations.{lowering, activation, ending, first_body, start_of}
 use Rattle.c_entries_agree.specs.Laws.{IsCallOf, CallsHaveFrames, CallsEnter}
@@ -98,13 +100,19 @@ module _ (sound : ExecStaysSound) (tame : UnitsAreTame) (starts : BodiesStart) (
     room : p.locals ≤ length (first_body u l a.function f x).low.slots
     room = subst (λ (ss : List Slot). p.locals ≤ length ss) (sym (stored_slots (lowering u l a.function f x) 0 (first_word f) (own_parameters f) (begun (lowering u l a.function f x) (layout u.tags f)).low)) (omega arith)
 
+    -- the tables that its body has are the unit's
+    tables_there : HasTables p (lowering u l a.function f x) (low_s (lowering u l a.function f x) no_exits f.body (first_body u l a.function f x))
+    tables_there n labels e =
+        let t = x.has_tables n labels e in
+        record { place = t.place; object = t.object; there = t.there; behind = t.behind; named = t.named; number = a.function; function = t.function; runs = t.runs; is_home = t.is_home; items = t.items; size = t.size; short = t.short }
+
     body_came : (i : ℕ) (old : c.World) → body_start u l.order f a.function a.arguments k a.world ≡ Next i old → CameTo (pair_of u l a map w) k (returned u.tags a (exec (context u l.order) f.body Start i old))
     body_came i old e =
         let en = enter u l f a map w is x k callees i old e in
         let at = en.1 in
         let o : Origin = record { start = start_of u l a.function f x w; turns = k; map = at.later; old = old; world = at.world } in
         let back = agree p frame once (lowering u l a.function f x) (ending u l a.function f x a) is_ending (λ n own. labelled p.scene u l.order a.function x.tables f refl is_function.once (label_at (lowering u l a.function f x) n) own)
-        f.body (bodies f a map w is x frame once).0 within (first_body u l a.function f x) room (bodies f a map w is x frame once).1 refl o k at.stands in
+        f.body (bodies f a map w is x frame once) within (first_body u l a.function f x) room tables_there refl o k at.stands in
         let stays = sound u l.order f.body Start k old (tame u is.checked) (each_at IsTameFunction u.functions a.function f (tame u is.checked).functions is.defined) at.stands.sound.sound in
         subst (λ (j : ℕ). CameTo (pair_of u l a map w) k (returned u.tags a (exec (context u l.order) f.body Start j old))) (sym en.0)
         (return u l f a map w is x k old at (exec (context u l.order) f.body Start k old) stays back)

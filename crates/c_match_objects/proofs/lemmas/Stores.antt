@@ -1,6 +1,6 @@
 -- A store of C's, and the store of forests that stands for it.
 use Rattle.std.specs.Prelude.{◌≡◌, ◌≤◌, ◌⊎◌, ℕ, zero, suc, ◌+◌, ◌==◌, Bool, true, false, Some, None, List, [], ◌∷◌, length, slice_get, if◌then◌else◌}
-use Rattle.std.proofs.Common.{refl, ap, sym, subst, inl, inr, ◌∙◌, arith}
+use Rattle.std.proofs.Common.{true≢false, refl, ap, sym, subst, inl, inr, ◌∙◌, arith}
 use Rattle.std.proofs.lemmas.Bool.{eqb-true, eqb-false}
 use Rattle.lcc_base.specs.declared.cause.Cause.{Cause}
 use Rattle.lcc_base.specs.declared.cause.Cause.TheVariants.{Outside, Misaligned, Dead, ReadOnly}
@@ -154,6 +154,13 @@ module _ (map : Map) (old : List Old) (objects : List Object) (p : Value) (w : W
       let u = was_there old r.name.place r.offset bytes q x e in
       private q u.before s u.there (sym (ap map u.made) ∙ i) same
 
+  -- what is stored to may be written
+  pub store_keeps_constants : r.held.home.constant ≡ false → (place : ℕ) (home : Object) → slice_get objects place ≡ Some home → home.constant ≡ true → slice_get after place ≡ Some home
+  store_keeps_constants opens place home lives locked =
+      stored_elsewhere objects r.range.object.place (r.range.start + r.offset) other place
+      (λ e. let same : slice_get objects place ≡ Some r.held.home = ap (λ (n : ℕ). slice_get objects n) e ∙ r.held.there in let one : home ≡ r.held.home = cc in true≢false (sym locked ∙ ap (λ (x : Object). x.constant) one ∙ opens))
+      ∙ lives
+
 -- ---- whether it is refused
 
 four_false : (a b c d : Bool) (x y z u : Cause) → first_cause ((a, x) ∷ (b, y) ∷ (c, z) ∷ []) ≡ None → d ≡ false → first_cause ((a, x) ∷ (b, y) ∷ (c, z) ∷ (d, u) ∷ []) ≡ None
@@ -198,5 +205,10 @@ store_goes map old objects purpose p w size alignment bytes other h is ok may ar
     let i = a.inside in
     let inside : r.offset + length other ≤ r.name.size = omega (arith, i, lo) in
     let kept : IsKept map old (stored old r.name.place r.offset bytes) objects (stored_through objects (there r) other) =
-    record { held = store_holds map old objects p w bytes other r h are (lb ∙ sym lo) inside; left = store_leaves map old objects p w bytes other r h are (lb ∙ sym lo) inside; private = store_hides map old objects p w bytes other r h are (lb ∙ sym lo) inside } in
+    record {
+      held = store_holds map old objects p w bytes other r h are (lb ∙ sym lo) inside;
+      left = store_leaves map old objects p w bytes other r h are (lb ∙ sym lo) inside;
+      private = store_hides map old objects p w bytes other r h are (lb ∙ sym lo) inside;
+      constants = store_keeps_constants map old objects p w bytes other r h are (lb ∙ sym lo) inside (home_open purpose map old objects p w r may (not_refused purpose old p size alignment e));
+    } in
     (there r, r.word, writes_there map old objects purpose p w size alignment ok may e a, subst (λ (os : List Old). IsKept map old os objects (stored_through objects (there r) other)) (sym (ap (λ q. c.stored_through old q bytes) r.points)) kept)

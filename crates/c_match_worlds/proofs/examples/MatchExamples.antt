@@ -1,5 +1,5 @@
 -- A world with which a unit of one object and one table begins, and the world of C that it stands for.
-use Rattle.std.specs.Prelude.{◌≡◌, ℕ, zero, suc, true, false, Some, [], ◌∷◌, flat_map, slice_get}
+use Rattle.std.specs.Prelude.{◌≡◌, ℕ, zero, suc, true, false, Some, List, [], ◌∷◌, flat_map, slice_get}
 use Rattle.std.proofs.Common.{refl, subst, arith}
 use Rattle.lcc_base.specs.declared.order.Order.TheVariants.{Big}
 use Rattle.lcc_base.specs.Traces.{Closed}
@@ -16,6 +16,7 @@ use Rattle.c_match.specs.Bytes.{AreBytesOf}
 use Rattle.c_match.specs.Ranges.{Range, Map}
 use Rattle.c_match_worlds.specs.Matches.{Matches}
 use Rattle.c_match_worlds.specs.Starts.{own_map, StandsAt}
+use Rattle.c_match_worlds.specs.Texts.{HasTexts, IsTextAt}
 use Rattle.c_match_worlds.proofs.lemmas.Starting.{starts_match}
 
 abbrev zeros : LoweredObject
@@ -67,7 +68,27 @@ starts_soundly = record {
 worlds_match : Matches unit 1 places old new
 worlds_match = starts_match unit old (65 ∷ []) each_stands refl refl refl starts_soundly
 
+-- ---- texts
+
+abbrev text : LoweredObject
+text = record { name = 2; size = 3; constant = true; items = datum.Bytes (104 ∷ 105 ∷ []) ∷ datum.Zero 1 ∷ [] }
+
+abbrev with_text : LoweredUnit
+with_text = record { functions = []; objects = zeros ∷ text ∷ []; names = (97 ∷ []) ∷ (98 ∷ []) ∷ (99 ∷ []) ∷ []; order = Big }
+
+has_text : HasTexts with_text 1 ((104 ∷ 105 ∷ []) ∷ [])
+has_text zero t e = let same : 104 ∷ 105 ∷ [] ≡ t = cc in subst (λ (bytes : List ℕ). IsTextAt with_text 1 bytes) same (record { object = text; there = refl; constant = refl; holds = refl })
+has_text (suc n) t e = absurd (let never : ⊥ = cc in never)
+
 -- ---- what is refused
+
+-- the object before the text may be written
+not_text : IsTextAt with_text 0 [] → ⊥
+not_text t =
+    let home : t.object ≡ zeros = let e = t.there in cc in
+    let constant = subst (λ (o : LoweredObject). o.constant ≡ true) home t.constant in
+    let never : ⊥ = cc in
+    never
 
 -- more was seen in C
 seen_more : Matches unit 1 places (c.with_event old Closed) new → ⊥

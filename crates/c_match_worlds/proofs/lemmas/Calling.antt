@@ -95,6 +95,7 @@ call_opens u own map old w order name f m =
         held = h.0;
         made = m.made;
         whole = m.whole;
+        constants = λ t o lt e locked. before w.objects more t (slice_get_within w.objects t (object_in u t o) (m.constants t o lt e locked)) ∙ m.constants t o lt e locked;
         tables = λ t o le e. (before w.objects more t (slice_get_within w.objects t (object_in u t o) (m.tables t o le e).0) ∙ (m.tables t o le e).0, (m.tables t o le e).1);
         input = m.input;
         trace = ap (λ (es : List Event). es ++ Opened name ∷ []) m.trace;
@@ -179,6 +180,7 @@ local_begins u own map old w constant bytes range m b =
         held = h.0;
         made = still_made u own map old w range m;
         whole = λ p lt. h.1 p _ (m.whole p lt);
+        constants = m.constants;
         tables = λ t o le e. ((m.tables t o le e).0, still_private u own map old w constant bytes range m b t o le e);
         input = m.input;
         trace = m.trace;
@@ -194,6 +196,7 @@ other_begins u own map old w constant bytes range m b =
         held = h.0;
         made = still_made u own map old w range m;
         whole = λ p lt. h.1 p _ (m.whole p lt);
+        constants = m.constants;
         tables = λ t o le e. ((m.tables t o le e).0, still_private u own map old w constant bytes range m b t o le e);
         input = m.input;
         trace = m.trace;
@@ -217,6 +220,7 @@ copy_passed u own map old w constant name offset m opens = record {
   held = flags_stay map (c.objects old) w.objects name offset constant m.held opens;
   made = m.made;
   whole = m.whole;
+  constants = m.constants;
   tables = λ t o le e. (
     (m.tables t o le e).0,
     λ p x r f g same.
@@ -265,6 +269,7 @@ call_closes u own map more first_world old first w m n g same =
           subst (λ (s : Range). s.object.place < homes) one (slice_get_within first.objects h.range.object.place h.held.home h.held.there)));
       made = n.made;
       whole = n.whole;
+      constants = λ t o lt e locked. kept homes w.objects t (slice_get_within first.objects t (object_in u t o) (m.constants t o lt e locked)) ∙ n.constants t o lt e locked;
       tables = λ t o le e. (
         kept homes w.objects t (slice_get_within first.objects t (object_in u t o) (m.tables t o le e).0) ∙ (n.tables t o le e).0,
         λ p x r f i s. (n.tables t o le e).1 p x r (taken count (c.objects old) p x f).1 i s,

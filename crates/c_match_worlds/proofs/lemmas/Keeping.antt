@@ -1,5 +1,5 @@
 -- Stores, events and input.
-use Rattle.std.specs.Prelude.{◌≡◌, ◌≤◌, ◌<◌, ℕ, ◌+◌, Some, List, [], ◌∷◌, ◌++◌, slice_get}
+use Rattle.std.specs.Prelude.{◌≡◌, ◌<◌, ℕ, ◌+◌, Some, List, [], ◌∷◌, ◌++◌, slice_get}
 use Rattle.std.proofs.Common.{refl, ap, ◌∙◌}
 use Rattle.std.proofs.lemmas.Option.{slice_get_within}
 use Rattle.lcc_base.specs.Traces.{Event}
@@ -27,6 +27,7 @@ store_keeps u own map old w new after m k sound = record {
   held = k.held;
   made = m.made;
   whole = m.whole;
+  constants = λ t o lt e locked. k.constants t (object_in u t o) (m.constants t o lt e locked) locked;
   tables = λ t o le e.
       (let table = m.tables t o le e in
       (k.left t (slice_get_within w.objects t (object_in u t o) table.0) table.1 ∙ table.0, k.private t table.1));
@@ -35,12 +36,13 @@ store_keeps u own map old w new after m k sound = record {
   sound = record { objects = sound; arguments = m.sound.arguments; input = m.sound.input };
 }
 
-pub private_keeps : (u : LoweredUnit) (own : ℕ) (map : Map) (old : c.World) (w new : World) → Matches u own map old w → IsSound new → new.input ≡ w.input → new.trace ≡ w.trace → ((place : ℕ) → (IsPrivate map (c.objects old) place → ⊥) → slice_get new.objects place ≡ slice_get w.objects place) → ((t : ℕ) (o : LoweredObject) → own ≤ t → slice_get u.objects t ≡ Some o → slice_get new.objects t ≡ slice_get w.objects t) → Matches u own map old new
-private_keeps u own map old w new m sound input trace same tables = record {
+pub private_keeps : (u : LoweredUnit) (own : ℕ) (map : Map) (old : c.World) (w new : World) → Matches u own map old w → IsSound new → new.input ≡ w.input → new.trace ≡ w.trace → ((place : ℕ) → (IsPrivate map (c.objects old) place → ⊥) → slice_get new.objects place ≡ slice_get w.objects place) → ((t : ℕ) (o : LoweredObject) → slice_get u.objects t ≡ Some o → slice_get new.objects t ≡ slice_get w.objects t) → Matches u own map old new
+private_keeps u own map old w new m sound input trace same stay = record {
   held = held_by_same_homes map (c.objects old) w.objects new.objects m.held (λ p x r e f. same r.object.place (λ private. private p x r e f refl));
   made = m.made;
   whole = m.whole;
-  tables = λ t o le e. (tables t o le e ∙ (m.tables t o le e).0, (m.tables t o le e).1);
+  constants = λ t o lt e locked. stay t o e ∙ m.constants t o lt e locked;
+  tables = λ t o le e. (stay t o e ∙ (m.tables t o le e).0, (m.tables t o le e).1);
   input = input ∙ m.input;
   trace = trace ∙ m.trace;
   sound = sound;
@@ -51,6 +53,7 @@ event_keeps u own map old w e m = record {
   held = m.held;
   made = m.made;
   whole = m.whole;
+  constants = m.constants;
   tables = m.tables;
   input = m.input;
   trace = ap (λ (es : List Event). es ++ e ∷ []) m.trace;
@@ -62,6 +65,7 @@ input_keeps u own map old w rest m h = record {
   held = m.held;
   made = m.made;
   whole = m.whole;
+  constants = m.constants;
   tables = m.tables;
   input = refl;
   trace = m.trace;

@@ -80,6 +80,7 @@ starts_match u old input all made read shown sound =
       };
       made = λ m r h. let l = own_made u own m r h in omega (arith, l, made);
       whole = λ p l. own_is u own p l;
+      constants = λ t o lt e locked. starts_there u t o e;
       tables = λ t o le e. (starts_there u t o e, λ p x r f g same. let l = slice_get_within (c.objects old) p x f in let z = placed p x r f g in omega (arith, l, z, same, le));
       input = sym read;
       trace = sym shown;

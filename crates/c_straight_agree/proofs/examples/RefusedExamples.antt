@@ -89,6 +89,7 @@ stands_first = record {
       held = record { held = λ p x e. absurd (let never : ⊥ = cc in never); apart = λ p q x y r s e f n g h. absurd (let never : ⊥ = cc in never) };
       made = λ m r e. absurd (let never : ⊥ = cc in never);
       whole = λ p lt. absurd (omega (arith, lt));
+      constants = λ t o lt e locked. absurd (let never : ⊥ = cc in never);
       tables = λ t o le e. absurd (let never : ⊥ = cc in never);
       input = refl;
       trace = refl;

@@ -138,7 +138,7 @@ module _ (s : Scene) (locals : ℕ) (body : IsBody s locals) (slots : List Slot)
         })
         refl refl
         (λ place open_to. elsewhere place (λ e. open_to (subst (IsPrivate map (c.objects old)) (sym e) (slot_is_private number slot w frame behind there).1)))
-        (λ t o own is. elsewhere t (λ e. let l = slice_get_within s.lowered.objects t o is in let a = body.above in omega (arith, e, l, a)))
+        (λ t o is. elsewhere t (λ e. let l = slice_get_within s.lowered.objects t o is in let a = body.above in omega (arith, e, l, a)))
 
     pub put_frame : InFrame s.frame map old (put_in kind number offset v w)
     put_frame = record { locals = frame.locals; others = frame_stays s map map old old w (put_in kind number offset v w) put_alike (λ place p. p) frame.others }

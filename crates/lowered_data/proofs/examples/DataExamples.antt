@@ -21,7 +21,7 @@ use Rattle.lowered_data.specs.Data.{image, IsAddress, IsDatumOf, HasHome, IsStre
 use Rattle.lowered_data.specs.Fitting.{FitsIn}
 use Rattle.lowered_data.specs.Numbering.{AreNumbered}
 use Rattle.lowered_data.proofs.lemmas.Fitting.{data_fit}
-use Rattle.lowered_data.proofs.lemmas.Numbering.{built_in_range, built_ins_few, numbers_stand}
+use Rattle.lowered_data.proofs.lemmas.Numbering.{built_in_range, numbers_stand}
 use Rattle.op_forest.specs.Units.{built_in_named}
 use Rattle.c_runs.specs.Calls.{built_in_at}
 use Rattle.lowered_data.specs.Initial.{IsInitialData}
@@ -76,6 +76,7 @@ is_initial = record {
     trace = tt;
   };
   made = refl;
+  texts = λ n text e. absurd (let never : ⊥ = cc in never);
   live = refl;
   many = refl;
   homes = (space_holds, tt);
@@ -168,7 +169,7 @@ built_in_names zero i = absurd (let never : ⊥ = cc in never)
 built_in_names (suc zero) i = refl
 built_in_names (suc (suc zero)) i = refl
 built_in_names (suc (suc (suc zero))) i = refl
-built_in_names (suc (suc (suc (suc n)))) i = let r = (built_in_range unit (suc (suc (suc (suc n)))) (built_ins_few unit) i).1 in absurd (let never : ⊥ = omega (arith, r) in never)
+built_in_names (suc (suc (suc (suc n)))) i = let r = (built_in_range unit (suc (suc (suc (suc n)))) i).1 in absurd (let never : ⊥ = omega (arith, r) in never)
 
 numbered : AreNumbered unit lowered
 numbered = record {

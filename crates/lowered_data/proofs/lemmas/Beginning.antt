@@ -5,6 +5,7 @@ use Rattle.lcc_base.specs.declared.order.Order.{Order}
 use Rattle.objects.specs.Objects.{Storage}
 use Rattle.op_forest.specs.declared.lowered.LoweredObject.{LoweredObject}
 use Rattle.c_filling.specs.Starts.{Starts}
+use Rattle.c_types.specs.Table.{types}
 use Rattle.c_meaning.specs.Units.{CoreUnit, IsWhole, unit_seen}
 use Rattle.c_runs.specs.Calls.{Call}
 use Rattle.c_runs.specs.Outcomes.{Next, Result}
@@ -17,6 +18,8 @@ use Rattle.lowered_data.specs.Data.{HaveHomes, IsSoundStorage, image}
 use Rattle.lowered_data.specs.Initial.{IsInitialData}
 use Rattle.lowered_data.specs.Laws.{StartIsSound, StartStandsAlone}
 use Rattle.lowered_data.specs.Still.{are_still_objects}
+use Rattle.lowered_data.proofs.lemmas.Filling.{objects_still}
+use Rattle.lowered_data.proofs.lemmas.Leaving.{texts_are_left}
 
 start_of : (p : Program) (core : CoreUnit) (order : Order) (w : World) → p.core.now ≡ core → p.order ≡ order → Starts p [] (Ok w) → (calls : ℕ → Call → Result) (k : ℕ) → started (setting (unit_seen core) order calls) [] k ≡ Next k (shown w [])
 start_of p core order w c o s = λ calls k.
@@ -39,6 +42,7 @@ initial_is A S p core order w after os c o whole still s same count homes many =
       starts = a.0;
       sound = S core order (shown w []) whole still e;
       made = a.1;
+      texts = texts_are_left (unit_seen core) order (shown w []) (objects_still (types core.types) core.objects ∙ still) e;
       live = sym counted ∙ every;
       many = counted;
       homes = subst (λ (x : Order). HaveHomes (image (unit_seen core) x w.storage.objects) 0 os) o (subst (λ (x : CoreUnit). HaveHomes (image (unit_seen x) p.order w.storage.objects) 0 os) c homes);

@@ -155,7 +155,7 @@ objects_input tags (o ∷ os) w i = objects_input tags os (made (is_const o.of) 
 first_is : (u : UnitTree) (input : List ℕ) → first_world u input ≡ with_input (first_world u []) input
 first_is u input = ap (λ w. with_texts u.texts w) (objects_input u.tags u.objects (empty_world []) input) ∙ texts_input u.texts (with_objects_of u.tags u.objects (empty_world [])) input
 
-objects_made : (tags : List Tag) (os : List ObjectTree) (w : World) → (with_objects_of tags os w).storage.made ≡ w.storage.made + length os
+pub objects_made : (tags : List Tag) (os : List ObjectTree) (w : World) → (with_objects_of tags os w).storage.made ≡ w.storage.made + length os
 objects_made tags [] w = omega arith
 objects_made tags (o ∷ os) w = let h = objects_made tags os (made (is_const o.of) (known_bytes (replicate (size_of tags o.of) 0)) w) in h ∙ omega arith
 

@@ -1,10 +1,9 @@
 -- Names that are numbered stand for what they number.
-use Rattle.std.specs.Prelude.{◌≡◌, ◌≤◌, ◌<◌, ℕ, zero, suc, ◌+◌, ◌-◌, ◌==◌, ◌||◌, nat_lt, not, Bool, true, false, IsSome, is_some, Option, Some, None, List, [], ◌∷◌, ◌++◌, length, find, position, slice_get, codes, if◌then◌else◌}
+use Rattle.std.specs.Prelude.{◌≡◌, ◌≤◌, ◌<◌, ℕ, zero, suc, ◌+◌, ◌-◌, ◌==◌, nat_lt, not, Bool, true, false, IsSome, is_some, Option, Some, None, List, [], ◌∷◌, length, find, position, slice_get, if◌then◌else◌}
 use Rattle.std.specs.List.{prefix_len}
 use Rattle.std.proofs.Common.{refl, ap, cond, ◌∙◌, arith, ⊎_elim}
 use Rattle.std.proofs.lemmas.Bool.{eq-eqb, eqb-true}
 use Rattle.std.proofs.lemmas.Bool.Decides.{nat_tests}
-use Rattle.std.proofs.lemmas.List.{length-append}
 use Rattle.std.proofs.lemmas.Option.{slice_get_past, slice_get_within}
 use Rattle.objects.specs.declared.value.Value.TheVariants.{Function}
 use Rattle.op_forest.specs.Callees.{BuiltIn}
@@ -14,15 +13,14 @@ use Rattle.op_forest.specs.Lowered.{LoweredUnit}
 use Rattle.op_forest.specs.Units.{function_of, object_place, built_in_named}
 use Rattle.forests.specs.Units.{value_by, value_of}
 use Rattle.c_meaning.specs.declared.built_in.BuiltIn.{BuiltIn as Old}
-use Rattle.c_meaning.specs.declared.built_in.BuiltIn.TheVariants.{Putchar, Getchar, Exit}
 use Rattle.c_meaning.specs.Units.{UnitTree}
-use Rattle.c_runs.specs.Calls.{built_in_at, built_ins, first_built_in, function_at, has_function, has_object, unless_defined}
+use Rattle.c_runs.specs.Calls.{built_in_at, built_ins, first_built_in, function_at}
 use Rattle.lowered_data.specs.Laws.{NamesStand}
 use Rattle.lowered_data.specs.Numbering.{AreNumbered}
 
 -- ---- first places
 
-differs : (m n : ℕ) → (m ≡ n → ⊥) → (m == n) ≡ false
+pub differs : (m n : ℕ) → (m ≡ n → ⊥) → (m == n) ≡ false
 differs m n h = by (m == n) refl
   where
     by : (b : Bool) → (m == n) ≡ b → (m == n) ≡ false
@@ -63,7 +61,7 @@ below m n h = search (nat_tests, arith)
 not_below : (n : ℕ) → nat_lt n n ≡ false
 not_below n = search (nat_tests, arith)
 
-placed : {A : Type 0} (p : A → Bool) (xs : List A) (n : ℕ) (x : A) → slice_get xs n ≡ Some x → p x ≡ true → ((k : ℕ) (y : A) → k < n → slice_get xs k ≡ Some y → p y ≡ false) → position p xs ≡ Some n
+pub placed : {A : Type 0} (p : A → Bool) (xs : List A) (n : ℕ) (x : A) → slice_get xs n ≡ Some x → p x ≡ true → ((k : ℕ) (y : A) → k < n → slice_get xs k ≡ Some y → p y ≡ false) → position p xs ≡ Some n
 placed p xs n x e t h =
     let at = first_at p xs n x e t h in
     ap (λ (m : ℕ). cond (nat_lt m (length xs)) (Some m) None) at ∙ ap (λ (b : Bool). cond b (Some n) None) (below n (length xs) (slice_get_within xs n x e))
@@ -79,20 +77,16 @@ one_there (x ∷ xs) (suc n) h = one_there xs n (omega (arith, h))
 
 -- ---- functions
 
-function_there : (u : UnitTree) (l : LoweredUnit) → AreNumbered u l → (f : ℕ) → f < length u.functions → (g : LoweredFunction) × (function_of l f ≡ Some g)
-function_there u l a f h =
-    let many = a.many in
-    let g = one_there l.functions f (omega (arith, h, many)) in (
-      g.0,
-      found (λ x. x.name == f) l.functions f g.0 g.1 (eq-eqb g.0.name f (a.functions f g.0 g.1))
-          (λ k y less e. differs y.name f (λ same. let own = a.functions k y e in let never : ⊥ = omega (arith, own, same, less) in never)),
-    )
+pub function_there : (u : UnitTree) (l : LoweredUnit) → AreNumbered u l → (f : ℕ) (g : LoweredFunction) → slice_get l.functions f ≡ Some g → function_of l f ≡ Some g
+function_there u l a f g h =
+    found (λ x. x.name == f) l.functions f g h (eq-eqb g.name f (a.functions f g h))
+    (λ k y less e. differs y.name f (λ same. let own = a.functions k y e in let never : ⊥ = omega (arith, own, same, less) in never))
 
-no_function : (u : UnitTree) (l : LoweredUnit) → AreNumbered u l → (f : ℕ) → length u.functions ≤ f → function_of l f ≡ None
+pub no_function : (u : UnitTree) (l : LoweredUnit) → AreNumbered u l → (f : ℕ) → length u.functions ≤ f → function_of l f ≡ None
 no_function u l a f h = none_found (λ x. x.name == f) l.functions (λ k y e. differs y.name f (λ same.
     let own = a.functions k y e in let less = slice_get_within l.functions k y e in let many = a.many in let never : ⊥ = omega (arith, own, same, less, many, h) in never))
 
-no_object : (u : UnitTree) (l : LoweredUnit) → AreNumbered u l → (f : ℕ) → first_built_in u ≤ f → f < first_built_in u + 3 → object_place l f ≡ None
+pub no_object : (u : UnitTree) (l : LoweredUnit) → AreNumbered u l → (f : ℕ) → first_built_in u ≤ f → f < first_built_in u + length (built_ins u) → object_place l f ≡ None
 no_object u l a f h i = none_placed (λ x. x.name == f) l.objects (λ k y e. differs y.name f (λ same. by k y e same (nat_lt k (length u.objects + length u.texts)) refl))
   where
     by : (k : ℕ) (y : LoweredObject) → slice_get l.objects k ≡ Some y → y.name ≡ f → (b : Bool) → nat_lt k (length u.objects + length u.texts) ≡ b → ⊥
@@ -116,34 +110,20 @@ value_built l f e p b =
     by (Some x) h = refl
     by None h = absurd (let never : ⊥ = cc in never)
 
-few : (a b c : List Old) → length a ≤ 1 → length b ≤ 1 → length c ≤ 1 → length (a ++ (b ++ c)) ≤ 3
-few a b c p q r = let x = length-append a (b ++ c) in let y = length-append b c in omega (arith, x, y, p, q, r)
-
-one_or_none : (d : Bool) (x : Old) → length (if d then [] else x ∷ []) ≤ 1
-one_or_none true x = omega arith
-one_or_none false x = omega arith
-
-pub built_ins_few : (u : UnitTree) → length (built_ins u) ≤ 3
-built_ins_few u =
-    few (unless_defined u (codes "putchar") Putchar) (unless_defined u (codes "getchar") Getchar) (unless_defined u (codes "exit") Exit)
-    (one_or_none (has_function u.functions (codes "putchar") || has_object u.objects (codes "putchar")) Putchar)
-    (one_or_none (has_function u.functions (codes "getchar") || has_object u.objects (codes "getchar")) Getchar)
-    (one_or_none (has_function u.functions (codes "exit") || has_object u.objects (codes "exit")) Exit)
-
-pub built_in_range : (u : UnitTree) (f : ℕ) → length (built_ins u) ≤ 3 → IsSome (built_in_at u f) → (first_built_in u ≤ f) × (f < first_built_in u + 3)
-built_in_range u f m h = by (nat_lt f (first_built_in u)) refl h
+pub built_in_range : (u : UnitTree) (f : ℕ) → IsSome (built_in_at u f) → (first_built_in u ≤ f) × (f < first_built_in u + length (built_ins u))
+built_in_range u f h = by (nat_lt f (first_built_in u)) refl h
   where
     some_in : (o : Option Old) → IsSome o → (x : Old) × (o ≡ Some x)
     some_in (Some x) i = (x, refl)
     some_in None i = absurd (let never : ⊥ = cc in never)
 
-    by : (b : Bool) → nat_lt f (first_built_in u) ≡ b → IsSome (if b then None else slice_get (built_ins u) (f - first_built_in u)) → (first_built_in u ≤ f) × (f < first_built_in u + 3)
+    by : (b : Bool) → nat_lt f (first_built_in u) ≡ b → IsSome (if b then None else slice_get (built_ins u) (f - first_built_in u)) → (first_built_in u ≤ f) × (f < first_built_in u + length (built_ins u))
     by true t i = absurd (let never : ⊥ = cc in never)
     by false t i =
         let x = some_in (slice_get (built_ins u) (f - first_built_in u)) i in
         let less = slice_get_within (built_ins u) (f - first_built_in u) x.0 x.1 in
         let more : first_built_in u ≤ f = search (nat_tests, arith) in
-        (more, omega (arith, less, m, more))
+        (more, omega (arith, less, more))
 
 -- ---- all of them
 
@@ -172,10 +152,14 @@ numbers_stand u l a = record {
             absurd (let e = ap (λ o. is_some o) none in let never : ⊥ = cc in never)
 
     own : (f : ℕ) → IsSome (function_at u f) → value_of l f ≡ Some (Function f)
-    own f i = let g = function_there u l a f (within f i) in value_there l f g.0 g.1
+    own f i =
+        let many = a.many in
+        let less = within f i in
+        let g = one_there l.functions f (omega (arith, less, many)) in
+        value_there l f g.0 (function_there u l a f g.0 g.1)
 
     built : (f : ℕ) → IsSome (built_in_at u f) → value_of l f ≡ Some (Function f)
     built f i =
-        let r = built_in_range u f (built_ins_few u) i in
+        let r = built_in_range u f i in
         let more = r.0 in
         value_built l f (no_function u l a f (omega (arith, more))) (no_object u l a f r.0 r.1) (a.built_ins f i)

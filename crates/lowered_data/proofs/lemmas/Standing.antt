@@ -45,17 +45,17 @@ use Rattle.lowered_data.proofs.lemmas.Readings.{lives}
 
 -- ---- lists
 
-front_there : {A : Type 0} (xs ys : List A) (n : ℕ) (x : A) → slice_get xs n ≡ Some x → slice_get (xs ++ ys) n ≡ Some x
+pub front_there : {A : Type 0} (xs ys : List A) (n : ℕ) (x : A) → slice_get xs n ≡ Some x → slice_get (xs ++ ys) n ≡ Some x
 front_there [] ys n x e = absurd (let never : ⊥ = cc in never)
 front_there (z ∷ zs) ys zero x e = e
 front_there (z ∷ zs) ys (suc n) x e = front_there zs ys n x e
 
-one_there : {A : Type 0} (xs : List A) (n : ℕ) → n < length xs → (x : A) × (slice_get xs n ≡ Some x)
+pub one_there : {A : Type 0} (xs : List A) (n : ℕ) → n < length xs → (x : A) × (slice_get xs n ≡ Some x)
 one_there [] n h = absurd (let never : ⊥ = omega arith in never)
 one_there (x ∷ xs) zero h = (x, refl)
 one_there (x ∷ xs) (suc n) h = one_there xs n (omega (arith, h))
 
-home_at : (m : Image) (from place n : ℕ) (os : List LoweredObject) (o : LoweredObject) → HaveHomes m from os → slice_get os n ≡ Some o → place ≡ from + n → HasHome m place o
+pub home_at : (m : Image) (from place n : ℕ) (os : List LoweredObject) (o : LoweredObject) → HaveHomes m from os → slice_get os n ≡ Some o → place ≡ from + n → HasHome m place o
 home_at m from place n [] o h e p = absurd (let never : ⊥ = cc in never)
 home_at m from place zero (x ∷ xs) o h e p =
     let same : x ≡ o = cc in
@@ -63,7 +63,7 @@ home_at m from place zero (x ∷ xs) o h e p =
     subst (λ (y : LoweredObject). HasHome m place y) same (subst (λ (k : ℕ). HasHome m k x) here h.0)
 home_at m from place (suc n) (x ∷ xs) o h e p = home_at m (from + 1) place n xs o h.1 e (omega (arith, p))
 
-some_is : {A : Type 0} (x y : A) → ◌≡◌ {A = Option A} (Some x) (Some y) → x ≡ y
+pub some_is : {A : Type 0} (x y : A) → ◌≡◌ {A = Option A} (Some x) (Some y) → x ≡ y
 some_is x y e = cc
 
 -- ---- a lowered unit that begins so

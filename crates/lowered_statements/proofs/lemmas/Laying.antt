@@ -1,5 +1,5 @@
 -- The slots of a function's locals are a frame.
-use Rattle.std.specs.Prelude.{◌≡◌, ℕ, suc, ◌+◌, ◌*◌, ◌/◌, ℤ, pos, ◌+ℤ◌, ◌-ℤ◌, ◌≤ℤ◌, Bool, true, false, List, [], ◌∷◌, ◌++◌, take, drop}
+use Rattle.std.specs.Prelude.{◌≡◌, ℕ, suc, ◌+◌, ◌*◌, ◌/◌, ◌-◌, ℤ, pos, ◌+ℤ◌, ◌-ℤ◌, ◌≤ℤ◌, Bool, true, false, List, [], ◌∷◌, ◌++◌, take, drop}
 use Rattle.std.proofs.Common.{refl, sym, subst, arith, append-nil}
 use Rattle.std.proofs.lemmas.Int.{ints}
 use Rattle.op_forest.specs.declared.frame.Slot.{Slot}
@@ -25,7 +25,7 @@ slot_frame size slots frame =
     let four = lowest_four slots (pos 0) (0, refl) frame.four in
     let is = ends_at_low (lowest slots) (rounded size) in
     frame_with slots (slot_under size slots) frame
-    (four_under (lowest slots) ((size + 3) / 4) four)
+    (four_under (lowest slots) ((size - 1) / 4 + 1) four)
     (subst (λ (z : ℤ). z ≤ℤ pos 0) (sym is) low.0)
     (λ i s e. subst (λ (z : ℤ). z ≤ℤ s.offset) (sym is) (low.1 i s e))
 

@@ -51,6 +51,7 @@ starts_empty = record {
   starts = λ calls input k. refl;
   sound = record { own = omega arith; others = []; live = refl; objects = tt; locals = tt; input = tt; trace = tt };
   made = refl;
+  texts = λ n text e. absurd (let never : ⊥ = cc in never);
   live = refl;
   many = refl;
   homes = tt;

@@ -1,0 +1,4 @@
+pub mod BuiltIns
+pub mod Expressions
+pub mod Bodies
+pub mod Units
