@@ -14,7 +14,7 @@ use Rattle.c_meaning.specs.CoreTrees.{Core, CoreOf, CoresOf, NoCore, Cores, all_
 use Rattle.c_meaning.specs.StmtTrees.{FilledOf, StmtOf, Nothing, Expression, Initialise, Block, If, While, Do, For, Switch, Label, Goto, Break, Continue, Return, StmtsOf, NoStmt, Stmts, maybe_seen, place_seen, stmt_of, stmt_seen, stmts_seen}
 use Rattle.c_meaning.specs.Units.{CoreUnit, ObjectTree, all_count, count, function_seen, object_seen, unit_seen}
 use Rattle.c_meaning.specs.Values.{CoreTree}
-use Rattle.c_runs.specs.Counts.{data_count, frame_count, node_count, rounded_size, sum}
+use Rattle.c_runs.specs.Counts.{data_count, frame_count, local_room, node_count, rounded_size, sum}
 use Rattle.lowering_limits.specs.Nodes.{filled_nodes, nodes_of, some_nodes, stmt_nodes, stmts_nodes}
 use Rattle.lowering_limits.specs.Sizes.{bytes_at, local_bytes, object_bytes, text_bytes}
 
@@ -103,8 +103,8 @@ sum_map g f (x ∷ xs) = ap (λ n. g (f x) + n) (sum_map g f xs)
 pub frame_is : (t : Table) (x : CoreFunction) → local_bytes t (drop (min x.parameters (length x.locals)) x.locals) ≡ frame_count (tags t) (function_seen (types t) x)
 frame_is t x =
     ap (local_bytes t) (drop_most x.parameters x.locals)
-    ∙ sym (sum_map (rounded_size (tags t)) (type_in (types t)) (drop x.parameters x.locals))
-    ∙ ap (λ (ys : List CType). sum (map (rounded_size (tags t)) ys)) (sym (drop_map (type_in (types t)) x.parameters x.locals))
+    ∙ sym (sum_map (local_room (tags t)) (type_in (types t)) (drop x.parameters x.locals))
+    ∙ ap (λ (ys : List CType). sum (map (local_room (tags t)) ys)) (sym (drop_map (type_in (types t)) x.parameters x.locals))
 
 pub objects_are : (t : Table) (os : List CoreObject) → object_bytes t os ≡ sum (map (λ (o : ObjectTree). rounded_size (tags t) o.of) (map (object_seen (types t)) os))
 objects_are t os = sym (sum_map (λ (o : ObjectTree). rounded_size (tags t) o.of) (object_seen (types t)) os)

@@ -3,7 +3,7 @@ ghost use Rattle.std.specs.Prelude.{◌≡◌, ◌+◌, ◌<◌, ◌^◌, IfOk, 
 ghost use Rattle.c_types.specs.Layout.{round_up};
 ghost use Rattle.c_types.specs.Table.{tags, type_at, types as all_types};
 ghost use Rattle.c_meaning.specs.Units.{function_seen, object_seen};
-ghost use Rattle.c_runs.specs.Counts.{eights, frame_count, rounded_size};
+ghost use Rattle.c_runs.specs.Counts.{eights, frame_count, local_room, rounded_size};
 ghost use Rattle.lowering_limits.specs.Sizes.{local_bytes, object_bytes, text_bytes};
 
 use crate::plus::plus;
@@ -11,8 +11,8 @@ use c_meaning::{CoreFunction, CoreObject};
 use c_types::{TypeId, TypeTable};
 use lcc_base::{Bytes, Memory};
 
-/// The bytes of a function's local objects that are no parameters, each rounded up to a multiple of 8. `Memory` where they
-/// are 2^64 or more.
+/// The bytes of a function's local objects that are no parameters, each rounded up to a multiple of 8, and 8 of one without a
+/// byte. `Memory` where they are 2^64 or more.
 #[tactic(auto, using(crate::proofs::Seen::frame_is))]
 pub(crate) fn frame_bytes(types: &TypeTable, f: &CoreFunction) -> Result<u64, Memory>
     ensures { IfOk result (λ n. n ≡ frame_count (tags types.now) (function_seen (all_types types.now) f.now)) }
@@ -29,7 +29,7 @@ fn of_locals(types: &TypeTable, locals: &[TypeId]) -> Result<u64, Memory>
 {
     let mut count: u64 = 0;
     for id in locals {
-        count = plus(count, size(types, *id))?;
+        count = plus(count, room(types, *id))?;
     }
     Ok(count)
 }
@@ -55,6 +55,14 @@ pub(crate) fn of_texts(texts: &[Bytes], before: u64) -> Result<u64, Memory>
         count = plus(count, rounded(length)?)?;
     }
     Ok(count)
+}
+
+/// The room of a local object of the type: its size, rounded up to a multiple of 8, and 8 where it has no byte.
+fn room(types: &TypeTable, id: TypeId) -> u64
+    ensures { result ≡ local_room (tags types.now) (type_at types.now id) }
+{
+    let bytes = size(types, id);
+    if bytes == 0 { 8 } else { bytes }
 }
 
 /// The size of an object of the type, rounded up to a multiple of 8; 0 where it has none.

@@ -1,8 +1,9 @@
 -- Counts of small functions, and how deep runs go.
-use Rattle.std.specs.Prelude.{◌≡◌, refl, ◌+◌, ◌*◌, codes, [], ◌∷◌}
+use Rattle.std.specs.Prelude.{◌≡◌, refl, ◌+◌, ◌*◌, codes, false, Some, [], ◌∷◌}
 use Rattle.lcc_base.specs.declared.order.Order.TheVariants.{Little}
 use Rattle.objects.specs.declared.operators.Binary.TheVariants as binary
-use Rattle.c_types.specs.CType.{CType}
+use Rattle.c_types.specs.CType.{CType, Plain, Structure}
+use Rattle.c_types.specs.Layout.{Tag}
 use Rattle.c_meaning.specs.Units.{FunctionTree, UnitTree}
 use Rattle.c_runs.specs.Below.{below}
 use Rattle.c_runs.specs.Run.{calls_below, call, context, run_tree}
@@ -33,6 +34,13 @@ copying = main (array char 3 ∷ pair ∷ pair ∷ pair ∷ []) (act (call_at 2 
 
 frame : frame_count (pair_tag ∷ []) copying ≡ 32
 frame = refl
+
+-- struct { int : 0; } a, b; have no byte, but places of their own
+abbrev empty_tag : Tag
+empty_tag = record { number = 0; is_union = false; members = record { name = []; of = int; width = Some 0 } ∷ [] }
+
+empty_frame : frame_count (empty_tag ∷ []) (main (Plain 0 (Structure 0) ∷ Plain 0 (Structure 0) ∷ []) []) ≡ 16
+empty_frame = refl
 
 -- struct s g(struct s p) { return p; }
 abbrev given : FunctionTree
