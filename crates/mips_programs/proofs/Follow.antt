@@ -34,7 +34,7 @@ use Rattle.asm_text.specs.Addresses.{code_start, data_start, stack_top, floor_of
 use Rattle.mips_machine.specs.Operations.{combined, cause_of}
 use Rattle.mips_machine.specs.State.{Cpu}
 use Rattle.mips_machine.specs.StepTable.{register, value_of, writes, writes_unless, calls as calls_at, act}
-use Rattle.slot_allocator.specs.SlotCounts.{UsesSlotsBelow}
+use Rattle.vcode.specs.SlotsBelow.{UsesSlotsBelow}
 use Rattle.mips_rules.specs.declared.arithmetic.Arithmetic.{Arithmetic}
 use Rattle.mips_rules.specs.declared.arithmetic.Arithmetic.TheVariants as arithmetic
 use Rattle.mips_rules.specs.declared.instr.Instr.{Instr}
@@ -44,7 +44,7 @@ use Rattle.mips_rules.specs.Instructions.{combined as combined_by, lost_at_calls
 use Rattle.mips_rules.specs.Mips.{mips}
 use Rattle.mips_target.specs.FunctionCode.{in_frame, binary_of, epilogue, loads_of, call_of, unmarked, body_of}
 use Rattle.mips_target.specs.Items.{StandsIn}
-use Rattle.mips_target.specs.Registers.{NamesAmong}
+use Rattle.vcode.specs.NamesAmong.{NamesAmong}
 use Rattle.mips_target.specs.Sizes.{Fits}
 use Rattle.mips_target.specs.Generated.{temporaries}
 use Rattle.mips_programs.specs.Working.{AreBytes, Working, on, runs, Gets}

@@ -9,7 +9,7 @@ use Rattle.forests.specs.Words.{Word}
 use Rattle.objects.specs.declared.byte.Byte.{Byte}
 use Rattle.forests.specs.Objects.{Object}
 use Rattle.forests.specs.Worlds.{with_arguments, Point, at_world}
-use Rattle.slot_allocator.specs.Values.{slot_at, slot_off}
+use Rattle.vcode.proofs.lemmas.SlotValues.{slot_at, slot_off}
 use Rattle.vcode.specs.Execution.{State, with_value, with_slot}
 use Rattle.vcode.specs.VirtualCode.{among}
 use Rattle.vcode.specs.Maps.{Map, IsWord, Lies, IsAt}

@@ -54,6 +54,7 @@ module _ (u : LoweredUnit) (p : MProgram) (room : ℕ → ℕ) (of_unit : IsProg
         selected = c.selected;
         allocated = c.allocated;
         layout = c.layout;
+        form = c.form;
         follows = c.follows;
         slots = c.slots;
         among = c.registers;

@@ -14,7 +14,7 @@ use Rattle.mips_rules.specs.declared.instr.Source.TheVariants as source
 use Rattle.mips_rules.specs.Mips.{mips}
 use Rattle.mips_target.specs.declared.layout.Layout.{Layout}
 use Rattle.mips_target.specs.FunctionCode.{most_handed, argument_words}
-use Rattle.mips_target.specs.Registers.{NamesAmong}
+use Rattle.vcode.specs.NamesAmong.{NamesAmong}
 use Rattle.mips_target.specs.Sizes.{Fits}
 use Rattle.mips_target.specs.Generated.{temporaries}
 use Rattle.mips_target.proofs.Arguments.{handed_first}

@@ -21,7 +21,7 @@ use Rattle.mips_target.specs.Bounds.{lowered_by, lowered_behind, goes_on, leads_
 use Rattle.mips_target.specs.Frame.{frame_size}
 use Rattle.mips_target.specs.FunctionCode.{in_frame, binary_of, operand_of, epilogue, loads_of, instructions_of, handed_behind, unmarked, function_code}
 use Rattle.mips_target.specs.Generated.{temporaries}
-use Rattle.mips_target.specs.Registers.{AreAmong, NamesAmong}
+use Rattle.vcode.specs.NamesAmong.{AreAmong, NamesAmong}
 use Rattle.mips_target.proofs.Unmarked.{body_instructions, function_instructions, function_unmarked}
 
 -- From here on, with the stack pointer lowered by so many bytes, each instruction that is reached leaves it within the

@@ -13,7 +13,7 @@ use Rattle.mips_target.specs.CalledNames.{CallsAre}
 use Rattle.mips_target.specs.Frame.{frame_size}
 use Rattle.mips_target.specs.FunctionCode.{argument_words, function_code}
 use Rattle.mips_target.specs.Items.{CodeItem, lines_in}
-use Rattle.mips_target.specs.Registers.{NamesAmong}
+use Rattle.vcode.specs.NamesAmong.{NamesAmong}
 use Rattle.mips_target.specs.Sizes.{Fits}
 use Rattle.mips_target.specs.Emits.{Emits}
 use Rattle.mips_target.specs.Allocated.{IsAllocated}
@@ -62,6 +62,7 @@ module _ (roots : List Node) (c : MAllocated Instr) (a : IsAllocated roots c) wh
         selected = s;
         allocated = c.code;
         layout = layout_for c;
+        form = a.form;
         follows = a.follows;
         slots = a.below;
         registers = subst (NamesAmong mips temporaries) (sym a.code) (code_names_among roots s.derivations v s.linearised);

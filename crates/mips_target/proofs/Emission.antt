@@ -21,7 +21,7 @@ use Rattle.mips_rules.specs.Mips.{mips}
 use Rattle.mips_rules.specs.MipsRules.{name_of, name_in, mips_rules}
 use Rattle.mips_rules.specs.OperatorNumbers.{is_addrgp}
 use Rattle.mips_target.specs.FunctionCode.{most_handed, argument_words}
-use Rattle.mips_target.specs.Registers.{NamesAmong}
+use Rattle.vcode.specs.NamesAmong.{NamesAmong}
 use Rattle.mips_target.specs.Sizes.{Fits}
 use Rattle.mips_target.specs.Generated.{temporaries}
 use Rattle.mips_target.proofs.CoveredRoots.{each_both, each_root, IsCovered, AreCovered}

@@ -14,8 +14,10 @@ use Rattle.vcode.specs.Roots.{AreDerived}
 use Rattle.vcode.specs.VirtualCode.{MCode, MAllocated}
 use Rattle.vcode.specs.Emission.{IsLinearised}
 use Rattle.slot_allocator.specs.Slots.{allotted}
-use Rattle.slot_allocator.specs.SlotCounts.{slots_needed, UsesSlotsBelow}
-use Rattle.slot_allocator.specs.Following.{Follows}
+use Rattle.vcode.specs.SlotsBelow.{UsesSlotsBelow}
+use Rattle.slot_allocator.specs.SlotCounts.{slots_needed}
+use Rattle.vcode.specs.Allocation.{IsAllocation}
+use Rattle.vcode.specs.Following.{Follows}
 use Rattle.mips_rules.specs.declared.instr.Instr.{Instr}
 use Rattle.mips_rules.specs.Mips.{mips}
 use Rattle.mips_rules.specs.MipsRules.{mips_rules}
@@ -55,6 +57,6 @@ pub selected : {E : Type 0} (d : MDescription) (roots : List Node) (xs : List MD
 selected d roots xs (Ok v) shipped best linearised = record { description = d; shipped = shipped; derivations = xs; best = best; linearised = linearised }
 selected d roots xs (Err e) shipped best linearised = tt
 
-pub allocated : {E : Type 0} (roots : List Node) (v : MCode Instr) (result : Result (MAllocated Instr) E) → IsSelected roots v → IfOk result (λ c. c.code ≡ allotted mips temporaries v.code) → IfOk result (λ c. c.slots ≡ slots_needed mips v.code) → IfOk result (λ c. UsesSlotsBelow mips c.slots c.code) → IfOk result (λ c. Follows mips temporaries v.code c.code) → IfOk result (λ c. IsAllocated roots c)
-allocated roots v (Ok c) selected code slots below follows = record { virtual = v; selected = selected; code = code; slots = slots; below = below; follows = follows }
-allocated roots v (Err e) selected code slots below follows = tt
+pub allocated : {E : Type 0} (roots : List Node) (v : MCode Instr) (result : Result (MAllocated Instr) E) → IsSelected roots v → IfOk result (λ c. c.code ≡ allotted mips temporaries v.code) → IfOk result (λ c. c.slots ≡ slots_needed mips v.code) → IfOk result (λ c. UsesSlotsBelow mips c.slots c.code) → IfOk result (λ c. IsAllocation mips temporaries v.code c.code) → IfOk result (λ c. Follows mips temporaries v.code c.code) → IfOk result (λ c. IsAllocated roots c)
+allocated roots v (Ok c) selected code slots below form follows = record { virtual = v; selected = selected; code = code; slots = slots; below = below; form = form; follows = follows }
+allocated roots v (Err e) selected code slots below form follows = tt

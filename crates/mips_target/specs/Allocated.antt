@@ -3,8 +3,10 @@ use Rattle.std.specs.Prelude.{◌≡◌, List}
 use Rattle.op_forest.specs.Nodes.{Node}
 use Rattle.vcode.specs.VirtualCode.{MCode, MAllocated}
 use Rattle.slot_allocator.specs.Slots.{allotted}
-use Rattle.slot_allocator.specs.SlotCounts.{slots_needed, UsesSlotsBelow}
-use Rattle.slot_allocator.specs.Following.{Follows}
+use Rattle.vcode.specs.SlotsBelow.{UsesSlotsBelow}
+use Rattle.slot_allocator.specs.SlotCounts.{slots_needed}
+use Rattle.vcode.specs.Allocation.{IsAllocation}
+use Rattle.vcode.specs.Following.{Follows}
 use Rattle.mips_rules.specs.declared.instr.Instr.{Instr}
 use Rattle.mips_rules.specs.Mips.{mips}
 use Rattle.mips_target.specs.Generated.{temporaries, IsSelected}
@@ -16,4 +18,5 @@ pub record IsAllocated (roots : List Node) (c : MAllocated Instr) : Type 0 where
   pub code : c.code ≡ allotted mips temporaries virtual.code
   pub slots : c.slots ≡ slots_needed mips virtual.code
   pub below : UsesSlotsBelow mips c.slots c.code
+  pub form : IsAllocation mips temporaries virtual.code c.code
   pub follows : Follows mips temporaries virtual.code c.code

@@ -14,8 +14,9 @@ use Rattle.op_forest.specs.Nodes.{Node, nodes, head_of, tree_of}
 use Rattle.op_forest.specs.EachNode.{AtEachNode}
 use Rattle.vcode.specs.VirtualCode.{MCode}
 use Rattle.vcode.specs.Emission.{IsLinearised}
-use Rattle.slot_allocator.specs.SlotCounts.{UsesSlotsBelow}
-use Rattle.slot_allocator.specs.Following.{Follows}
+use Rattle.vcode.specs.SlotsBelow.{UsesSlotsBelow}
+use Rattle.vcode.specs.Allocation.{IsAllocation}
+use Rattle.vcode.specs.Following.{Follows}
 use Rattle.mips_rules.specs.declared.instr.Instr.{Instr}
 use Rattle.mips_rules.specs.Mips.{mips}
 use Rattle.mips_rules.specs.MipsRules.{mips_rules}
@@ -26,7 +27,7 @@ use Rattle.mips_target.specs.CalledNames.{CallsAre}
 use Rattle.mips_target.specs.Frame.{frame_size}
 use Rattle.mips_target.specs.FunctionCode.{function_code}
 use Rattle.mips_target.specs.Items.{CodeItem, lines_in}
-use Rattle.mips_target.specs.Registers.{NamesAmong}
+use Rattle.vcode.specs.NamesAmong.{NamesAmong}
 use Rattle.mips_target.specs.Sizes.{Fits}
 use Rattle.mips_target.specs.UnitLines.{Coded, numbered, function_items, unit_lines}
 use Rattle.mips_target.specs.Emits.{Emits}
@@ -54,9 +55,11 @@ code_bound n = 256 + 32 * n
 pub record IsCodeOf (u : LoweredUnit) (labels : ℕ → List ℕ) (roots : List Node) (items : List (CodeItem MInstruction)) : Type 0 where
   pub virtual : MCode Instr
   pub selected : IsSelected roots virtual
-  -- code over the machine's registers and the frame's slots, which does what the virtual code does
+  -- code over the machine's registers and the frame's slots, which does what the virtual code does: its instructions in
+  -- order, with slot loads, slot stores and copies put in
   pub allocated : List Instr
   pub layout : Layout
+  pub form : IsAllocation mips temporaries virtual.code allocated
   pub follows : Follows mips temporaries virtual.code allocated
   pub slots : UsesSlotsBelow mips layout.slots allocated
   pub registers : NamesAmong mips temporaries allocated

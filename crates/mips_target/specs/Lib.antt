@@ -1,6 +1,5 @@
 pub mod Frame
 pub mod Items
-pub mod Registers
 pub mod FunctionCode
 pub mod Sizes
 pub mod UnitLines

@@ -6,7 +6,8 @@ use Rattle.vcode.specs.declared.operand.Operand.{Operand}
 use Rattle.vcode.specs.Machines.{Machine, Kind, Plain, Mark, Load, Store, Copy, reads_one, writes_one}
 use Rattle.vcode.specs.VirtualCode.{is_virtual, among, AreBelow, NamesBelow, UsesSlot, UsesNoSlot}
 use Rattle.slot_allocator.specs.Slots.{slot_of, is_loaded, is_stored, loads, stores, renamed, spilled, allotted, AreTemporaries}
-use Rattle.slot_allocator.specs.SlotCounts.{slots_for, slots_needed, virtual_in, virtual_operands, HasSlotBelow, UsesSlotsBelow}
+use Rattle.vcode.specs.SlotsBelow.{HasSlotBelow, UsesSlotsBelow}
+use Rattle.slot_allocator.specs.SlotCounts.{slots_for, slots_needed, virtual_in, virtual_operands}
 use Rattle.slot_allocator.proofs.Stretches.{names_append}
 use Rattle.slot_allocator.proofs.Renaming.{to_temporaries, renames}
 

@@ -5,3 +5,4 @@ pub mod Stretches
 pub mod Values
 pub mod Spilling
 pub mod Runs
+pub mod Allocation

@@ -10,8 +10,8 @@ use Rattle.vcode.specs.declared.operand.Operand.{Operand}
 use Rattle.vcode.specs.Machines.{Machine}
 use Rattle.vcode.specs.Execution.{State, reads, effect, state_by, is_mark, code_behind, at_mark, moved, executed}
 use Rattle.vcode.specs.VirtualCode.{is_virtual, among, results, UsesSlot, UsesNoSlot, IsStretch, joined, MCode, IsVirtualCode}
-use Rattle.slot_allocator.specs.Slots.{slot_of, is_loaded, is_stored, loads, stores, renamed, allotted, AreTemporaries, is_kept, AreKept, NamesKept}
-use Rattle.slot_allocator.specs.Following.{Follows}
+use Rattle.slot_allocator.specs.Slots.{slot_of, is_loaded, is_stored, loads, stores, renamed, allotted, AreTemporaries, AreKept, NamesKept}
+use Rattle.vcode.specs.Following.{is_kept, Follows}
 use Rattle.slot_allocator.proofs.Renaming.{renames}
 use Rattle.slot_allocator.proofs.Stretches.{Rest, all_rest, step, mark_bare, rest_behind, no_slot_of_code}
 use Rattle.slot_allocator.proofs.Spilling.{comes_loads, comes_stores, loaded, stored, Temporaries, Names, Agrees, loaded_agrees, effect_same, agrees_after, stored_nothing, writes_nothing}

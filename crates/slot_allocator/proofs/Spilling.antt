@@ -11,7 +11,7 @@ use Rattle.vcode.specs.Execution.{State, with_value, with_slot, reads, first_of,
 use Rattle.vcode.specs.VirtualCode.{is_virtual, among, results, ReadsOnly, UsesSlot}
 use Rattle.slot_allocator.specs.Slots.{slot_of, is_loaded, is_stored, loads, stores}
 use Rattle.slot_allocator.proofs.Renaming.{to_temporaries, Renames}
-use Rattle.slot_allocator.specs.Values.{slot_at, slot_off}
+use Rattle.vcode.proofs.lemmas.SlotValues.{slot_at, slot_off}
 use Rattle.slot_allocator.proofs.Values.{value_at, value_off, value_same, kept_value, slots_differ, among_append, not_first, not_later, among_none, OthersThan, written_off, written_same}
 
 read_same : (w : Bool) (x y : Word) (xs ys : List Word) → (w ≡ false → x ≡ y) → xs ≡ ys → (if w then xs else x ∷ xs) ≡ (if w then ys else y ∷ ys)

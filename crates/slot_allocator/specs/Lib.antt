@@ -1,4 +1,2 @@
 pub mod Slots
 pub mod SlotCounts
-pub mod Values
-pub mod Following

@@ -1,7 +1,7 @@
 -- How many spill slots code has, and how many of its operands are virtual.
-use Rattle.std.specs.Prelude.{ℕ, ◌+◌, ◌-◌, ◌<◌, max, ℤ, pos, negsuc, List, [], ◌∷◌, if◌then◌else◌}
+use Rattle.std.specs.Prelude.{ℕ, ◌+◌, ◌-◌, max, List, [], ◌∷◌, if◌then◌else◌}
 use Rattle.vcode.specs.declared.operand.Operand.{Operand}
-use Rattle.vcode.specs.Machines.{Machine, Kind, Plain, Mark, Load, Store, Copy}
+use Rattle.vcode.specs.Machines.{Machine}
 use Rattle.vcode.specs.VirtualCode.{is_virtual}
 
 -- The greatest virtual register less 63, or 0 where none is virtual: virtual registers begin at 64, and slots at 0.
@@ -22,19 +22,3 @@ virtual_in (o ∷ os) = (if is_virtual o.reg then 1 else 0) + virtual_in os
 abbrev pub virtual_operands : {I : Type 0} → Machine I → List I → ℕ
 virtual_operands m [] = 0
 virtual_operands m (i ∷ is) = virtual_in (m.operands i) + virtual_operands m is
-
-abbrev pub IsSlotBelow : ℕ → ℤ → Type 0
-IsSlotBelow limit (pos n) = n < limit
-IsSlotBelow limit (negsuc n) = ⊥
-
-abbrev pub HasSlotBelow : ℕ → Kind → Type 0
-HasSlotBelow limit Plain = Unit {0}
-HasSlotBelow limit (Mark l) = Unit {0}
-HasSlotBelow limit (Load z) = IsSlotBelow limit z
-HasSlotBelow limit (Store z) = IsSlotBelow limit z
-HasSlotBelow limit Copy = Unit {0}
-
--- each slot that the code loads or stores is from 0 and below the limit
-abbrev pub UsesSlotsBelow : {I : Type 0} → Machine I → ℕ → List I → Type 0
-UsesSlotsBelow m limit [] = Unit {0}
-UsesSlotsBelow m limit (i ∷ is) = HasSlotBelow limit (m.kind i) × UsesSlotsBelow m limit is

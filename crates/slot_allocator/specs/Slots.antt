@@ -5,6 +5,7 @@ use Rattle.std.specs.Prelude.{ℕ, suc, ◌-◌, ℤ, pos, List, [], ◌∷◌, 
 use Rattle.vcode.specs.declared.operand.Operand.{Operand}
 use Rattle.vcode.specs.Machines.{Machine}
 use Rattle.vcode.specs.VirtualCode.{is_virtual, among}
+use Rattle.vcode.specs.Following.{is_kept}
 
 -- the slot of a virtual register
 abbrev pub slot_of : ℕ → ℤ
@@ -46,10 +47,6 @@ allotted m ts (i ∷ is) = spilled m ts i ++ allotted m ts is
 abbrev pub AreTemporaries : {I : Type 0} → Machine I → List ℕ → Type 0
 AreTemporaries m [] = Unit {0}
 AreTemporaries m (t ∷ ts) = IsTrue ((not (is_virtual t) && not (m.scratch t)) && not (among t ts)) × AreTemporaries m ts
-
--- a machine register that is no temporary, and which the slot instructions keep
-abbrev pub is_kept : {I : Type 0} → Machine I → List ℕ → ℕ → Bool
-is_kept m ts r = (not (is_virtual r) && not (m.scratch r)) && not (among r ts)
 
 abbrev pub AreKept : {I : Type 0} → Machine I → List ℕ → List Operand → Type 0
 AreKept m ts [] = Unit {0}

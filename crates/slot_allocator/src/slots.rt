@@ -2,8 +2,10 @@
 ghost use Rattle.std.specs.Prelude.{◌≡◌, ℕ, ◌+◌, ◌-◌, ◌<◌, ◌≤◌, ◌^◌, ◌++◌, ◌∷◌, [], length, IfOk, OnOk};
 ghost use Rattle.vcode.specs.VirtualCode.{AreBelow};
 ghost use Rattle.slot_allocator.specs.Slots.{slot_of, is_loaded, is_stored, loads, stores, renamed, spilled, allotted, AreTemporaries, NamesKept};
-ghost use Rattle.slot_allocator.specs.SlotCounts.{slots_for, slots_needed, virtual_operands, UsesSlotsBelow};
-ghost use Rattle.slot_allocator.specs.Following.{Follows};
+ghost use Rattle.vcode.specs.SlotsBelow.{UsesSlotsBelow};
+ghost use Rattle.slot_allocator.specs.SlotCounts.{slots_for, slots_needed, virtual_operands};
+ghost use Rattle.vcode.specs.Allocation.{IsAllocation};
+ghost use Rattle.vcode.specs.Following.{Follows};
 
 use lcc_base::{Items, Memory};
 use std::alloc::Global;
@@ -27,6 +29,7 @@ pub fn give_slots<T: Target>(
     ensures slots { IfOk result (λ c. c.slots ≡ slots_needed T.machine code.code) }
     ensures fits { IfOk result (λ c. UsesSlotsBelow T.machine c.slots c.code) }
     ensures added { IfOk result (λ c. length c.code ≡ length code.code + virtual_operands T.machine code.code) }
+    ensures form { IfOk result (λ c. IsAllocation T.machine temporaries.now code.code c.code) }
     ensures agrees { IfOk result (λ c. Follows T.machine temporaries.now code.code c.code) }
 {
     let mut into = Items::new(alloc);

@@ -12,3 +12,4 @@ pub mod Stretches
 pub mod Emitting
 pub mod Forests
 pub mod WellFormedRoots
+mod examples

@@ -10,3 +10,7 @@ pub mod Templates
 pub mod Adding
 pub mod Roots
 pub mod Maps
+pub mod SlotsBelow
+pub mod Following
+pub mod Allocation
+pub mod NamesAmong

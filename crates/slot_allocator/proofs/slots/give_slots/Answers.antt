@@ -3,9 +3,11 @@ use Rattle.std.specs.Vec.Iter.{into_iter_items}
 use Rattle.vcode.specs.VirtualCode.{NamesBelow}
 use Rattle.slot_allocator.specs.Slots.{allotted}
 use Rattle.slot_allocator.specs.SlotCounts.{slots_needed}
-use Rattle.slot_allocator.specs.Following.{Follows}
+use Rattle.vcode.specs.Allocation.{IsAllocation}
+use Rattle.vcode.specs.Following.{Follows}
 use Rattle.slot_allocator.proofs.Places.{all_pushed, all_counted}
 use Rattle.slot_allocator.proofs.Stretches.{names_of_code, no_slot_of_code}
+use Rattle.slot_allocator.proofs.Allocation.{allocation}
 use Rattle.slot_allocator.proofs.Counts.{counted, machine_names, fitting_all}
 use Rattle.slot_allocator.proofs.Runs.{follows}
 use Rattle.slot_allocator.proofs.slots.give_slots.Goals as goal
@@ -44,6 +46,13 @@ returns-clause-added g c =
     let ts = c.args.temporaries.now in
     let all = all_pushed m ts c.loop-instr.into (into_iter_items c.loop-instr.instr-iterator) (allotted m ts c.args.code.code) c.loop-instr.invariant.pushed (search rules) in
     ap (λ r. length r.code) c.new.ensures ∙ ap length all ∙ counted m ts c.args.code.code c.requires.three
+
+pub returns-clause-form : goal.returns-clause-form
+returns-clause-form g c =
+    let m = g.T.Target.machine in
+    let ts = c.args.temporaries.now in
+    let all = all_pushed m ts c.loop-instr.into (into_iter_items c.loop-instr.instr-iterator) (allotted m ts c.args.code.code) c.loop-instr.invariant.pushed (search rules) in
+    subst (IsAllocation m ts c.args.code.code) (sym (ap (λ r. r.code) c.new.ensures ∙ all)) (allocation m ts c.args.code.code c.requires.three)
 
 pub returns-clause-agrees : goal.returns-clause-agrees
 returns-clause-agrees g c =
