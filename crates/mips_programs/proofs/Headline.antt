@@ -16,10 +16,10 @@ use Rattle.mips_machine.specs.State.{Cpu}
 use Rattle.mips_machine.specs.Run.{mrun}
 use Rattle.mips_programs.specs.Working.{AreBytes, Working, on, step_in}
 use Rattle.mips_programs.specs.Matches.{Calling, Answers}
-use Rattle.mips_programs.specs.Reached.{seen, Reached}
-use Rattle.mips_programs.specs.Meant.{HasMeaning}
-use Rattle.mips_programs.proofs.Points.{agrees}
-use Rattle.mips_programs.proofs.Counted.{nested_meant, counted_agrees}
+use Rattle.program_runs.specs.Reached.{seen, Reached}
+use Rattle.program_runs.specs.Meant.{HasMeaning}
+use Rattle.program_runs.proofs.lemmas.Points.{agrees}
+use Rattle.program_runs.proofs.lemmas.Counted.{nested_meant, counted_agrees}
 use Rattle.mips_programs.proofs.Start.{at_start, start_map, start_places, start_bare, start_entry, start_back}
 use Rattle.mips_programs.proofs.Reaching.{reach, reach_any}
 

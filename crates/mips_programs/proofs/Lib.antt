@@ -1,5 +1,3 @@
-pub mod Prefixes
-pub mod RunsOn
 pub mod Steps
 pub mod Words
 pub mod Keep
@@ -11,8 +9,6 @@ pub mod Grow
 pub mod Calls
 pub mod Follow
 pub mod Whole
-pub mod Points
-pub mod Counted
 pub mod Reaching
 pub mod Start
 pub mod Headline

@@ -16,8 +16,8 @@ use Rattle.mips_machine.specs.State.{Cpu}
 use Rattle.mips_machine.specs.StepTable.{register, ends}
 use Rattle.mips_programs.specs.Working.{Working, on, step_in, runs}
 use Rattle.mips_programs.specs.Matches.{Answers, CameBack}
-use Rattle.mips_programs.specs.Reached.{status_in, seen, Reached, HasEnded, IsOut, IsAtWork}
-use Rattle.mips_programs.specs.Meant.{HasMeaning}
+use Rattle.program_runs.specs.Reached.{status_in, seen, Reached, HasEnded, IsOut, IsAtWork}
+use Rattle.program_runs.specs.Meant.{HasMeaning}
 
 -- at the address where a run ends, it ends
 step_ends : (p : MProgram) (order : Order) (cpu : Cpu) (left : List ℕ) → cpu.pc ≡ end_at → step_in p order cpu left ≡ ends cpu 2

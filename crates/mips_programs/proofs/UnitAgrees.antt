@@ -15,7 +15,7 @@ use Rattle.mips_target.specs.FunctionCode.{function_code}
 use Rattle.mips_target.specs.Items.{StandsIn}
 use Rattle.mips_programs.specs.Places.{places_of}
 use Rattle.mips_programs.specs.Programs.{MayRead, IsAddressed, IsPlaced, ArePlaced}
-use Rattle.mips_programs.specs.Reached.{seen}
+use Rattle.program_runs.specs.Reached.{seen}
 use Rattle.mips_programs.specs.WholePrograms.{forest_run, IsProgramOf, IsMainOf, IsMeant, CallsGetchar, ProgramsAgree}
 use Rattle.mips_programs.specs.Working.{AreBytes}
 use Rattle.mips_programs.proofs.Standing.{no_longer}

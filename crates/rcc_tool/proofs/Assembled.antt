@@ -12,7 +12,7 @@ use Rattle.asm_text.specs.RunsAs.{RunsAs}
 use Rattle.asm_text.proofs.lemmas.RunLaws.{runs_as}
 use Rattle.asm_text.specs.Addresses.{code_start, data_start}
 use Rattle.mips_machine.specs.Run.{mrun}
-use Rattle.mips_programs.specs.Reached.{seen}
+use Rattle.program_runs.specs.Reached.{seen}
 use Rattle.mips_programs.specs.WholePrograms.{CallsGetchar, ProgramsAgree}
 use Rattle.mips_programs.specs.Working.{AreBytes}
 use Rattle.asm_text.specs.Printable.{ArePrintable}

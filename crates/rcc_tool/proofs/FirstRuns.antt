@@ -15,8 +15,8 @@ use Rattle.lcc_base.specs.Traces.{output_of, depth_of}
 use Rattle.forests.specs.Worlds.{Effect, Went, Exits, Unfinished, Stuck}
 use Rattle.op_forest.specs.Callees.{Body, BuiltIn, Callee, Defined, Provided, Missing}
 use Rattle.op_forest.specs.Units.{body_of, built_in_named, callee_by, callee_of}
-use Rattle.mips_programs.specs.Reached.{printed_by, depth_by, status_in, status_by, seen}
-use Rattle.mips_programs.specs.Meant.{HasMeaning}
+use Rattle.program_runs.specs.Reached.{printed_by, depth_by, status_in, status_by, seen}
+use Rattle.program_runs.specs.Meant.{HasMeaning}
 use Rattle.mips_programs.specs.Programs.{HasRoom}
 use Rattle.rcc_tool.specs.Room.{room_of}
 

@@ -6,7 +6,7 @@ use Rattle.std.proofs.lemmas.List.Elements.{All-nil, All-drop}
 use Rattle.asm_text.specs.Runs.{MStep, Goes, Ends, IsStuck, IsOut, Run, Place, Going, Ended, Stuck, StackOut, after, onward, run_from}
 use Rattle.asm_text.specs.IsPrefix.{IsPrefix}
 use Rattle.asm_text.proofs.lemmas.RunLaws.{prefix_of}
-use Rattle.mips_programs.proofs.Prefixes.{prefix_same}
+use Rattle.program_runs.proofs.lemmas.Prefixes.{prefix_same}
 
 -- one step adds to what is printed
 after_grows : {S : Type 0} (printed left : List ℕ) (s : MStep S) → IsPrefix printed (after printed left s).printed

@@ -1,0 +1,4 @@
+pub mod Prefixes
+pub mod RunsOn
+pub mod Points
+pub mod Counted
