@@ -19,7 +19,7 @@ use Rattle.mips_machine.specs.State.{Cpu}
 use Rattle.mips_machine.specs.StepTable.{goes, next, register, writes, accesses}
 use Rattle.mips_target.specs.Frame.{frame_size}
 use Rattle.mips_target.specs.FunctionCode.{in_frame, epilogue, unmarked}
-use Rattle.mips_target.specs.Items.{StandsIn}
+use Rattle.unit_text.specs.Items.{StandsIn}
 use Rattle.mips_programs.specs.Working.{Working, step_in, Gets}
 use Rattle.mips_programs.specs.Frames.{Frame, IsSound, stack_of, frame_word}
 use Rattle.mips_programs.specs.Matches.{Alike, IsResult, Returned}

@@ -22,7 +22,7 @@ use Rattle.mips_machine.specs.StepTable.{register, writes, goes}
 use Rattle.mips_target.specs.declared.layout.Layout.{Layout}
 use Rattle.mips_target.specs.Frame.{frame_size}
 use Rattle.mips_target.specs.FunctionCode.{prologue, unmarked}
-use Rattle.mips_target.specs.Items.{StandsIn}
+use Rattle.unit_text.specs.Items.{StandsIn}
 use Rattle.mips_programs.specs.Working.{Working, step_in, Gets}
 use Rattle.mips_programs.specs.Frames.{Waiting, Frame, IsSound, memory_of, Leaves}
 use Rattle.mips_programs.specs.Matches.{IsBare, Alike, Entry, Spent}

@@ -43,7 +43,7 @@ use Rattle.mips_rules.specs.declared.instr.Source.TheVariants as source
 use Rattle.mips_rules.specs.Instructions.{combined as combined_by, lost_at_calls}
 use Rattle.mips_rules.specs.Mips.{mips}
 use Rattle.mips_target.specs.FunctionCode.{in_frame, binary_of, epilogue, loads_of, call_of, unmarked, body_of}
-use Rattle.mips_target.specs.Items.{StandsIn}
+use Rattle.unit_text.specs.Items.{StandsIn}
 use Rattle.vcode.specs.NamesAmong.{NamesAmong}
 use Rattle.mips_target.specs.Sizes.{Fits}
 use Rattle.mips_target.specs.Generated.{temporaries}

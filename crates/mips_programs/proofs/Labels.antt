@@ -12,11 +12,11 @@ use Rattle.op_forest.specs.declared.lowered.LoweredFunction.{LoweredFunction}
 use Rattle.op_forest.specs.Lowered.{LoweredUnit}
 use Rattle.mips_rules.specs.declared.instr.Instr.{Instr}
 use Rattle.mips_target.specs.declared.layout.Layout.{Layout}
-use Rattle.mips_target.specs.Entries.{marks_from, labels_of, HasEntry}
+use Rattle.unit_text.specs.Entries.{marks_from, labels_of, HasEntry}
 use Rattle.mips_target.specs.FunctionCode.{prologue, instructions_of, handed_behind, unmarked, body_of, function_code}
 use Rattle.mips_target.specs.Generated.{IsFunction}
-use Rattle.mips_target.specs.Items.{CodeItem, lines_in}
-use Rattle.mips_target.specs.UnitLines.{Coded}
+use Rattle.unit_text.specs.Items.{CodeItem, lines_in}
+use Rattle.unit_text.specs.UnitLines.{Coded}
 
 -- ---- code without labels
 

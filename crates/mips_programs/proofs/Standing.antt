@@ -3,7 +3,7 @@ use Rattle.std.proofs.Common.{◌≡◌, ℕ, suc, ◌+◌, ◌≤◌, List, [],
 use Rattle.std.proofs.lemmas.Option.{slice_get_within}
 use Rattle.asm_text.specs.Program.{MInstruction}
 use Rattle.mips_target.specs.FunctionCode.{unmarked}
-use Rattle.mips_target.specs.Items.{CodeItem, Line, Mark, lines_in, StandsIn}
+use Rattle.unit_text.specs.Items.{CodeItem, Line, Mark, lines_in, StandsIn}
 
 -- instructions without labels, in two parts
 pub unmarked_append : (xs ys : List MInstruction) → unmarked (xs ++ ys) ≡ unmarked xs ++ unmarked ys

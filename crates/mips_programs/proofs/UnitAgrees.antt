@@ -12,7 +12,7 @@ use Rattle.forests.specs.Units.{program_of}
 use Rattle.asm_text.specs.Addresses.{code_start, address_by}
 use Rattle.mips_machine.specs.Run.{mrun}
 use Rattle.mips_target.specs.FunctionCode.{function_code}
-use Rattle.mips_target.specs.Items.{StandsIn}
+use Rattle.unit_text.specs.Items.{StandsIn}
 use Rattle.mips_programs.specs.Places.{places_of}
 use Rattle.mips_programs.specs.Programs.{MayRead, IsAddressed, IsPlaced, ArePlaced}
 use Rattle.program_runs.specs.Reached.{seen}

@@ -25,7 +25,7 @@ use Rattle.mips_rules.specs.declared.instr.Instr.TheVariants as instr
 use Rattle.mips_target.specs.declared.layout.Layout.{Layout}
 use Rattle.mips_target.specs.Frame.{frame_size}
 use Rattle.mips_target.specs.FunctionCode.{instructions_of, handed_behind, body_of, loads_of, prologue, unmarked}
-use Rattle.mips_target.specs.Items.{CodeItem, lines_in}
+use Rattle.unit_text.specs.Items.{CodeItem, lines_in}
 use Rattle.mips_programs.specs.Working.{AreBytes, Working, Gets}
 use Rattle.mips_programs.specs.Frames.{Waiting}
 use Rattle.mips_programs.specs.Matches.{IsBare, HasPlaces, IsResult, Spent, Comes, Entry, Answers, Calling}

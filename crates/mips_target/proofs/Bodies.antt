@@ -9,11 +9,11 @@ use Rattle.asm_text.specs.Lines.{MLine}
 use Rattle.asm_text.specs.Program.{MInstruction}
 use Rattle.mips_rules.specs.declared.instr.Instr.{Instr}
 use Rattle.mips_target.specs.declared.layout.Layout.{Layout}
-use Rattle.mips_target.specs.Items.{CodeItem}
+use Rattle.unit_text.specs.Items.{CodeItem}
 use Rattle.mips_target.specs.FunctionCode.{in_frame, epilogue, loads_of, call_of, handed_behind, unmarked, code_of_one, body_of}
 use Rattle.mips_target.specs.Sizes.{FitsOne, Fits}
-use Rattle.mips_target.specs.UnitLines.{plain, numbered, label_text, item_of, code_lines}
-use Rattle.mips_target.proofs.Numbering.{added}
+use Rattle.unit_text.specs.UnitLines.{plain, numbered, label_text, item_of, code_lines}
+use Rattle.unit_text.proofs.lemmas.Numbering.{added}
 use Rattle.mips_target.proofs.Unmarked.{unmarked_append}
 
 -- the lines of code, behind the lines of other code

@@ -16,7 +16,7 @@ use Rattle.mips_rules.specs.declared.instr.Instr.{Instr}
 use Rattle.mips_rules.specs.declared.instr.Instr.TheVariants as instr
 use Rattle.mips_rules.specs.Mips.{mips}
 use Rattle.mips_target.specs.declared.layout.Layout.{Layout}
-use Rattle.mips_target.specs.Items.{CodeItem, StandsIn, lines_in}
+use Rattle.unit_text.specs.Items.{CodeItem, StandsIn, lines_in}
 use Rattle.mips_target.specs.Bounds.{lowered_by, lowered_behind, goes_on, leads_to, Reaches, AtEntry, Behind, AtLabel, StaysWithin, KeepsBounds}
 use Rattle.mips_target.specs.Frame.{frame_size}
 use Rattle.mips_target.specs.FunctionCode.{in_frame, binary_of, operand_of, epilogue, loads_of, instructions_of, handed_behind, unmarked, function_code}

@@ -29,7 +29,7 @@ use Rattle.mips_rules.specs.MipsRows.{addrgp}
 use Rattle.mips_rules.specs.MipsRules.{code_by, part_by, name_of, mips_rules}
 use Rattle.mips_rules.specs.OperatorNumbers.{is_addrgp}
 use Rattle.mips_rules.specs.AppliedRules.{Applied, applied, Discards, TakesConstant, PassesConstant, PassesRegister, LoadsConstant, TakesName, CombinesRegisters, CombinesConstant, Negates, HandsOver, Calls, CallsLabel, Returns}
-use Rattle.mips_target.specs.Callable.{IsCallable, HasCallable}
+use Rattle.unit_text.specs.Callable.{IsCallable, HasCallable}
 use Rattle.mips_target.specs.Generated.{IsSelected, temporaries}
 use Rattle.mips_target.specs.CalledNames.{CallIs, CallsAre}
 use Rattle.mips_target.proofs.Allotted.{allotted_code}

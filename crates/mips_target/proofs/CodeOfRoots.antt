@@ -8,11 +8,11 @@ use Rattle.vcode.specs.VirtualCode.{MAllocated}
 use Rattle.mips_rules.specs.declared.instr.Instr.{Instr}
 use Rattle.mips_rules.specs.Mips.{mips}
 use Rattle.mips_target.specs.declared.layout.Layout.{Layout}
-use Rattle.mips_target.specs.Callable.{IsCallable}
+use Rattle.unit_text.specs.Callable.{IsCallable}
 use Rattle.mips_target.specs.CalledNames.{CallsAre}
 use Rattle.mips_target.specs.Frame.{frame_size}
 use Rattle.mips_target.specs.FunctionCode.{argument_words, function_code}
-use Rattle.mips_target.specs.Items.{CodeItem, lines_in}
+use Rattle.unit_text.specs.Items.{CodeItem, lines_in}
 use Rattle.vcode.specs.NamesAmong.{NamesAmong}
 use Rattle.mips_target.specs.Sizes.{Fits}
 use Rattle.mips_target.specs.Emits.{Emits}

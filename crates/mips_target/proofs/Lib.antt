@@ -1,9 +1,6 @@
 pub mod Unmarked
 pub mod Arguments
 pub mod Bodies
-pub mod Numbering
-pub mod CodeAlone
-pub mod Collecting
 pub mod Added
 pub mod AddedRoots
 pub mod Allotted
@@ -22,8 +19,6 @@ pub mod Deriving
 pub mod RuleTemplates
 pub mod Writing
 pub mod EmittedLines
-pub mod Placing
 pub mod Bounded
 pub mod UnitBounds
 mod UnitExamples
-pub mod UnitOfMain

@@ -19,7 +19,7 @@ use Rattle.mips_target.specs.declared.layout.Layout.{Layout}
 use Rattle.mips_target.specs.Frame.{slot_place, return_place, words_size, frame_size}
 use Rattle.mips_target.specs.FunctionCode.{in_frame, binary_of, loads_of, epilogue, unmarked}
 use Rattle.mips_target.specs.Sizes.{Fits}
-use Rattle.mips_target.specs.Items.{CodeItem, Line}
+use Rattle.unit_text.specs.Items.{CodeItem, Line}
 use Rattle.mips_target.specs.Emits.{keeps_frame, is_frame_word, from_templates}
 use Rattle.mips_target.proofs.Unmarked.{body_instructions, function_instructions}
 use Rattle.mips_target.proofs.Added.{IsAdded, AddsNumber, AddsRegisters, AddsWithNumber, AddsNegate, AddsArgument, AddsCall, AddsReturn, AreAdded}

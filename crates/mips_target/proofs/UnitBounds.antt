@@ -7,8 +7,8 @@ use Rattle.op_forest.specs.declared.lowered.LoweredFunction.{LoweredFunction}
 use Rattle.op_forest.specs.Lowered.{LoweredUnit}
 use Rattle.mips_target.specs.Frame.{frame_size}
 use Rattle.mips_target.specs.Generated.{IsFunction}
-use Rattle.mips_target.specs.Entries.{label_in, HasEntry}
-use Rattle.mips_target.specs.UnitLines.{Coded}
+use Rattle.unit_text.specs.Entries.{label_in, HasEntry}
+use Rattle.unit_text.specs.UnitLines.{Coded}
 use Rattle.mips_target.specs.UnitProgram.{IsUnitProgram}
 use Rattle.mips_target.specs.UnitAssembly.{HasBounds, IsFunctionAssembly, object_bytes, IsUnitAssembly}
 use Rattle.mips_target.proofs.Bounded.{bounded}

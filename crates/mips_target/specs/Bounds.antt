@@ -10,7 +10,7 @@ use Rattle.asm_lines.specs.declared.operator.BinaryOp.{BinaryOp}
 use Rattle.asm_lines.specs.declared.operator.BinaryOp.TheVariants.{Add, Subtract}
 use Rattle.asm_text.specs.declared.place.Place.TheVariants.{Code}
 use Rattle.asm_text.specs.Program.{MInstruction, MProgram, place_of}
-use Rattle.mips_target.specs.Items.{CodeItem, lines_in}
+use Rattle.unit_text.specs.Items.{CodeItem, lines_in}
 
 -- The register that an instruction writes, by its row of the step table. A call writes $31, and what it calls gives the
 -- stack pointer back.

@@ -16,8 +16,8 @@ use Rattle.op_forest.specs.Nodes.{Node}
 use Rattle.vcode.specs.Templates.{WritesRoots}
 use Rattle.mips_rules.specs.MipsRows.{rows}
 use Rattle.mips_target.specs.Bounds.{is_pointer}
-use Rattle.mips_target.specs.Items.{CodeItem, Line as AnInstruction, Mark}
-use Rattle.mips_target.specs.UnitLines.{item_of}
+use Rattle.unit_text.specs.Items.{CodeItem, Line as AnInstruction, Mark}
+use Rattle.unit_text.specs.UnitLines.{item_of}
 
 -- no name is written
 abbrev pub has_no_name : Option (List ℕ) → Bool

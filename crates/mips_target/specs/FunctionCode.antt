@@ -22,7 +22,7 @@ use Rattle.mips_rules.specs.declared.instr.Instr.TheVariants as instr
 use Rattle.mips_rules.specs.declared.instr.Source.{Source}
 use Rattle.mips_rules.specs.declared.instr.Source.TheVariants as source
 use Rattle.mips_target.specs.declared.layout.Layout.{Layout}
-use Rattle.mips_target.specs.Items.{CodeItem, Line}
+use Rattle.unit_text.specs.Items.{CodeItem, Line}
 use Rattle.mips_target.specs.Frame.{slot_place, return_place, frame_size}
 
 -- a place in the frame, in bytes from the stack pointer, which is $29

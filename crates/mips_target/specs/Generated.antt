@@ -2,7 +2,6 @@
 -- the virtual code that their rules add, code over the machine's registers and spill slots that does the same, and the
 -- machine's instructions for that. How registers and slots are given is left open.
 use Rattle.std.specs.Prelude.{◌≡◌, ◌≤◌, ℕ, ◌+◌, ◌*◌, List, ◌∷◌, [], ◌++◌, map, length, sum_by, All, get_or}
-use Rattle.std.specs.List.{AllZip}
 use Rattle.lburg_model.specs.Derivation.{MDerivation}
 use Rattle.lburg_model.specs.Description.{MDescription}
 use Rattle.reducer.specs.AreBest.{AreBest}
@@ -22,14 +21,15 @@ use Rattle.mips_rules.specs.Mips.{mips}
 use Rattle.mips_rules.specs.MipsRules.{mips_rules}
 use Rattle.mips_rules.specs.Shipped.{IsShipped}
 use Rattle.mips_target.specs.declared.layout.Layout.{Layout}
-use Rattle.mips_target.specs.Callable.{IsCallable, HasCallable}
+use Rattle.unit_text.specs.Callable.{IsCallable, HasCallable}
 use Rattle.mips_target.specs.CalledNames.{CallsAre}
 use Rattle.mips_target.specs.Frame.{frame_size}
 use Rattle.mips_target.specs.FunctionCode.{function_code}
-use Rattle.mips_target.specs.Items.{CodeItem, lines_in}
+use Rattle.unit_text.specs.UnitOf.{AreLinesOf}
+use Rattle.unit_text.specs.Items.{CodeItem, lines_in}
 use Rattle.vcode.specs.NamesAmong.{NamesAmong}
 use Rattle.mips_target.specs.Sizes.{Fits}
-use Rattle.mips_target.specs.UnitLines.{Coded, numbered, function_items, unit_lines}
+use Rattle.unit_text.specs.UnitLines.{Coded, numbered, function_items}
 use Rattle.mips_target.specs.Emits.{Emits}
 
 -- the registers that hold values of the virtual code
@@ -83,7 +83,5 @@ pub record AddsFunction (u : LoweredUnit) (f : LoweredFunction) (before behind :
   pub adds : behind ≡ before ++ numbered (length before + 1) (function_items function)
 
 -- the lines are those of the unit's functions
-pub record IsGenerated (u : LoweredUnit) (lines : List MLine) : Type 0 where
-  pub functions : List Coded
-  pub each : AllZip (IsFunction u) u.functions functions
-  pub lines_are : lines ≡ unit_lines functions
+abbrev pub IsGenerated : LoweredUnit → List MLine → Type 0
+IsGenerated u lines = AreLinesOf (IsFunction u) u lines

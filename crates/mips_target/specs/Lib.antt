@@ -1,15 +1,10 @@
 pub mod Frame
-pub mod Items
 pub mod FunctionCode
 pub mod Sizes
-pub mod UnitLines
-pub mod Entries
 pub mod Emits
 pub mod CalledNames
-pub mod Callable
 pub mod Generated
 pub mod Allocated
 pub mod Bounds
 pub mod UnitAssembly
 pub mod UnitProgram
-pub mod NamedBelow

@@ -14,9 +14,9 @@ use Rattle.op_forest.specs.Nodes.{nodes, tree_of}
 use Rattle.mips_rules.specs.Shipped.{IsShipped}
 use Rattle.mips_target.specs.Bounds.{KeepsBounds}
 use Rattle.mips_target.specs.Emits.{Emits}
-use Rattle.mips_target.specs.Entries.{codes_of, HasEntry}
+use Rattle.unit_text.specs.Entries.{codes_of, HasEntry}
 use Rattle.mips_target.specs.Generated.{frame_bound, code_bound}
-use Rattle.mips_target.specs.UnitLines.{Coded}
+use Rattle.unit_text.specs.UnitLines.{Coded}
 
 -- room for a function's frame and code, by the nodes of its forest
 pub record HasBounds (room most : LoweredFunction → ℕ) (f : LoweredFunction) : Type 0 where

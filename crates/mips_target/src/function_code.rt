@@ -3,11 +3,10 @@ ghost use Rattle.std.specs.Prelude.{◌≡◌, ◌+◌, ◌*◌, ◌≤◌, ◌<
 ghost use Rattle.mips_rules.specs.Mips.{mips};
 ghost use Rattle.mips_target.specs.Frame.{slot_place, return_place, frame_size};
 ghost use Rattle.mips_target.specs.FunctionCode.{in_frame, binary_of, operand_of, prologue, epilogue, loads_of, call_of, instructions_of, handed_behind, most_handed, argument_words, unmarked, body_of, function_code};
-ghost use Rattle.mips_target.specs.UnitLines.{numbered, label_text, code_lines};
+ghost use Rattle.unit_text.specs.UnitLines.{numbered, label_text, code_lines};
 ghost use Rattle.mips_target.specs.Sizes.{IsSourceWithin, FitsOne, Fits};
 
 use crate::layout::Layout;
-use crate::unit_lines::push_plain;
 use asm_text::{
     Address, BinaryOp, Instruction, Lines, LoadOp, Register, Statement, StoreOp, Target, UnaryOp,
     Value,
@@ -15,6 +14,7 @@ use asm_text::{
 use lcc_base::{Bytes, Memory};
 use mips_rules::{Arithmetic, Instr, Source};
 use std::alloc::Global;
+use unit_text::push_plain;
 use vcode::Reg;
 
 /// The register of this number.

@@ -8,7 +8,7 @@ ghost use Rattle.op_forest.specs.Lowered.{IsUnitName, IsFunctionOf};
 ghost use Rattle.asm_text.specs.Makes.{Makes};
 ghost use Rattle.asm_text.specs.Program.{MProgram};
 ghost use Rattle.asm_text.specs.Printable.{ArePrintable};
-ghost use Rattle.mips_target.specs.Callable.{AreCallable};
+ghost use Rattle.unit_text.specs.Callable.{AreCallable};
 ghost use Rattle.mips_target.specs.Allocated.{IsAllocated};
 ghost use Rattle.mips_target.specs.Generated.{IsSelected, AddsFunction, IsGenerated};
 ghost use Rattle.mips_target.specs.UnitAssembly.{HasBounds, IsUnitAssembly};
@@ -16,7 +16,6 @@ ghost use Rattle.mips_target.specs.UnitProgram.{IsUnitProgram};
 
 use crate::function_code::{argument_words, push_function_code};
 use crate::layout::Layout;
-use crate::unit_lines::{push_name, push_plain};
 use asm_text::{Lines, Statement};
 use forests::{WellFormed, check_forest};
 use lcc_base::Memory;
@@ -25,6 +24,7 @@ use op_forest::{Forest, Lowered, LoweredFunction};
 use reducer::best_derivations;
 use slot_allocator::give_slots;
 use std::alloc::Global;
+use unit_text::{push_name, push_plain};
 use vcode::{Code, Reg, RuleSet, VCode, linearise};
 
 /// The registers that hold spilled values for one instruction.

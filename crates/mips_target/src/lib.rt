@@ -5,7 +5,6 @@ mod function_code;
 mod generating;
 mod layout;
 mod ruled;
-mod unit_lines;
 
 pub use generating::generate;
 pub use layout::Layout;

@@ -36,10 +36,10 @@ use Rattle.op_forest.specs.declared.lowered.LoweredFunction.{LoweredFunction}
 use Rattle.op_forest.specs.Lowered.{LoweredUnit, IsLowered}
 use Rattle.op_forest.specs.Callees.{BuiltIn, Putchar, Getchar, Exit, Callee, Provided}
 use Rattle.op_forest.specs.Units.{body_of, named_by, built_in_named, callee_by, callee_of}
-use Rattle.mips_target.specs.UnitLines.{Coded}
+use Rattle.unit_text.specs.UnitLines.{Coded}
 use Rattle.mips_target.specs.UnitProgram.{IsUnitProgram}
 use Rattle.mips_target.specs.UnitAssembly.{HasBounds, IsFunctionAssembly, IsUnitAssembly}
-use Rattle.mips_target.specs.Callable.{HasCallable, AreCallable}
+use Rattle.unit_text.specs.Callable.{HasCallable, AreCallable}
 use Rattle.rcc_tool.specs.Compilation.{IsMadeFor, IsCompiled}
 use Rattle.rcc_tool.specs.Room.{room_of, most_instructions}
 use Rattle.rcc_tool.proofs.FirstRuns.{has_meaning, comes_to, roomy}

@@ -1,6 +1,6 @@
 use Rattle.std.proofs.Common.{◌≡◌, ◌+◌, ◌++◌, length}
 use Rattle.mips_target.specs.FunctionCode.{unmarked, loads_of}
-use Rattle.mips_target.specs.UnitLines.{numbered, label_text, code_lines}
+use Rattle.unit_text.specs.UnitLines.{numbered, label_text, code_lines}
 use Rattle.mips_target.proofs.function_code.push_call.Given as goal
 
 -- the argument words so far are loaded

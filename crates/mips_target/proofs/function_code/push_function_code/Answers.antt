@@ -1,6 +1,6 @@
 use Rattle.std.proofs.Common.{rules, ◌≡◌, ◌+◌, ◌≤◌, ◌<◌, ◌++◌, length, drop, sym, subst}
 use Rattle.mips_target.specs.FunctionCode.{body_of, function_code}
-use Rattle.mips_target.specs.UnitLines.{numbered, label_text, code_lines}
+use Rattle.unit_text.specs.UnitLines.{numbered, label_text, code_lines}
 use Rattle.mips_target.specs.Sizes.{Fits}
 use Rattle.mips_target.proofs.Bodies.{body_at, fits_at}
 use Rattle.mips_target.proofs.function_code.push_function_code.Goals as goal

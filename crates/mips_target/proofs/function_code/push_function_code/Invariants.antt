@@ -1,7 +1,7 @@
 use Rattle.std.proofs.Common.{◌≡◌, ◌≤◌, ◌+◌, ◌++◌, length, drop}
 use Rattle.mips_target.specs.FunctionCode.{body_of, function_code}
 use Rattle.mips_target.specs.Sizes.{Fits}
-use Rattle.mips_target.specs.UnitLines.{numbered, label_text, code_lines}
+use Rattle.unit_text.specs.UnitLines.{numbered, label_text, code_lines}
 use Rattle.mips_target.proofs.function_code.push_function_code.Given as goal
 
 -- what was pushed, and the lines of what the instructions that are left become

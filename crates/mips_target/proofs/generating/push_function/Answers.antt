@@ -4,10 +4,10 @@ use Rattle.std.proofs.lemmas.Result.{on_ok_weaker}
 use Rattle.mips_target.specs.declared.layout.Layout.{Layout}
 use Rattle.mips_target.specs.Allocated.{IsAllocated}
 use Rattle.mips_target.specs.FunctionCode.{function_code}
-use Rattle.mips_target.specs.UnitLines.{named, label_text, code_lines, Coded}
+use Rattle.unit_text.specs.UnitLines.{named, label_text, code_lines, Coded}
 use Rattle.mips_target.proofs.CoveredRoots.{covered_roots}
 use Rattle.mips_target.proofs.CodeOfRoots.{layout_for, length_few, words_few, fits, is_code, layout_is, fits_same, code_same}
-use Rattle.mips_target.proofs.Numbering.{added}
+use Rattle.unit_text.proofs.lemmas.Numbering.{added}
 use Rattle.mips_target.proofs.generating.push_function.Goals as goal
 
 pub argument_words-requires : goal.argument_words-requires

@@ -12,7 +12,7 @@ use Rattle.op_forest.specs.EachNode.{AtEachNode}
 use Rattle.op_forest.specs.Lowered.{LoweredUnit, IsKnown, IsFunctionOf, IsLowered}
 use Rattle.op_forest.proofs.lemmas.UnitOfMain.{unit_of_main}
 use Rattle.op_forest.proofs.lemmas.UnitOfMain as main
-use Rattle.mips_target.specs.NamedBelow.{IsBelow, IsNamedBelow}
+use Rattle.unit_text.specs.NamedBelow.{IsBelow, IsNamedBelow}
 
 symbol_known : (u : LoweredUnit) (roots : List Node) (s : Sym) → 2 ≤ length u.names → IsBelow 2 s → IsKnown u roots s
 symbol_known u roots sym.Nothing two h = tt

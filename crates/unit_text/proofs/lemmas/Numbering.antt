@@ -1,7 +1,7 @@
 -- Lines that are added behind others go on with the numbers.
 use Rattle.std.proofs.Common.{◌≡◌, ℕ, ◌+◌, List, [], ◌∷◌, ◌++◌, length, refl, sym, ap, ◌∙◌, arith, append_assoc, length-append, append-nil}
 use Rattle.asm_text.specs.Lines.{MLine}
-use Rattle.mips_target.specs.UnitLines.{Item, numbered}
+use Rattle.unit_text.specs.UnitLines.{Item, numbered}
 
 numbered_append : (n m : ℕ) (xs ys : List Item) → m ≡ n + length xs → numbered n (xs ++ ys) ≡ numbered n xs ++ numbered m ys
 numbered_append n m [] ys e = let f : n ≡ m = omega (arith, e) in ap (λ k. numbered k ys) f

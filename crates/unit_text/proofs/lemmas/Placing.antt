@@ -15,13 +15,13 @@ use Rattle.asm_text.specs.Made.{code_of, label_at}
 use Rattle.asm_text.specs.Makes.{Makes}
 use Rattle.asm_text.specs.Names.{names_of_instruction, names_of}
 use Rattle.asm_text.specs.Program.{MInstruction, MLabel, MProgram, place_of, AreDistinct}
-use Rattle.mips_target.specs.Items.{CodeItem, Line, Mark, lines_in, StandsIn}
-use Rattle.mips_target.specs.UnitLines.{Item, Coded, plain, numbered, code_lines, items_of, unit_lines}
+use Rattle.unit_text.specs.Items.{CodeItem, Line, Mark, lines_in, StandsIn}
+use Rattle.unit_text.specs.UnitLines.{Item, Coded, plain, numbered, code_lines, items_of, unit_lines}
 use Rattle.op_forest.specs.Lowered.{LoweredUnit}
-use Rattle.mips_target.specs.Generated.{IsFunction, IsGenerated}
-use Rattle.mips_target.specs.UnitProgram.{IsUnitProgram}
-use Rattle.mips_target.specs.Entries.{codes_of, marks_from, labels_of, HasEntry}
-use Rattle.mips_target.proofs.CodeAlone.{unit_code}
+use Rattle.op_forest.specs.declared.lowered.LoweredFunction.{LoweredFunction}
+use Rattle.unit_text.specs.UnitOf.{AreLinesOf, HasProgram}
+use Rattle.unit_text.specs.Entries.{codes_of, marks_from, labels_of, HasEntry}
+use Rattle.unit_text.proofs.lemmas.CodeAlone.{unit_code}
 
 -- ---- the code of functions
 
@@ -192,8 +192,8 @@ named_in (line ∷ lines) j i name is at = named_one line.statement (code_in lin
 -- ---- the program of a unit
 
 -- what the lines of generated functions make
-pub unit_program : (u : LoweredUnit) (lines : List MLine) (p : MProgram) → IsGenerated u lines → Makes lines p → IsUnitProgram u p
-unit_program u lines p generated makes =
+pub unit_program : (IsMade : LoweredFunction → Coded → Type 0) (u : LoweredUnit) (lines : List MLine) (p : MProgram) → AreLinesOf IsMade u lines → Makes lines p → HasProgram IsMade u p
+unit_program IsMade u lines p generated makes =
     let fs = generated.functions in
     let made : MakesCode (unit_lines fs) p = made_code (unit_lines fs) p (unit_code fs) (subst (λ x. Makes x p) generated.lines_are makes) in
     let code : p.code ≡ codes_of fs = made.code ∙ code_unit fs in
@@ -203,6 +203,6 @@ unit_program u lines p generated makes =
       code = code;
       datums = made.datums;
       labels = labels;
-      each = have_entries p made.distinct (IsFunction u) u.functions fs [] [] generated.each code labels;
+      each = have_entries p made.distinct IsMade u.functions fs [] [] generated.each code labels;
       known = λ j i name is at. let n = named_in (unit_lines fs) j i name is (ap (λ x. slice_get x j) (sym made.code) ∙ at) in made.known n.0 name n.1;
     }

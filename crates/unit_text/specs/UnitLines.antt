@@ -3,7 +3,7 @@ use Rattle.std.specs.Prelude.{ℕ, ◌+◌, List, [], ◌∷◌, ◌++◌, map, 
 use Rattle.asm_lines.specs.Statements.{MStatement, Nothing, Text, Global, Does}
 use Rattle.asm_text.specs.Lines.{MLine}
 use Rattle.asm_text.specs.Program.{MInstruction}
-use Rattle.mips_target.specs.Items.{CodeItem, Line as AnInstruction, Mark}
+use Rattle.unit_text.specs.Items.{CodeItem, Line as AnInstruction, Mark}
 
 -- a line without its number: its labels, and what stands behind them
 pub record Item : Type 0 where

@@ -3,8 +3,8 @@ use Rattle.std.proofs.Common.{ℕ, ◌+◌, List, [], ◌∷◌, ◌++◌}
 use Rattle.asm_lines.specs.Statements.{Text}
 use Rattle.asm_text.proofs.lemmas.CodeLines.{IsCode, AreCode}
 use Rattle.asm_text.specs.Program.{MInstruction}
-use Rattle.mips_target.specs.Items.{CodeItem, Line, Mark}
-use Rattle.mips_target.specs.UnitLines.{Item, Coded, plain, numbered, code_lines, items_of, unit_lines}
+use Rattle.unit_text.specs.Items.{CodeItem, Line, Mark}
+use Rattle.unit_text.specs.UnitLines.{Item, Coded, plain, numbered, code_lines, items_of, unit_lines}
 
 abbrev pub AllCode : List Item → Type 0
 AllCode [] = Unit {0}

@@ -5,8 +5,8 @@ use Rattle.asm_text.specs.declared.place.Place.TheVariants.{Code}
 use Rattle.asm_text.specs.Linked.{code_place}
 use Rattle.asm_text.specs.Made.{label_at}
 use Rattle.asm_text.specs.Program.{MInstruction, MLabel, MProgram, place_of}
-use Rattle.mips_target.specs.Items.{CodeItem, Line, Mark, lines_in, StandsIn}
-use Rattle.mips_target.specs.UnitLines.{Coded}
+use Rattle.unit_text.specs.Items.{CodeItem, Line, Mark, lines_in, StandsIn}
+use Rattle.unit_text.specs.UnitLines.{Coded}
 
 -- the instructions of all functions
 abbrev pub codes_of : List Coded → List MInstruction
