@@ -1,6 +1,7 @@
 //! The shipped target by callers that know no target, and the shipped rules by one that knows no rules.
+use frame_code::{Arithmetic, Instr, Source};
 use lburg_model::Description;
-use mips_rules::{Arithmetic, Instr, Mips, MipsRules, Source, rules};
+use mips_rules::{Mips, MipsRules, rules};
 use std::test::Fail;
 use vcode::{Operand, Reg, RuleSet, Target};
 

@@ -17,7 +17,7 @@ use Rattle.vcode.specs.VirtualCode.{among}
 use Rattle.vcode.specs.Maps.{Map, IsWord, Grown}
 use Rattle.mips_machine.specs.State.{Cpu}
 use Rattle.mips_machine.specs.StepTable.{register}
-use Rattle.mips_rules.specs.Instructions.{lost_at_calls}
+use Rattle.mips_rules.specs.Losses.{lost_at_calls}
 use Rattle.mips_target.specs.Generated.{temporaries}
 use Rattle.mips_programs.specs.Working.{Working, runs, Gets}
 use Rattle.mips_programs.specs.Frames.{Waiting, IsOwn, Frame, stack_of, frame_word}

@@ -35,12 +35,13 @@ use Rattle.mips_machine.specs.Operations.{combined, cause_of}
 use Rattle.mips_machine.specs.State.{Cpu}
 use Rattle.mips_machine.specs.StepTable.{register, value_of, writes, writes_unless, calls as calls_at, act}
 use Rattle.vcode.specs.SlotsBelow.{UsesSlotsBelow}
-use Rattle.mips_rules.specs.declared.arithmetic.Arithmetic.{Arithmetic}
-use Rattle.mips_rules.specs.declared.arithmetic.Arithmetic.TheVariants as arithmetic
-use Rattle.mips_rules.specs.declared.instr.Instr.{Instr}
-use Rattle.mips_rules.specs.declared.instr.Instr.TheVariants as instr
-use Rattle.mips_rules.specs.declared.instr.Source.TheVariants as source
-use Rattle.mips_rules.specs.Instructions.{combined as combined_by, lost_at_calls}
+use Rattle.frame_code.specs.declared.arithmetic.Arithmetic.{Arithmetic}
+use Rattle.frame_code.specs.declared.arithmetic.Arithmetic.TheVariants as arithmetic
+use Rattle.frame_code.specs.declared.instr.Instr.{Instr}
+use Rattle.frame_code.specs.declared.instr.Instr.TheVariants as instr
+use Rattle.frame_code.specs.declared.instr.Source.TheVariants as source
+use Rattle.frame_code.specs.Instructions.{combined as combined_by}
+use Rattle.mips_rules.specs.Losses.{lost_at_calls}
 use Rattle.mips_rules.specs.Mips.{mips}
 use Rattle.mips_target.specs.FunctionCode.{in_frame, binary_of, epilogue, loads_of, call_of, unmarked, body_of}
 use Rattle.unit_text.specs.Items.{StandsIn}

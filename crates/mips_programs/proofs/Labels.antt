@@ -10,7 +10,7 @@ use Rattle.asm_text.specs.Made.{label_at}
 use Rattle.asm_text.specs.Program.{MInstruction, MLabel, MProgram, place_of}
 use Rattle.op_forest.specs.declared.lowered.LoweredFunction.{LoweredFunction}
 use Rattle.op_forest.specs.Lowered.{LoweredUnit}
-use Rattle.mips_rules.specs.declared.instr.Instr.{Instr}
+use Rattle.frame_code.specs.declared.instr.Instr.{Instr}
 use Rattle.mips_target.specs.declared.layout.Layout.{Layout}
 use Rattle.unit_text.specs.Entries.{marks_from, labels_of, HasEntry}
 use Rattle.mips_target.specs.FunctionCode.{prologue, instructions_of, handed_behind, unmarked, body_of, function_code}

@@ -20,8 +20,8 @@ use Rattle.forests.proofs.lemmas.Reached.{nested_begins}
 use Rattle.vcode.specs.Maps.{Map, IsWord}
 use Rattle.asm_text.specs.Addresses.{code_start, floor_of}
 use Rattle.mips_machine.specs.StepTable.{register}
-use Rattle.mips_rules.specs.declared.instr.Instr.{Instr}
-use Rattle.mips_rules.specs.declared.instr.Instr.TheVariants as instr
+use Rattle.frame_code.specs.declared.instr.Instr.{Instr}
+use Rattle.frame_code.specs.declared.instr.Instr.TheVariants as instr
 use Rattle.mips_target.specs.declared.layout.Layout.{Layout}
 use Rattle.mips_target.specs.Frame.{frame_size}
 use Rattle.mips_target.specs.FunctionCode.{instructions_of, handed_behind, body_of, loads_of, prologue, unmarked}

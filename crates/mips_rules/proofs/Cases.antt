@@ -5,7 +5,7 @@ use Rattle.op_forest.specs.Nodes.{Node}
 use Rattle.vcode.specs.VirtualCode.{among}
 use Rattle.vcode.specs.Patterns.{Meeting, leaves_at, is_chain}
 use Rattle.vcode.specs.RuleSets.{Row, InRange, all_registers, AllHand, Applies}
-use Rattle.mips_rules.specs.declared.part.Part.{Part}
+use Rattle.frame_rules.specs.declared.part.Part.{Part}
 use Rattle.mips_rules.specs.MipsRows.{rows}
 use Rattle.mips_rules.specs.MipsRules.{mips_rules}
 

@@ -22,7 +22,8 @@ use Rattle.op_forest.specs.Signature.{takes, gives_value}
 use Rattle.forests.specs.HasRules.{has_rule, HasRule}
 use Rattle.forests.specs.WellFormed.{HasKinds, AreOperands, op_of, suffix_of}
 use Rattle.vcode.specs.RuleSets.{Row, row_of}
-use Rattle.mips_rules.specs.MipsRows.{nonterminals, rows, costs, ranges, stmt, con, rc, reg, addr}
+use Rattle.frame_rules.specs.Rows.{nonterminals, stmt, con, rc, reg, addr}
+use Rattle.mips_rules.specs.MipsRows.{rows, costs, ranges}
 use Rattle.mips_rules.specs.MipsTerminals.{terminals}
 use Rattle.mips_rules.specs.Shipped.{IsShipped, DerivesStatements, CoversRoots}
 use Rattle.mips_rules.proofs.ListTests.{mapped_at}

@@ -1,5 +1,4 @@
 pub mod RegisterSets
-pub mod PartForms
 pub mod RuleTable
 pub mod ListTests
 pub mod ShippedDescription

@@ -5,10 +5,10 @@ use Rattle.std.proofs.lemmas.Bool.{agree_below_at, cases_lt}
 use Rattle.std.proofs.lemmas.List.{get_or_past, get_or-replicate, length-replicate}
 use Rattle.vcode.specs.RegisterSets.{has, with_all, none}
 use Rattle.vcode.specs.VirtualCode.{among}
-use Rattle.mips_rules.specs.declared.instr.Instr.{Instr}
-use Rattle.mips_rules.specs.declared.instr.Instr.TheVariants as instr
-use Rattle.mips_rules.specs.Instructions.{lost_at_calls, loses}
-use Rattle.mips_rules.specs.InstructionLaws.{calls_lose_low}
+use Rattle.frame_code.specs.declared.instr.Instr.{Instr}
+use Rattle.frame_code.specs.declared.instr.Instr.TheVariants as instr
+use Rattle.mips_rules.specs.Losses.{lost_at_calls, loses}
+use Rattle.mips_rules.specs.Losses.{calls_lose_low}
 
 pub none_has : (r : ℕ) → has none r ≡ false
 none_has r = ⊎_elim (λ h. get_or-replicate 64 r false false h) (λ h. get_or_past none r false (above r h)) (cases_lt r 64)

@@ -1,9 +1,11 @@
 -- The rules of the program's table are those of the definition.
 use Rattle.std.specs.Prelude.{◌≡◌, ℕ, zero, suc, ◌≤◌, ◌-◌, Some, List, [], ◌∷◌, map, slice_get}
 use Rattle.std.proofs.Common.{ap, ◌∙◌, arith}
-use Rattle.mips_rules.specs.declared.action.Action.{Action}
-use Rattle.mips_rules.specs.MipsRows.{Line, lines}
-use Rattle.mips_rules.specs.MipsRules.{action_in, action_at}
+use Rattle.frame_rules.specs.declared.action.Action.{Action}
+use Rattle.frame_rules.specs.Rows.{Line}
+use Rattle.mips_rules.specs.MipsRows.{lines}
+use Rattle.frame_rules.specs.FrameRules.{action_in}
+use Rattle.mips_rules.specs.MipsRules.{action_at}
 
 found : (ls : List Line) (place : ℕ) (r : Action) → slice_get (map (λ l. l.action) ls) place ≡ Some r → r ≡ action_in (slice_get ls place)
 found [] place r e = absurd cc

@@ -15,7 +15,8 @@ use Rattle.lburg_model.specs.declared.terminal.Terminal.{Terminal}
 use Rattle.lburg_model.specs.Pattern.{MPattern, PHole, PLeaf, POne, PTwo, pattern_of, pattern_nodes}
 use Rattle.lburg_model.specs.Description.{MDescription, FitsIn, Uses, RuleAt, AreNames, IsDescription}
 use Rattle.vcode.specs.RuleSets.{Row, row_of}
-use Rattle.mips_rules.specs.MipsRows.{Line, lines, nonterminals, stmt, rows, costs, ranges}
+use Rattle.frame_rules.specs.Rows.{Line, nonterminals, stmt}
+use Rattle.mips_rules.specs.MipsRows.{lines, rows, costs, ranges}
 use Rattle.mips_rules.specs.MipsTerminals.{terminals}
 use Rattle.mips_rules.proofs.ListTests.{each, each_at, distinct, distinct_places, found_by, bytes_same, number_same, apart, apart_at, mapped_at, at_mapped, all_at}
 

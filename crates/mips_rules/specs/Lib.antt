@@ -1,14 +1,9 @@
-pub mod Instructions
-pub mod InstructionLaws
+pub mod Losses
 pub mod Mips
 pub mod MipsRows
 pub mod MipsTerminals
 pub mod Tables
 pub mod MipsRules
-pub mod OneInstruction
-pub mod OperatorNumbers
 pub mod AppliedRules
-pub mod RuleLaws
-pub mod RuleMeanings
 pub mod MipsObeys
 pub mod Shipped

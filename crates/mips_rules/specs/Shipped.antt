@@ -10,7 +10,8 @@ use Rattle.op_forest.specs.Nodes.{Node, tree_of}
 use Rattle.forests.specs.WellFormed.{IsWellFormed, HasKinds}
 use Rattle.forests.specs.HasRules.{IsRuled, HasRules}
 use Rattle.vcode.specs.RuleSets.{row_of}
-use Rattle.mips_rules.specs.MipsRows.{nonterminals, stmt, rows, costs, ranges}
+use Rattle.frame_rules.specs.Rows.{nonterminals, stmt}
+use Rattle.mips_rules.specs.MipsRows.{rows, costs, ranges}
 use Rattle.mips_rules.specs.MipsTerminals.{terminals}
 
 -- the terminals, the nonterminals, the start symbol and the rules with their costs are those of the tables, and no rule

@@ -2,7 +2,8 @@
 ghost use Rattle.std.specs.Prelude.{◌≡◌, ℕ, List, Option, map, IfOk};
 ghost use Rattle.lburg_model.specs.Pattern.{pattern_of};
 ghost use Rattle.vcode.specs.RuleSets.{row_of};
-ghost use Rattle.mips_rules.specs.MipsRows.{nonterminals, stmt, rows, costs, ranges};
+ghost use Rattle.frame_rules.specs.Rows.{nonterminals, stmt};
+ghost use Rattle.mips_rules.specs.MipsRows.{rows, costs, ranges};
 ghost use Rattle.mips_rules.specs.MipsTerminals.{terminals};
 ghost use Rattle.mips_rules.specs.Shipped.{IsShipped, DerivesStatements, CoversRoots};
 ghost use Rattle.mips_rules.specs.Tables.{terminal_of, form_pattern, row_in, cost_in, range_in};

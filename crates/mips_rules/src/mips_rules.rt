@@ -1,15 +1,16 @@
 //! The MIPS rule set for instruction selection: the description together with its expansion.
 ghost use Rattle.std.specs.Prelude.{◌≡◌, map, IfOk};
 ghost use Rattle.vcode.specs.RuleSets.{row_of};
-ghost use Rattle.mips_rules.specs.MipsRows.{nonterminals, stmt, rows, costs, ranges};
+ghost use Rattle.frame_rules.specs.Rows.{nonterminals, stmt};
+ghost use Rattle.mips_rules.specs.MipsRows.{rows, costs, ranges};
 ghost use Rattle.mips_rules.specs.MipsTerminals.{terminals};
 ghost use Rattle.mips_rules.specs.Shipped.{IsShipped, DerivesStatements, CoversRoots};
 
-use crate::expansion::{action_of, instr_by, part_by};
-use crate::instr::Instr;
 use crate::mips::Mips;
 use crate::mips_description::description;
-use crate::part::Part;
+use crate::rule_line::action_of;
+use frame_code::Instr;
+use frame_rules::{Part, instr_by, part_by};
 use lburg_model::Description;
 use lcc_base::{Items, Memory};
 use op_forest::Tree;
@@ -30,7 +31,8 @@ impl Model for MipsRules {
     ghost use Rattle.lburg_model.specs.contracts.pattern.Pattern as pattern;
     ghost use Rattle.lburg_model.specs.Description.{MDescription};
     ghost use Rattle.vcode.specs.RuleSets.{row_of};
-    ghost use Rattle.mips_rules.specs.MipsRows.{stmt, rows};
+    ghost use Rattle.frame_rules.specs.Rows.{stmt};
+    ghost use Rattle.mips_rules.specs.MipsRows.{rows};
 
     ghost Value = { MDescription };
 

@@ -1,6 +1,9 @@
 //! The table of the MIPS rules: patterns, templates, costs and actions.
-use crate::action::Action;
-use crate::arithmetic::Arithmetic;
+ghost use Rattle.std.specs.Prelude.{◌≡◌, ◌<◌, ◌≤◌, length, map, Some, slice_get};
+ghost use Rattle.mips_rules.specs.MipsRules.{action_at};
+
+use frame_code::Arithmetic;
+use frame_rules::Action;
 
 /// The pattern of a rule, which has at most one operator. A nonterminal is given by its place among
 /// the nonterminals, from 0, and an operator by its number.
@@ -158,3 +161,20 @@ pub const RULES: [RuleLine; 13] = [
         action: Action::Return,
     },
 ];
+
+/// What the rule at this place does.
+fn action_in(lines: &[RuleLine], place: usize) -> Action
+    requires { place < length lines.now }
+    ensures { slice_get (map (λ l. l.action) lines.now) place ≡ Some result }
+{
+    lines[place].action
+}
+
+/// What the rule with this number, from 1, does.
+pub fn action_of(rule: u16) -> Action
+    requires some { 1 ≤ rule }
+    requires limit { rule ≤ 13 }
+    ensures { result ≡ action_at rule }
+{
+    action_in(&RULES, rule as usize - 1)
+}

@@ -18,17 +18,19 @@ use Rattle.vcode.specs.RuleSets.{Row, Applies}
 use Rattle.vcode.specs.Emission.{Emitted, EmittedAll, with_chain, with_rule, and_one, Emits, EmitsAll, ByChain, ByRule, Nothing, OneMore}
 use Rattle.vcode.specs.Leaves.{met_by, met, IsSum}
 use Rattle.vcode.proofs.lemmas.Leaves.{met_by_append, met_append, fewer_met_by, fewer_met}
-use Rattle.mips_rules.specs.declared.arithmetic.Arithmetic.{Arithmetic}
-use Rattle.mips_rules.specs.declared.action.Action.{Action}
-use Rattle.mips_rules.specs.declared.instr.Instr.{Instr}
-use Rattle.mips_rules.specs.declared.instr.Instr.TheVariants as instr
-use Rattle.mips_rules.specs.declared.instr.Source.TheVariants as source
-use Rattle.mips_rules.specs.declared.part.Part.{Part}
-use Rattle.mips_rules.specs.declared.part.Part.TheVariants as part
-use Rattle.mips_rules.specs.MipsRows.{addrgp, argi}
-use Rattle.mips_rules.specs.OperatorNumbers.{is_argi}
-use Rattle.mips_rules.specs.MipsRules.{action_at, code_by, part_by, constant_of, name_of, name_in, mips_rules}
-use Rattle.mips_rules.specs.AppliedRules.{Applied, applied, Discards, TakesConstant, PassesConstant, PassesRegister, LoadsConstant, TakesName, CombinesRegisters, CombinesConstant, Negates, HandsOver, Calls, CallsLabel, Returns}
+use Rattle.frame_code.specs.declared.arithmetic.Arithmetic.{Arithmetic}
+use Rattle.frame_rules.specs.declared.action.Action.{Action}
+use Rattle.frame_code.specs.declared.instr.Instr.{Instr}
+use Rattle.frame_code.specs.declared.instr.Instr.TheVariants as instr
+use Rattle.frame_code.specs.declared.instr.Source.TheVariants as source
+use Rattle.frame_rules.specs.declared.part.Part.{Part}
+use Rattle.frame_rules.specs.declared.part.Part.TheVariants as part
+use Rattle.frame_rules.specs.Rows.{addrgp, argi}
+use Rattle.frame_rules.specs.OperatorNumbers.{is_argi}
+use Rattle.frame_rules.specs.FrameRules.{code_by, part_by, constant_of, name_of, name_in}
+use Rattle.mips_rules.specs.MipsRules.{action_at, mips_rules}
+use Rattle.frame_rules.specs.AppliedRules.{Applied, Discards, TakesConstant, PassesConstant, PassesRegister, LoadsConstant, TakesName, CombinesRegisters, CombinesConstant, Negates, HandsOver, Calls, CallsLabel, Returns}
+use Rattle.mips_rules.specs.AppliedRules.{applied}
 
 -- an instruction as a rule adds it: its registers are virtual, a number is a word, and what it calls is named
 pub data IsAdded (named : ℕ → Type 0) : Instr → Type 0 where

@@ -7,7 +7,7 @@ use Rattle.op_forest.specs.Nodes.{Node, nodes}
 use Rattle.op_forest.specs.EachNode.{AtEachNode}
 use Rattle.vcode.specs.VirtualCode.{joined}
 use Rattle.vcode.specs.Emission.{EmitsRoots, NoRoot, OneRoot}
-use Rattle.mips_rules.specs.declared.instr.Instr.{Instr}
+use Rattle.frame_code.specs.declared.instr.Instr.{Instr}
 use Rattle.mips_rules.specs.MipsRules.{mips_rules}
 use Rattle.mips_target.proofs.Added.{AreAdded, added_append, handed_over, handed_append, other_nodes, takes, NamesOne, added}
 

@@ -8,9 +8,9 @@ use Rattle.vcode.specs.declared.operand.Operand.{Operand}
 use Rattle.vcode.specs.VirtualCode.{MCode, AreBelow, NamesBelow, is_virtual}
 use Rattle.slot_allocator.specs.Slots.{slot_of, spilled, allotted, AreTemporaries, AreKept, NamesKept}
 use Rattle.slot_allocator.specs.SlotCounts.{slots_for, slots_needed}
-use Rattle.mips_rules.specs.declared.instr.Instr.{Instr}
-use Rattle.mips_rules.specs.declared.instr.Instr.TheVariants as instr
-use Rattle.mips_rules.specs.declared.instr.Source.TheVariants as source
+use Rattle.frame_code.specs.declared.instr.Instr.{Instr}
+use Rattle.frame_code.specs.declared.instr.Instr.TheVariants as instr
+use Rattle.frame_code.specs.declared.instr.Source.TheVariants as source
 use Rattle.mips_rules.specs.Mips.{mips}
 use Rattle.mips_target.specs.declared.layout.Layout.{Layout}
 use Rattle.mips_target.specs.FunctionCode.{most_handed, argument_words}

@@ -7,7 +7,7 @@ use Rattle.asm_lines.specs.declared.instruction.Target.TheVariants as target
 use Rattle.asm_lines.specs.Statements.{MStatement, Does}
 use Rattle.asm_text.specs.Lines.{MLine}
 use Rattle.asm_text.specs.Program.{MInstruction}
-use Rattle.mips_rules.specs.declared.instr.Instr.{Instr}
+use Rattle.frame_code.specs.declared.instr.Instr.{Instr}
 use Rattle.mips_target.specs.declared.layout.Layout.{Layout}
 use Rattle.unit_text.specs.Items.{CodeItem}
 use Rattle.mips_target.specs.FunctionCode.{in_frame, epilogue, loads_of, call_of, handed_behind, unmarked, code_of_one, body_of}

@@ -12,8 +12,8 @@ use Rattle.asm_lines.specs.declared.instruction.Value.TheVariants as operand
 use Rattle.asm_lines.specs.declared.instruction.Target.TheVariants as target
 use Rattle.asm_text.specs.Program.{MInstruction, MProgram}
 use Rattle.vcode.specs.VirtualCode.{among}
-use Rattle.mips_rules.specs.declared.instr.Instr.{Instr}
-use Rattle.mips_rules.specs.declared.instr.Instr.TheVariants as instr
+use Rattle.frame_code.specs.declared.instr.Instr.{Instr}
+use Rattle.frame_code.specs.declared.instr.Instr.TheVariants as instr
 use Rattle.mips_rules.specs.Mips.{mips}
 use Rattle.mips_target.specs.declared.layout.Layout.{Layout}
 use Rattle.unit_text.specs.Items.{CodeItem, StandsIn, lines_in}

@@ -18,17 +18,19 @@ use Rattle.vcode.specs.RuleSets.{Row, Applies}
 use Rattle.vcode.specs.VirtualCode.{MCode, is_virtual, joined}
 use Rattle.vcode.specs.Emission.{Emitted, EmittedAll, Emits, EmitsAll, EmitsRoots, ByChain, ByRule, Nothing, OneMore, NoRoot, OneRoot}
 use Rattle.slot_allocator.specs.Slots.{slot_of, is_loaded, is_stored, loads, stores, renamed, spilled, allotted}
-use Rattle.mips_rules.specs.declared.action.Action.{Action}
-use Rattle.mips_rules.specs.declared.instr.Instr.{Instr}
-use Rattle.mips_rules.specs.declared.instr.Instr.TheVariants as instr
-use Rattle.mips_rules.specs.declared.part.Part.{Part}
-use Rattle.mips_rules.specs.declared.part.Part.TheVariants as part
-use Rattle.mips_rules.specs.Instructions.{rename}
+use Rattle.frame_rules.specs.declared.action.Action.{Action}
+use Rattle.frame_code.specs.declared.instr.Instr.{Instr}
+use Rattle.frame_code.specs.declared.instr.Instr.TheVariants as instr
+use Rattle.frame_rules.specs.declared.part.Part.{Part}
+use Rattle.frame_rules.specs.declared.part.Part.TheVariants as part
+use Rattle.frame_code.specs.Instructions.{rename}
 use Rattle.mips_rules.specs.Mips.{mips}
-use Rattle.mips_rules.specs.MipsRows.{addrgp}
-use Rattle.mips_rules.specs.MipsRules.{code_by, part_by, name_of, mips_rules}
-use Rattle.mips_rules.specs.OperatorNumbers.{is_addrgp}
-use Rattle.mips_rules.specs.AppliedRules.{Applied, applied, Discards, TakesConstant, PassesConstant, PassesRegister, LoadsConstant, TakesName, CombinesRegisters, CombinesConstant, Negates, HandsOver, Calls, CallsLabel, Returns}
+use Rattle.frame_rules.specs.Rows.{addrgp}
+use Rattle.frame_rules.specs.FrameRules.{code_by, part_by, name_of}
+use Rattle.mips_rules.specs.MipsRules.{mips_rules}
+use Rattle.frame_rules.specs.OperatorNumbers.{is_addrgp}
+use Rattle.frame_rules.specs.AppliedRules.{Applied, Discards, TakesConstant, PassesConstant, PassesRegister, LoadsConstant, TakesName, CombinesRegisters, CombinesConstant, Negates, HandsOver, Calls, CallsLabel, Returns}
+use Rattle.mips_rules.specs.AppliedRules.{applied}
 use Rattle.unit_text.specs.Callable.{IsCallable, HasCallable}
 use Rattle.mips_target.specs.Generated.{IsSelected, temporaries}
 use Rattle.mips_target.specs.CalledNames.{CallIs, CallsAre}

@@ -13,7 +13,7 @@ use Rattle.vcode.specs.Patterns.{Meeting, leaves_at}
 use Rattle.vcode.specs.RuleSets.{Row, row_of, Applies}
 use Rattle.vcode.specs.Leaves.{turned}
 use Rattle.vcode.proofs.lemmas.Deriving.{Parted, parted, applied_at}
-use Rattle.mips_rules.specs.declared.part.Part.{Part}
+use Rattle.frame_rules.specs.declared.part.Part.{Part}
 use Rattle.mips_rules.specs.MipsRows.{rows}
 use Rattle.mips_rules.specs.MipsRules.{mips_rules}
 

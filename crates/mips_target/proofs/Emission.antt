@@ -16,10 +16,11 @@ use Rattle.vcode.specs.VirtualCode.{MCode, joined}
 use Rattle.vcode.specs.Emission.{IsLinearised}
 use Rattle.slot_allocator.specs.Slots.{NamesKept}
 use Rattle.slot_allocator.specs.SlotCounts.{slots_needed}
-use Rattle.mips_rules.specs.declared.instr.Instr.{Instr}
+use Rattle.frame_code.specs.declared.instr.Instr.{Instr}
 use Rattle.mips_rules.specs.Mips.{mips}
-use Rattle.mips_rules.specs.MipsRules.{name_of, name_in, mips_rules}
-use Rattle.mips_rules.specs.OperatorNumbers.{is_addrgp}
+use Rattle.frame_rules.specs.FrameRules.{name_of, name_in}
+use Rattle.mips_rules.specs.MipsRules.{mips_rules}
+use Rattle.frame_rules.specs.OperatorNumbers.{is_addrgp}
 use Rattle.mips_target.specs.FunctionCode.{most_handed, argument_words}
 use Rattle.vcode.specs.NamesAmong.{NamesAmong}
 use Rattle.mips_target.specs.Sizes.{Fits}

@@ -19,10 +19,10 @@ use Rattle.forests.specs.HasRules.{IsGlobal}
 use Rattle.op_forest.specs.Lowered.{LoweredUnit, IsKnown, IsUnitName}
 use Rattle.vcode.specs.VirtualCode.{MCode}
 use Rattle.vcode.specs.Emission.{IsLinearised}
-use Rattle.mips_rules.specs.declared.instr.Instr.{Instr}
+use Rattle.frame_code.specs.declared.instr.Instr.{Instr}
 use Rattle.mips_rules.specs.Mips.{mips}
 use Rattle.mips_rules.specs.MipsRules.{mips_rules}
-use Rattle.mips_rules.specs.OperatorNumbers.{is_cnsti, is_addrgp}
+use Rattle.frame_rules.specs.OperatorNumbers.{is_cnsti, is_addrgp}
 use Rattle.mips_rules.specs.Shipped.{IsShipped}
 use Rattle.mips_target.specs.Frame.{words_size, frame_size}
 use Rattle.mips_target.specs.FunctionCode.{unmarked, function_code}

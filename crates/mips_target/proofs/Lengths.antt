@@ -3,8 +3,8 @@ use Rattle.std.proofs.Common.{◌≡◌, ℕ, zero, suc, ◌+◌, ◌*◌, ◌�
 use Rattle.asm_lines.specs.declared.instruction.Instruction.TheVariants.{Move, Load, Call}
 use Rattle.asm_lines.specs.declared.operator.LoadOp.TheVariants as load
 use Rattle.asm_lines.specs.declared.instruction.Target.TheVariants as target
-use Rattle.mips_rules.specs.declared.instr.Instr.{Instr}
-use Rattle.mips_rules.specs.declared.instr.Instr.TheVariants as instr
+use Rattle.frame_code.specs.declared.instr.Instr.{Instr}
+use Rattle.frame_code.specs.declared.instr.Instr.TheVariants as instr
 use Rattle.mips_target.specs.declared.layout.Layout.{Layout}
 use Rattle.mips_target.specs.Frame.{frame_size}
 use Rattle.mips_target.specs.FunctionCode.{in_frame, loads_of, call_of, instructions_of, handed_behind}

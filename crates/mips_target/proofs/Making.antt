@@ -10,8 +10,8 @@ use Rattle.asm_text.specs.Makes.{Makes}
 use Rattle.asm_text.specs.Program.{MInstruction, MLabel, MProgram}
 use Rattle.op_forest.specs.declared.lowered.LoweredFunction.{LoweredFunction}
 use Rattle.op_forest.specs.Lowered.{LoweredUnit, IsLowered}
-use Rattle.mips_rules.specs.declared.instr.Instr.{Instr}
-use Rattle.mips_rules.specs.declared.instr.Instr.TheVariants as instr
+use Rattle.frame_code.specs.declared.instr.Instr.{Instr}
+use Rattle.frame_code.specs.declared.instr.Instr.TheVariants as instr
 use Rattle.mips_target.specs.FunctionCode.{unmarked}
 use Rattle.unit_text.specs.UnitLines.{Item, Coded, plain, code_lines, items_of, unit_lines}
 use Rattle.mips_target.specs.Generated.{IsFunction, IsGenerated}

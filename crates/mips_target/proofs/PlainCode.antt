@@ -12,9 +12,9 @@ use Rattle.asm_lines.specs.declared.instruction.Value.TheVariants as operand
 use Rattle.asm_lines.specs.declared.instruction.Target.TheVariants as target
 use Rattle.asm_text.specs.Program.{MInstruction}
 use Rattle.slot_allocator.specs.Slots.{slot_of}
-use Rattle.mips_rules.specs.declared.instr.Instr.{Instr}
-use Rattle.mips_rules.specs.declared.instr.Instr.TheVariants as instr
-use Rattle.mips_rules.specs.declared.instr.Source.TheVariants as source
+use Rattle.frame_code.specs.declared.instr.Instr.{Instr}
+use Rattle.frame_code.specs.declared.instr.Instr.TheVariants as instr
+use Rattle.frame_code.specs.declared.instr.Source.TheVariants as source
 use Rattle.mips_target.specs.declared.layout.Layout.{Layout}
 use Rattle.mips_target.specs.Frame.{slot_place, return_place, words_size, frame_size}
 use Rattle.mips_target.specs.FunctionCode.{in_frame, binary_of, loads_of, epilogue, unmarked}

@@ -7,8 +7,8 @@ use Rattle.asm_text.specs.Lines.{MLine}
 use Rattle.asm_text.specs.Printable.{ArePrintable}
 use Rattle.op_forest.specs.declared.lowered.LoweredFunction.{LoweredFunction}
 use Rattle.op_forest.specs.Lowered.{LoweredUnit, IsUnitName, IsFunctionOf, IsLowered}
-use Rattle.mips_rules.specs.declared.instr.Instr.{Instr}
-use Rattle.mips_rules.specs.declared.instr.Instr.TheVariants as instr
+use Rattle.frame_code.specs.declared.instr.Instr.{Instr}
+use Rattle.frame_code.specs.declared.instr.Instr.TheVariants as instr
 use Rattle.mips_target.specs.declared.layout.Layout.{Layout}
 use Rattle.mips_target.specs.FunctionCode.{handed_behind}
 use Rattle.mips_target.specs.Sizes.{FitsOne, Fits}

@@ -6,14 +6,16 @@ use Rattle.lburg_model.specs.Pattern.{MPattern, PHole}
 use Rattle.op_forest.specs.Nodes.{Node}
 use Rattle.vcode.specs.RuleSets.{Row, Applies}
 use Rattle.vcode.specs.Templates.{expanded, is_instruction}
-use Rattle.mips_rules.specs.declared.action.Action.{Action}
-use Rattle.mips_rules.specs.declared.action.Action.TheVariants as action
-use Rattle.mips_rules.specs.declared.arithmetic.Arithmetic.{Arithmetic}
-use Rattle.mips_rules.specs.declared.arithmetic.Arithmetic.TheVariants as arithmetic
-use Rattle.mips_rules.specs.declared.part.Part.{Part}
-use Rattle.mips_rules.specs.MipsRows.{Line, lines, reg}
-use Rattle.mips_rules.specs.MipsRules.{mips_rules, action_in, action_at}
-use Rattle.mips_rules.specs.AppliedRules.{at_row}
+use Rattle.frame_rules.specs.declared.action.Action.{Action}
+use Rattle.frame_rules.specs.declared.action.Action.TheVariants as action
+use Rattle.frame_code.specs.declared.arithmetic.Arithmetic.{Arithmetic}
+use Rattle.frame_code.specs.declared.arithmetic.Arithmetic.TheVariants as arithmetic
+use Rattle.frame_rules.specs.declared.part.Part.{Part}
+use Rattle.frame_rules.specs.Rows.{Line, reg}
+use Rattle.mips_rules.specs.MipsRows.{lines}
+use Rattle.frame_rules.specs.FrameRules.{action_in}
+use Rattle.mips_rules.specs.MipsRules.{mips_rules, action_at}
+use Rattle.frame_rules.specs.AppliedRules.{at_row}
 use Rattle.mips_target.proofs.SaidLines.{binary_text}
 
 abbrev pub pass_template : MPattern → List ℕ

@@ -26,8 +26,8 @@ use Rattle.asm_text.specs.Program.{MInstruction}
 use Rattle.op_forest.specs.Lowered.{IsUnitName, is_symbol}
 use Rattle.forests.specs.Words.{number_of as word_number}
 use Rattle.vcode.specs.Templates.{signed_decimal}
-use Rattle.mips_rules.specs.declared.arithmetic.Arithmetic.{Arithmetic}
-use Rattle.mips_rules.specs.declared.arithmetic.Arithmetic.TheVariants as arithmetic
+use Rattle.frame_code.specs.declared.arithmetic.Arithmetic.{Arithmetic}
+use Rattle.frame_code.specs.declared.arithmetic.Arithmetic.TheVariants as arithmetic
 use Rattle.mips_target.specs.FunctionCode.{binary_of}
 
 -- ---- lines

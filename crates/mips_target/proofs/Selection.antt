@@ -18,7 +18,7 @@ use Rattle.vcode.specs.SlotsBelow.{UsesSlotsBelow}
 use Rattle.slot_allocator.specs.SlotCounts.{slots_needed}
 use Rattle.vcode.specs.Allocation.{IsAllocation}
 use Rattle.vcode.specs.Following.{Follows}
-use Rattle.mips_rules.specs.declared.instr.Instr.{Instr}
+use Rattle.frame_code.specs.declared.instr.Instr.{Instr}
 use Rattle.mips_rules.specs.Mips.{mips}
 use Rattle.mips_rules.specs.MipsRules.{mips_rules}
 use Rattle.mips_rules.specs.Shipped.{IsShipped, CoversRoots}

@@ -2,8 +2,8 @@
 use Rattle.std.proofs.Common.{ℕ, zero, suc, List, [], ◌∷◌, ◌++◌, min, get_or, sym, subst}
 use Rattle.asm_text.specs.Names.{names_of_instruction}
 use Rattle.asm_text.specs.Program.{MInstruction}
-use Rattle.mips_rules.specs.declared.instr.Instr.{Instr}
-use Rattle.mips_rules.specs.declared.instr.Instr.TheVariants as instr
+use Rattle.frame_code.specs.declared.instr.Instr.{Instr}
+use Rattle.frame_code.specs.declared.instr.Instr.TheVariants as instr
 use Rattle.mips_target.specs.declared.layout.Layout.{Layout}
 use Rattle.mips_target.specs.FunctionCode.{loads_of, instructions_of, handed_behind, epilogue, unmarked, function_code}
 use Rattle.mips_target.proofs.Unmarked.{body_instructions, function_instructions, function_unmarked}

@@ -2,7 +2,7 @@
 use Rattle.std.proofs.Common.{◌≡◌, ℕ, List, [], ◌∷◌, ◌++◌, refl, sym, ap, ◌∙◌}
 use Rattle.std.proofs.lemmas.List.{map-append}
 use Rattle.asm_text.specs.Program.{MInstruction}
-use Rattle.mips_rules.specs.declared.instr.Instr.{Instr}
+use Rattle.frame_code.specs.declared.instr.Instr.{Instr}
 use Rattle.mips_target.specs.declared.layout.Layout.{Layout}
 use Rattle.unit_text.specs.Items.{Line, lines_in}
 use Rattle.mips_target.specs.FunctionCode.{prologue, epilogue, instructions_of, handed_behind, unmarked, body_of, function_code}

@@ -26,16 +26,19 @@ use Rattle.vcode.specs.RuleSets.{Row, row_of}
 use Rattle.vcode.specs.Templates.{fillings, expanded, is_instruction, signed_decimal, symbol_text, RowIs, Writes, APart, ALine, WritesAll, NoText, OneText, WritesRoots, NoLine, OneLine}
 use Rattle.vcode.specs.VirtualCode.{joined}
 use Rattle.vcode.specs.Emission.{Emitted, EmittedAll, Emits, EmitsAll, EmitsRoots, ByChain, ByRule, Nothing, OneMore, NoRoot, OneRoot}
-use Rattle.mips_rules.specs.declared.action.Action.{Action}
-use Rattle.mips_rules.specs.declared.arithmetic.Arithmetic.{Arithmetic}
-use Rattle.mips_rules.specs.declared.instr.Instr.{Instr}
-use Rattle.mips_rules.specs.declared.instr.Instr.TheVariants as instr
-use Rattle.mips_rules.specs.declared.instr.Source.TheVariants as source
-use Rattle.mips_rules.specs.declared.part.Part.{Part}
-use Rattle.mips_rules.specs.declared.part.Part.TheVariants as part
-use Rattle.mips_rules.specs.MipsRows.{rows, stmt, con, rc, reg, addr, cnsti, addrgp}
-use Rattle.mips_rules.specs.MipsRules.{action_at, code_by, part_by, name_of, name_in, constant_of, mips_rules}
-use Rattle.mips_rules.specs.AppliedRules.{Applied, applied, Discards, TakesConstant, PassesConstant, PassesRegister, LoadsConstant, TakesName, CombinesRegisters, CombinesConstant, Negates, HandsOver, Calls, CallsLabel, Returns}
+use Rattle.frame_rules.specs.declared.action.Action.{Action}
+use Rattle.frame_code.specs.declared.arithmetic.Arithmetic.{Arithmetic}
+use Rattle.frame_code.specs.declared.instr.Instr.{Instr}
+use Rattle.frame_code.specs.declared.instr.Instr.TheVariants as instr
+use Rattle.frame_code.specs.declared.instr.Source.TheVariants as source
+use Rattle.frame_rules.specs.declared.part.Part.{Part}
+use Rattle.frame_rules.specs.declared.part.Part.TheVariants as part
+use Rattle.frame_rules.specs.Rows.{stmt, con, rc, reg, addr, cnsti, addrgp}
+use Rattle.mips_rules.specs.MipsRows.{rows}
+use Rattle.frame_rules.specs.FrameRules.{code_by, part_by, name_of, name_in, constant_of}
+use Rattle.mips_rules.specs.MipsRules.{action_at, mips_rules}
+use Rattle.frame_rules.specs.AppliedRules.{Applied, Discards, TakesConstant, PassesConstant, PassesRegister, LoadsConstant, TakesName, CombinesRegisters, CombinesConstant, Negates, HandsOver, Calls, CallsLabel, Returns}
+use Rattle.mips_rules.specs.AppliedRules.{applied}
 use Rattle.vcode.specs.Leaves.{turned}
 use Rattle.mips_target.specs.FunctionCode.{binary_of}
 use Rattle.mips_target.proofs.Added.{EachMet, each_front, each_last, at_root, at_met, applied_at}

@@ -1,7 +1,7 @@
 -- The names that code calls.
 use Rattle.std.specs.Prelude.{ℕ, List, [], ◌∷◌}
-use Rattle.mips_rules.specs.declared.instr.Instr.{Instr}
-use Rattle.mips_rules.specs.declared.instr.Instr.TheVariants as instr
+use Rattle.frame_code.specs.declared.instr.Instr.{Instr}
+use Rattle.frame_code.specs.declared.instr.Instr.TheVariants as instr
 
 -- P holds of the name that the instruction calls
 abbrev pub CallIs : (ℕ → Type 0) → Instr → Type 0

@@ -15,12 +15,12 @@ use Rattle.asm_lines.specs.declared.operator.UnaryOp.TheVariants as unary
 use Rattle.asm_lines.specs.declared.operator.LoadOp.TheVariants as load
 use Rattle.asm_lines.specs.declared.operator.StoreOp.TheVariants as store
 use Rattle.asm_text.specs.Program.{MInstruction}
-use Rattle.mips_rules.specs.declared.arithmetic.Arithmetic.{Arithmetic}
-use Rattle.mips_rules.specs.declared.arithmetic.Arithmetic.TheVariants as arithmetic
-use Rattle.mips_rules.specs.declared.instr.Instr.{Instr}
-use Rattle.mips_rules.specs.declared.instr.Instr.TheVariants as instr
-use Rattle.mips_rules.specs.declared.instr.Source.{Source}
-use Rattle.mips_rules.specs.declared.instr.Source.TheVariants as source
+use Rattle.frame_code.specs.declared.arithmetic.Arithmetic.{Arithmetic}
+use Rattle.frame_code.specs.declared.arithmetic.Arithmetic.TheVariants as arithmetic
+use Rattle.frame_code.specs.declared.instr.Instr.{Instr}
+use Rattle.frame_code.specs.declared.instr.Instr.TheVariants as instr
+use Rattle.frame_code.specs.declared.instr.Source.{Source}
+use Rattle.frame_code.specs.declared.instr.Source.TheVariants as source
 use Rattle.mips_target.specs.declared.layout.Layout.{Layout}
 use Rattle.unit_text.specs.Items.{CodeItem, Line}
 use Rattle.mips_target.specs.Frame.{slot_place, return_place, frame_size}

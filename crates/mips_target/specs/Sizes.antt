@@ -2,10 +2,10 @@
 -- loads are words, the slots are in the frame, the argument words have their places, and the names are there.
 use Rattle.std.specs.Prelude.{ℕ, ◌<◌, ◌^◌, List, [], ◌∷◌, length}
 use Rattle.std.specs.Int.RustNames.{unsigned_abs}
-use Rattle.mips_rules.specs.declared.instr.Instr.{Instr}
-use Rattle.mips_rules.specs.declared.instr.Instr.TheVariants as instr
-use Rattle.mips_rules.specs.declared.instr.Source.{Source}
-use Rattle.mips_rules.specs.declared.instr.Source.TheVariants as source
+use Rattle.frame_code.specs.declared.instr.Instr.{Instr}
+use Rattle.frame_code.specs.declared.instr.Instr.TheVariants as instr
+use Rattle.frame_code.specs.declared.instr.Source.{Source}
+use Rattle.frame_code.specs.declared.instr.Source.TheVariants as source
 use Rattle.mips_target.specs.declared.layout.Layout.{Layout}
 use Rattle.mips_target.specs.FunctionCode.{handed_behind}
 

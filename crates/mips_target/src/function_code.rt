@@ -11,8 +11,8 @@ use asm_text::{
     Address, BinaryOp, Instruction, Lines, LoadOp, Register, Statement, StoreOp, Target, UnaryOp,
     Value,
 };
+use frame_code::{Arithmetic, Instr, Source};
 use lcc_base::{Bytes, Memory};
-use mips_rules::{Arithmetic, Instr, Source};
 use std::alloc::Global;
 use unit_text::push_plain;
 use vcode::Reg;

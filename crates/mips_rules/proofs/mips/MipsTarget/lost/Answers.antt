@@ -1,6 +1,6 @@
 use Rattle.std.proofs.Common.{◌≡◌, ap, sym, ◌∙◌}
 use Rattle.vcode.specs.RegisterSets.{has, with_all, none}
-use Rattle.mips_rules.specs.Instructions.{lost_at_calls, loses}
+use Rattle.mips_rules.specs.Losses.{lost_at_calls, loses}
 use Rattle.mips_rules.proofs.RegisterSets.{none_has, lost_has, others_lose_nothing}
 use Rattle.mips_rules.proofs.mips.MipsTarget.lost.Goals as goal
 

@@ -1,5 +1,6 @@
 use Rattle.std.proofs.Common.{subst, sym}
-use Rattle.mips_rules.specs.AppliedRules.{Applied, applied}
+use Rattle.frame_rules.specs.AppliedRules.{Applied}
+use Rattle.mips_rules.specs.AppliedRules.{applied}
 use Rattle.mips_rules.proofs.mips_rules.MipsRulesRuleSetMips.expand.Goals as goal
 
 pub instr_by-requires : goal.instr_by-requires

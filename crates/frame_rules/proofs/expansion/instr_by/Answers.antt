@@ -1,7 +1,7 @@
 use Rattle.std.proofs.Common.{subst}
-use Rattle.mips_rules.specs.AppliedRules.{Applied}
-use Rattle.mips_rules.proofs.PartForms.{loaded, combined_first, combined_second, negated_part, called_part, handed_part, returned_part}
-use Rattle.mips_rules.proofs.expansion.instr_by.Goals as goal
+use Rattle.frame_rules.specs.AppliedRules.{Applied}
+use Rattle.frame_rules.proofs.PartForms.{loaded, combined_first, combined_second, negated_part, called_part, handed_part, returned_part}
+use Rattle.frame_rules.proofs.expansion.instr_by.Goals as goal
 
 pub number_at-requires : goal.number_at-requires
 number_at-requires c =

@@ -1,7 +1,6 @@
--- The instructions of MIPS over registers without number: what each reads and writes, what it does with the values
--- that it reads, and what it leaves unknown. With another number of values it has no meaning.
--- Source: G. Kane and J. Heinrich, MIPS RISC Architecture, 1992; the calling convention is that of Fraser and Hanson,
--- A Retargetable C Compiler, chapter 16.
+-- The instructions of generated code, for every target, over registers without number: what each reads and writes, and what
+-- it does with the values that it reads. With another number of values it has no meaning.
+-- Source: Fraser and Hanson, A Retargetable C Compiler, chapters 13 to 16.
 use Rattle.std.specs.Prelude.{ℕ, zero, suc, List, [], ◌∷◌, Bool, true, false, Some}
 use Rattle.objects.specs.declared.operators.Unary.TheVariants.{Negate}
 use Rattle.objects.specs.declared.operators.Binary.{Binary}
@@ -16,14 +15,13 @@ use Rattle.forests.specs.Numbers.{of_one, of_two}
 use Rattle.forests.specs.Rows.{called}
 use Rattle.forests.specs.Units.{word_or_unknown}
 use Rattle.vcode.specs.declared.operand.Operand.{Operand}
-use Rattle.vcode.specs.Machines.{Kind, Plain, Load, Store, Copy, reads_one, writes_one, nothing_lost}
-use Rattle.vcode.specs.VirtualCode.{among}
-use Rattle.mips_rules.specs.declared.arithmetic.Arithmetic.{Arithmetic}
-use Rattle.mips_rules.specs.declared.arithmetic.Arithmetic.TheVariants.{Add, Subtract, Multiply}
-use Rattle.mips_rules.specs.declared.instr.Instr.{Instr}
-use Rattle.mips_rules.specs.declared.instr.Instr.TheVariants as instr
-use Rattle.mips_rules.specs.declared.instr.Source.{Source}
-use Rattle.mips_rules.specs.declared.instr.Source.TheVariants as source
+use Rattle.vcode.specs.Machines.{Kind, Plain, Load, Store, Copy, reads_one, writes_one}
+use Rattle.frame_code.specs.declared.arithmetic.Arithmetic.{Arithmetic}
+use Rattle.frame_code.specs.declared.arithmetic.Arithmetic.TheVariants.{Add, Subtract, Multiply}
+use Rattle.frame_code.specs.declared.instr.Instr.{Instr}
+use Rattle.frame_code.specs.declared.instr.Instr.TheVariants as instr
+use Rattle.frame_code.specs.declared.instr.Source.{Source}
+use Rattle.frame_code.specs.declared.instr.Source.TheVariants as source
 
 abbrev pub source_operands : Source → List Operand
 source_operands (source.Register r) = reads_one r ∷ []
@@ -64,20 +62,28 @@ moves (instr.Copy to from) = false
 moves (instr.LoadSlot to slot) = false
 moves (instr.StoreSlot from slot) = false
 
--- $1 to $15, $24 and $25 are those that a called function needn't save, and $31 gets the place to return to
-abbrev pub lost_at_calls : List ℕ
-lost_at_calls = 1 ∷ 2 ∷ 3 ∷ 4 ∷ 5 ∷ 6 ∷ 7 ∷ 8 ∷ 9 ∷ 10 ∷ 11 ∷ 12 ∷ 13 ∷ 14 ∷ 15 ∷ 24 ∷ 25 ∷ 31 ∷ []
+-- an instruction without its registers, numbers and names
+pub data Shape : Type 0 where
+  LoadsNumber : Shape
+  Operates : (op : Arithmetic) → Shape
+  Negates : Shape
+  HandsOver : Shape
+  Calls : Shape
+  Returns : Shape
+  Copies : Shape
+  LoadsSlot : Shape
+  StoresSlot : Shape
 
-abbrev pub loses : Instr → ℕ → Bool
-loses (instr.LoadNumber to n) = nothing_lost
-loses (instr.Binary op to from operand) = nothing_lost
-loses (instr.Negate to from) = nothing_lost
-loses (instr.Argument from) = nothing_lost
-loses (instr.Call to name) = λ r. among r lost_at_calls
-loses (instr.Return from) = nothing_lost
-loses (instr.Copy to from) = nothing_lost
-loses (instr.LoadSlot to slot) = nothing_lost
-loses (instr.StoreSlot from slot) = nothing_lost
+abbrev pub shape : Instr → Shape
+shape (instr.LoadNumber to n) = LoadsNumber
+shape (instr.Binary op to from operand) = Operates op
+shape (instr.Negate to from) = Negates
+shape (instr.Argument from) = HandsOver
+shape (instr.Call to name) = Calls
+shape (instr.Return from) = Returns
+shape (instr.Copy to from) = Copies
+shape (instr.LoadSlot to slot) = LoadsSlot
+shape (instr.StoreSlot from slot) = StoresSlot
 
 -- the operation of C that an operation is
 abbrev pub combined : Arithmetic → Binary

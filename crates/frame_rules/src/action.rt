@@ -1,5 +1,5 @@
-//! The semantic actions of the MIPS rules: which code each one emits and what it hands up.
-use crate::arithmetic::Arithmetic;
+//! The semantic actions of rules: which code each one emits and what it hands up.
+use frame_code::Arithmetic;
 
 /// What a rule adds to the code and hands up.
 #[derive(Clone, Copy, Debug, PartialEq, Eq)]
@@ -12,7 +12,7 @@ pub enum Action {
     TakeConstant,
     /// Nothing, and hands up the node's name or label.
     TakeName,
-    /// `li` of its one part, a constant; it hands up the node's register, and so do the next three.
+    /// The load of its one part, a constant; it hands up the node's register, and so do the next three.
     LoadConstant,
     /// An operation on its two parts, a register, and a register or a constant.
     Combine(Arithmetic),

@@ -1,7 +1,7 @@
-//! The values that nonterminals of the MIPS rules hand up to the rules above them.
+//! The values that nonterminals of rules hand up to the rules above them.
 use vcode::Reg;
 
-/// What a nonterminal of MIPS's rules hands up.
+/// What a nonterminal hands up.
 #[derive(Clone, Copy, Debug, PartialEq, Eq)]
 pub enum Part {
     /// The value of a register.

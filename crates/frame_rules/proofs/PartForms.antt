@@ -1,15 +1,15 @@
 -- What the parts of an applied rule are, by its action.
 use Rattle.std.proofs.Common.{◌≡◌, ℕ, ◌<◌, ◌||◌, true, List, Some, length, refl, arith}
 use Rattle.std.specs.Prelude.{slice_get}
-use Rattle.mips_rules.specs.declared.arithmetic.Arithmetic.{Arithmetic}
+use Rattle.frame_code.specs.declared.arithmetic.Arithmetic.{Arithmetic}
 use Rattle.lburg_model.specs.Pattern.{MPattern}
 use Rattle.op_forest.specs.Nodes.{Node}
 use Rattle.vcode.specs.Patterns.{Meeting}
-use Rattle.mips_rules.specs.declared.action.Action.TheVariants as action
-use Rattle.mips_rules.specs.declared.part.Part.{Part}
-use Rattle.mips_rules.specs.declared.part.Part.TheVariants.{Register, Constant, Name, Label}
-use Rattle.mips_rules.specs.MipsRules.{is_register, is_constant, is_place}
-use Rattle.mips_rules.specs.AppliedRules.{Applied, PassesConstant, PassesRegister, LoadsConstant, CombinesRegisters, CombinesConstant, Negates, HandsOver, Calls, CallsLabel, Returns}
+use Rattle.frame_rules.specs.declared.action.Action.TheVariants as action
+use Rattle.frame_rules.specs.declared.part.Part.{Part}
+use Rattle.frame_rules.specs.declared.part.Part.TheVariants.{Register, Constant, Name, Label}
+use Rattle.frame_rules.specs.FrameRules.{is_register, is_constant, is_place}
+use Rattle.frame_rules.specs.AppliedRules.{Applied, PassesConstant, PassesRegister, LoadsConstant, CombinesRegisters, CombinesConstant, Negates, HandsOver, Calls, CallsLabel, Returns}
 
 pub passed : {left : ℕ} {pattern : MPattern} {t : Node} {ps : List Part} {ms : List Meeting} → Applied action.Pass left pattern t ps ms → 0 < length ps
 passed (PassesConstant t n) = omega arith

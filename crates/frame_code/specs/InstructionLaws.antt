@@ -1,7 +1,6 @@
--- The instructions of MIPS keep the laws of a machine.
-use Rattle.std.specs.Prelude.{◌≡◌, ℕ, zero, suc, ◌<◌, ◌≤◌, ◌==◌, ◌||◌, List, [], ◌∷◌, Bool, true, false, Option, Some, None, length, refl}
+-- The instructions of generated code keep the laws of a machine.
+use Rattle.std.specs.Prelude.{◌≡◌, ℕ, zero, suc, ◌<◌, ◌≤◌, List, [], ◌∷◌, Bool, true, false, Option, Some, None, length, refl}
 use Rattle.std.proofs.Common.{arith}
-use Rattle.std.proofs.lemmas.Bool.{ne_eqb}
 use Rattle.objects.specs.declared.operators.Unary.TheVariants.{Negate}
 use Rattle.objects.specs.declared.value.Value.TheVariants.{Number, Pointer, Function}
 use Rattle.forests.specs.Words.{Word}
@@ -12,11 +11,10 @@ use Rattle.forests.specs.Bodies.{Setting}
 use Rattle.forests.specs.Numbers.{of_one, of_two}
 use Rattle.forests.specs.Rows.{called}
 use Rattle.vcode.specs.Machines.{Mark, Plain, with_register, WritesNothing}
-use Rattle.vcode.specs.VirtualCode.{among}
-use Rattle.mips_rules.specs.declared.instr.Instr.{Instr}
-use Rattle.mips_rules.specs.declared.instr.Instr.TheVariants as instr
-use Rattle.mips_rules.specs.declared.instr.Source.TheVariants as source
-use Rattle.mips_rules.specs.Instructions.{operands, kind, moves, lost_at_calls, loses, combined, with_none, with_one, with_two, word_of_name, does_with, acts, rename}
+use Rattle.frame_code.specs.declared.instr.Instr.{Instr}
+use Rattle.frame_code.specs.declared.instr.Instr.TheVariants as instr
+use Rattle.frame_code.specs.declared.instr.Source.TheVariants as source
+use Rattle.frame_code.specs.Instructions.{operands, kind, moves, shape, combined, with_none, with_one, with_two, word_of_name, does_with, acts, rename}
 
 past_one : (n : ℕ) → suc n < 1 → ⊥
 past_one n h = omega arith
@@ -66,59 +64,26 @@ rename-operands (instr.StoreSlot from slot) (suc k) r h = absurd (past_one k h)
 
 -- what renaming keeps
 pub record Keeps (i j : Instr) : Type 0 where
-  pub loses_same : loses j ≡ loses i
+  pub shape_same : shape j ≡ shape i
   pub kind_same : kind j ≡ kind i
   pub moves_same : moves j ≡ moves i
   pub acts_same : (s : Setting) → acts s j ≡ acts s i
 
 pub kept : (i : Instr) (n r : ℕ) → Keeps i (rename i n r)
-kept (instr.LoadNumber to n) k r = record { loses_same = refl; kind_same = refl; moves_same = refl; acts_same = λ s. refl }
-kept (instr.Binary op to from operand) zero r = record { loses_same = refl; kind_same = refl; moves_same = refl; acts_same = λ s. refl }
-kept (instr.Binary op to from operand) (suc zero) r = record { loses_same = refl; kind_same = refl; moves_same = refl; acts_same = λ s. refl }
-kept (instr.Binary op to from (source.Register q)) (suc (suc k)) r = record { loses_same = refl; kind_same = refl; moves_same = refl; acts_same = λ s. refl }
-kept (instr.Binary op to from (source.Number n)) (suc (suc k)) r = record { loses_same = refl; kind_same = refl; moves_same = refl; acts_same = λ s. refl }
-kept (instr.Negate to from) zero r = record { loses_same = refl; kind_same = refl; moves_same = refl; acts_same = λ s. refl }
-kept (instr.Negate to from) (suc k) r = record { loses_same = refl; kind_same = refl; moves_same = refl; acts_same = λ s. refl }
-kept (instr.Argument from) k r = record { loses_same = refl; kind_same = refl; moves_same = refl; acts_same = λ s. refl }
-kept (instr.Call to name) k r = record { loses_same = refl; kind_same = refl; moves_same = refl; acts_same = λ s. refl }
-kept (instr.Return from) k r = record { loses_same = refl; kind_same = refl; moves_same = refl; acts_same = λ s. refl }
-kept (instr.Copy to from) zero r = record { loses_same = refl; kind_same = refl; moves_same = refl; acts_same = λ s. refl }
-kept (instr.Copy to from) (suc k) r = record { loses_same = refl; kind_same = refl; moves_same = refl; acts_same = λ s. refl }
-kept (instr.LoadSlot to slot) k r = record { loses_same = refl; kind_same = refl; moves_same = refl; acts_same = λ s. refl }
-kept (instr.StoreSlot from slot) k r = record { loses_same = refl; kind_same = refl; moves_same = refl; acts_same = λ s. refl }
-
-or_false : (b c : Bool) → b ≡ false → c ≡ false → (b || c) ≡ false
-or_false true c e f = absurd cc
-or_false false c e f = f
-
--- each of these registers is below 64
-abbrev AllLow : List ℕ → Type 0
-AllLow [] = Unit {0}
-AllLow (q ∷ qs) = (q < 64) × AllLow qs
-
-apart : (q r : ℕ) → q < 64 → 64 ≤ r → r ≡ q → ⊥
-apart q r h g e = omega (arith, h, g, e)
-
-not_among : (qs : List ℕ) (r : ℕ) → AllLow qs → 64 ≤ r → among r qs ≡ false
-not_among [] r h g = refl
-not_among (q ∷ qs) r h g = or_false (r == q) (among r qs) (ne_eqb r q (apart q r h.0 g)) (not_among qs r h.1 g)
-
-low_calls : AllLow lost_at_calls
-low_calls = (omega arith, (omega arith, (omega arith, (omega arith, (omega arith, (omega arith, (omega arith, (omega arith, (omega arith, (omega arith, (omega arith, (omega arith, (omega arith, (omega arith, (omega arith, (omega arith, (omega arith, (omega arith, tt))))))))))))))))))
-
-pub calls_lose_low : (r : ℕ) → 64 ≤ r → among r lost_at_calls ≡ false
-calls_lose_low r h = not_among lost_at_calls r low_calls h
-
-pub loses-machine : (i : Instr) (r : ℕ) → 64 ≤ r → loses i r ≡ false
-loses-machine (instr.LoadNumber to n) r h = refl
-loses-machine (instr.Binary op to from operand) r h = refl
-loses-machine (instr.Negate to from) r h = refl
-loses-machine (instr.Argument from) r h = refl
-loses-machine (instr.Call to name) r h = calls_lose_low r h
-loses-machine (instr.Return from) r h = refl
-loses-machine (instr.Copy to from) r h = refl
-loses-machine (instr.LoadSlot to slot) r h = refl
-loses-machine (instr.StoreSlot from slot) r h = refl
+kept (instr.LoadNumber to n) k r = record { shape_same = refl; kind_same = refl; moves_same = refl; acts_same = λ s. refl }
+kept (instr.Binary op to from operand) zero r = record { shape_same = refl; kind_same = refl; moves_same = refl; acts_same = λ s. refl }
+kept (instr.Binary op to from operand) (suc zero) r = record { shape_same = refl; kind_same = refl; moves_same = refl; acts_same = λ s. refl }
+kept (instr.Binary op to from (source.Register q)) (suc (suc k)) r = record { shape_same = refl; kind_same = refl; moves_same = refl; acts_same = λ s. refl }
+kept (instr.Binary op to from (source.Number n)) (suc (suc k)) r = record { shape_same = refl; kind_same = refl; moves_same = refl; acts_same = λ s. refl }
+kept (instr.Negate to from) zero r = record { shape_same = refl; kind_same = refl; moves_same = refl; acts_same = λ s. refl }
+kept (instr.Negate to from) (suc k) r = record { shape_same = refl; kind_same = refl; moves_same = refl; acts_same = λ s. refl }
+kept (instr.Argument from) k r = record { shape_same = refl; kind_same = refl; moves_same = refl; acts_same = λ s. refl }
+kept (instr.Call to name) k r = record { shape_same = refl; kind_same = refl; moves_same = refl; acts_same = λ s. refl }
+kept (instr.Return from) k r = record { shape_same = refl; kind_same = refl; moves_same = refl; acts_same = λ s. refl }
+kept (instr.Copy to from) zero r = record { shape_same = refl; kind_same = refl; moves_same = refl; acts_same = λ s. refl }
+kept (instr.Copy to from) (suc k) r = record { shape_same = refl; kind_same = refl; moves_same = refl; acts_same = λ s. refl }
+kept (instr.LoadSlot to slot) k r = record { shape_same = refl; kind_same = refl; moves_same = refl; acts_same = λ s. refl }
+kept (instr.StoreSlot from slot) k r = record { shape_same = refl; kind_same = refl; moves_same = refl; acts_same = λ s. refl }
 
 pub no_mark : (i : Instr) (l : ℕ) → kind i ≡ Mark l → ⊥
 no_mark (instr.LoadNumber to n) l e = cc

@@ -15,7 +15,7 @@ use Rattle.forests.specs.Actions.{Action, Meaningless, effect_of}
 use Rattle.forests.specs.Addresses.{Environment}
 use Rattle.forests.specs.Rows.{leaf_row, unary_row, binary_row, acts}
 use Rattle.forests.specs.Bodies.{Setting, does}
-use Rattle.mips_rules.specs.MipsRows.{cnsti, addrgp, argi, calli, reti, negi, addi, subi, muli}
+use Rattle.frame_rules.specs.Rows.{cnsti, addrgp, argi, calli, reti, negi, addi, subi, muli}
 
 pub is_cnsti : (h : Head) → HasNumber h cnsti Cnst I
 is_cnsti h = is_numbered h cnsti Cnst I (λ e. omega (arith, e)) refl

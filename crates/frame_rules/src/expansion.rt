@@ -1,37 +1,18 @@
-//! The expansion of rules into MIPS instructions, as their actions say.
-ghost use Rattle.std.specs.Prelude.{◌≡◌, ◌<◌, ◌≤◌, ◌||◌, true, ℕ, List, length, map, Some, slice_get, option_to_list};
+//! The expansion of rules into instructions, as their actions say.
+ghost use Rattle.std.specs.Prelude.{◌≡◌, ◌||◌, true, ℕ, List, Some, slice_get, option_to_list};
 ghost use Rattle.lburg_model.specs.Pattern.{MPattern};
 ghost use Rattle.op_forest.specs.Nodes.{Node, head_of};
 ghost use Rattle.vcode.specs.Patterns.{Meeting};
-ghost use Rattle.mips_rules.specs.declared.part.Part.{Part as Parts};
-ghost use Rattle.mips_rules.specs.AppliedRules.{Applied};
-ghost use Rattle.mips_rules.specs.MipsRules.{action_at, part_at, register_of, number_in, source_of, name_in, constant_of, name_of, is_register, is_constant, is_place, code_by, part_by};
+ghost use Rattle.frame_rules.specs.declared.part.Part.{Part as Parts};
+ghost use Rattle.frame_rules.specs.AppliedRules.{Applied};
+ghost use Rattle.frame_rules.specs.FrameRules.{part_at, register_of, number_in, source_of, name_in, constant_of, name_of, is_register, is_constant, is_place, code_by, part_by};
 
 use crate::action::Action;
-use crate::arithmetic::Arithmetic;
-use crate::instr::{Instr, Source};
 use crate::part::Part;
-use crate::rule_line::{RULES, RuleLine};
+use frame_code::{Arithmetic, Instr, Source};
 use lcc_base::Items;
 use op_forest::{Sym, Tree};
 use vcode::Reg;
-
-/// What the rule at this place does.
-fn action_in(lines: &[RuleLine], place: usize) -> Action
-    requires { place < length lines.now }
-    ensures { slice_get (map (λ l. l.action) lines.now) place ≡ Some result }
-{
-    lines[place].action
-}
-
-/// What the rule with this number, from 1, does.
-pub fn action_of(rule: u16) -> Action
-    requires some { 1 ≤ rule }
-    requires limit { rule ≤ 13 }
-    ensures { result ≡ action_at rule }
-{
-    action_in(&RULES, rule as usize - 1)
-}
 
 /// The node's constant modulo 2^32; 0 where it has none.
 fn constant_of(node: &Tree) -> u32

@@ -1,10 +1,10 @@
--- The code that a rule of MIPS adds does what the rule's pattern does.
+-- The code that a rule adds does what the rule's pattern does.
 use Rattle.std.specs.Prelude.{◌≡◌, ℕ, ℤ, ◌==◌, true, false, Option, Some, None, List, [], ◌∷◌, ◌++◌, refl}
 use Rattle.std.proofs.Common.{ap, sym, ◌∙◌, subst}
 use Rattle.std.proofs.lemmas.Bool.{ne_eqb, or_from}
 use Rattle.lcc_base.specs.declared.cause.Cause.{Cause}
-use Rattle.mips_rules.specs.declared.arithmetic.Arithmetic.{Arithmetic}
-use Rattle.mips_rules.specs.declared.arithmetic.Arithmetic.TheVariants.{Add, Subtract, Multiply}
+use Rattle.frame_code.specs.declared.arithmetic.Arithmetic.{Arithmetic}
+use Rattle.frame_code.specs.declared.arithmetic.Arithmetic.TheVariants.{Add, Subtract, Multiply}
 use Rattle.lburg_model.specs.Pattern.{MPattern, PHole, PLeaf, POne, PTwo}
 use Rattle.objects.specs.declared.operators.Unary.TheVariants.{Negate}
 use Rattle.objects.specs.declared.value.Value.{Value}
@@ -27,26 +27,26 @@ use Rattle.forests.specs.Numbers.{constant, of_one, of_two}
 use Rattle.forests.specs.Rows.{called}
 use Rattle.forests.specs.Units.{word_or_unknown}
 use Rattle.vcode.specs.declared.operand.Operand.{Operand}
-use Rattle.vcode.specs.Machines.{Plain, writes_one}
+use Rattle.vcode.specs.Machines.{Machine, Plain, writes_one}
 use Rattle.vcode.specs.Execution.{State, reads, written, without}
 use Rattle.vcode.specs.VirtualCode.{among, results}
 use Rattle.vcode.specs.Patterns.{Meeting, pattern_effect}
-use Rattle.vcode.specs.RuleSets.{Gets, WhenWent, WhenNext, Stands, AllStand}
-use Rattle.mips_rules.specs.declared.action.Action.{Action}
-use Rattle.mips_rules.specs.declared.action.Action.TheVariants as action
-use Rattle.mips_rules.specs.declared.instr.Instr.{Instr}
-use Rattle.mips_rules.specs.declared.instr.Instr.TheVariants as instr
-use Rattle.mips_rules.specs.declared.instr.Source.{Source}
-use Rattle.mips_rules.specs.declared.instr.Source.TheVariants as source
-use Rattle.mips_rules.specs.declared.part.Part.{Part}
-use Rattle.mips_rules.specs.declared.part.Part.TheVariants.{Register, Constant, Name, Label}
-use Rattle.mips_rules.specs.Instructions.{source_operands, combined, operates}
-use Rattle.mips_rules.specs.Mips.{mips}
-use Rattle.mips_rules.specs.MipsRows.{con, rc, reg, addr, cnsti, addrgp, argi, calli, reti, negi}
-use Rattle.mips_rules.specs.MipsRules.{word_behind, means, constant_of, name_of, code_by, part_by, mips_rules}
-use Rattle.mips_rules.specs.OperatorNumbers.{is_cnsti, is_addrgp, is_argi, is_calli, is_reti, is_negi, is_addi, is_subi, is_muli, does_as}
-use Rattle.mips_rules.specs.OneInstruction.{written_first, nothing_gets, one_gets}
-use Rattle.mips_rules.specs.AppliedRules.{operator_for, Applied, Discards, TakesConstant, PassesConstant, PassesRegister, LoadsConstant, TakesName, CombinesRegisters, CombinesConstant, Negates, HandsOver, Calls, CallsLabel, Returns}
+use Rattle.vcode.specs.RuleSets.{Rules, Gets, WhenWent, WhenNext, Stands, AllStand}
+use Rattle.frame_rules.specs.declared.action.Action.{Action}
+use Rattle.frame_rules.specs.declared.action.Action.TheVariants as action
+use Rattle.frame_code.specs.declared.instr.Instr.{Instr}
+use Rattle.frame_code.specs.declared.instr.Instr.TheVariants as instr
+use Rattle.frame_code.specs.declared.instr.Source.{Source}
+use Rattle.frame_code.specs.declared.instr.Source.TheVariants as source
+use Rattle.frame_rules.specs.declared.part.Part.{Part}
+use Rattle.frame_rules.specs.declared.part.Part.TheVariants.{Register, Constant, Name, Label}
+use Rattle.frame_code.specs.Instructions.{source_operands, combined, operates}
+use Rattle.frame_code.specs.FrameMachine.{Losses, frame_machine}
+use Rattle.frame_rules.specs.Rows.{Line, con, rc, reg, addr, cnsti, addrgp, argi, calli, reti, negi}
+use Rattle.frame_rules.specs.FrameRules.{word_behind, means, constant_of, name_of, code_by, part_by, frame_rules}
+use Rattle.frame_rules.specs.OperatorNumbers.{is_cnsti, is_addrgp, is_argi, is_calli, is_reti, is_negi, is_addi, is_subi, is_muli, does_as}
+use Rattle.frame_code.specs.OneInstruction.{written_first, nothing_gets, one_gets}
+use Rattle.frame_rules.specs.AppliedRules.{operator_for, Applied, Discards, TakesConstant, PassesConstant, PassesRegister, LoadsConstant, TakesName, CombinesRegisters, CombinesConstant, Negates, HandsOver, Calls, CallsLabel, Returns}
 
 -- where it goes on behind it, there is one value
 abbrev IsOneValue : Effect → Type 0
@@ -88,53 +88,59 @@ same_callee (Some (Number n)) offset = refl
 same_callee (Some (Pointer object z)) offset = refl
 same_callee (Some (Function f)) offset = refl
 
-module _ (s : Setting) (whole rest : List Instr) (st : State) where
+module _ (lost : Losses) (pointer : ℕ) (lines : List Line) (s : Setting) (whole rest : List Instr) (st : State) where
+  abbrev machine : Machine Instr
+  machine = frame_machine lost pointer
+
+  abbrev rules : Rules Instr Part
+  rules = frame_rules lines
+
   -- an instruction that writes one register gives it the value of the effect
-  value_gets : (i : Instr) (to : ℕ) (os : List Operand) (e : Effect) → mips.kind i ≡ Plain → mips.operands i ≡ writes_one to ∷ os → results os ≡ [] → mips.acts s i (reads (mips.operands i) st.registers) st.point ≡ e → IsOneValue e → Gets mips s whole (i ∷ []) rest st e (λ f ws. ws ≡ f to ∷ []) (λ q. q ≡ to → ⊥)
+  value_gets : (i : Instr) (to : ℕ) (os : List Operand) (e : Effect) → machine.kind i ≡ Plain → machine.operands i ≡ writes_one to ∷ os → results os ≡ [] → machine.acts s i (reads (machine.operands i) st.registers) st.point ≡ e → IsOneValue e → Gets machine s whole (i ∷ []) rest st e (λ f ws. ws ≡ f to ∷ []) (λ q. q ≡ to → ⊥)
   value_gets i to os e k o none act one =
-      one_gets mips s whole rest st i e (λ f ws. ws ≡ f to ∷ []) (λ q. q ≡ to → ⊥) k act unwritten (stands e one)
+      one_gets machine s whole rest st i e (λ f ws. ws ≡ f to ∷ []) (λ q. q ≡ to → ⊥) k act unwritten (stands e one)
     where
-      unwritten : (q : ℕ) → (q ≡ to → ⊥) → among q (results (mips.operands i)) ≡ false
+      unwritten : (q : ℕ) → (q ≡ to → ⊥) → among q (results (machine.operands i)) ≡ false
       unwritten q other = ap (λ l. among q (results l)) o ∙ ap (λ l. among q (to ∷ l)) none ∙ or_from (q == to) false (ne_eqb q to other) refl
 
-      holds : (ws : List Word) (w : Word) → ws ≡ w ∷ [] → ws ≡ written (mips.operands i) ws (without (mips.loses i) st.registers) to ∷ []
+      holds : (ws : List Word) (w : Word) → ws ≡ w ∷ [] → ws ≡ written (machine.operands i) ws (without (machine.loses i) st.registers) to ∷ []
       holds ws w h =
-          h ∙ ap (λ v. v ∷ []) (sym (ap (λ l. written l ws (without (mips.loses i) st.registers) to) o ∙ ap (λ l. written (writes_one to ∷ os) l (without (mips.loses i) st.registers) to) h ∙ written_first to os w (without (mips.loses i) st.registers) none))
+          h ∙ ap (λ v. v ∷ []) (sym (ap (λ l. written l ws (without (machine.loses i) st.registers) to) o ∙ ap (λ l. written (writes_one to ∷ os) l (without (machine.loses i) st.registers) to) h ∙ written_first to os w (without (machine.loses i) st.registers) none))
 
-      next : (ws : List Word) (mv : Move) → WhenNext mv ((w : Word) × (ws ≡ w ∷ [])) → WhenNext mv (ws ≡ written (mips.operands i) ws (without (mips.loses i) st.registers) to ∷ [])
+      next : (ws : List Word) (mv : Move) → WhenNext mv ((w : Word) × (ws ≡ w ∷ [])) → WhenNext mv (ws ≡ written (machine.operands i) ws (without (machine.loses i) st.registers) to ∷ [])
       next ws Next h = holds ws h.0 h.1
       next ws (To l) h = tt
       next ws (End v) h = tt
 
-      stands : (x : Effect) → IsOneValue x → WhenWent x (λ ws p mv. WhenNext mv (ws ≡ written (mips.operands i) ws (without (mips.loses i) st.registers) to ∷ []))
+      stands : (x : Effect) → IsOneValue x → WhenWent x (λ ws p mv. WhenNext mv (ws ≡ written (machine.operands i) ws (without (machine.loses i) st.registers) to ∷ []))
       stands (Went ws p mv) h = next ws mv h
       stands (Exits status w) h = tt
       stands (Unfinished w) h = tt
       stands Stuck h = tt
 
-  constant_gets : (v : Option ℤ) (kept : ℕ → Type 0) → (effect_of s.call (gave (constant v)) st.point ≡ Stuck → ⊥) → Gets mips s whole [] rest st (effect_of s.call (gave (constant v)) st.point) (λ f ws. ws ≡ word.Plain (Number (constant_of v)) ∷ []) kept
+  constant_gets : (v : Option ℤ) (kept : ℕ → Type 0) → (effect_of s.call (gave (constant v)) st.point ≡ Stuck → ⊥) → Gets machine s whole [] rest st (effect_of s.call (gave (constant v)) st.point) (λ f ws. ws ≡ word.Plain (Number (constant_of v)) ∷ []) kept
   constant_gets None kept ns = absurd (ns refl)
-  constant_gets (Some z) kept ns = nothing_gets mips s whole rest st (word.Plain (Number (constant_of (Some z))) ∷ []) (λ f ws. ws ≡ word.Plain (Number (constant_of (Some z))) ∷ []) kept refl
+  constant_gets (Some z) kept ns = nothing_gets machine s whole rest st (word.Plain (Number (constant_of (Some z))) ∷ []) (λ f ws. ws ≡ word.Plain (Number (constant_of (Some z))) ∷ []) kept refl
 
-  unless_gets : (cause : Option Cause) (v : Value) (kept : ℕ → Type 0) → (effect_of s.call (gave (plain (defined (unless cause v)))) st.point ≡ Stuck → ⊥) → Gets mips s whole [] rest st (effect_of s.call (gave (plain (defined (unless cause v)))) st.point) (λ f ws. ws ≡ word.Plain v ∷ []) kept
-  unless_gets None v kept ns = nothing_gets mips s whole rest st (word.Plain v ∷ []) (λ f ws. ws ≡ word.Plain v ∷ []) kept refl
+  unless_gets : (cause : Option Cause) (v : Value) (kept : ℕ → Type 0) → (effect_of s.call (gave (plain (defined (unless cause v)))) st.point ≡ Stuck → ⊥) → Gets machine s whole [] rest st (effect_of s.call (gave (plain (defined (unless cause v)))) st.point) (λ f ws. ws ≡ word.Plain v ∷ []) kept
+  unless_gets None v kept ns = nothing_gets machine s whole rest st (word.Plain v ∷ []) (λ f ws. ws ≡ word.Plain v ∷ []) kept refl
   unless_gets (Some cause) v kept ns = absurd (ns refl)
 
-  moved_gets : (g : Option Value) (offset : ℤ) (kept : ℕ → Type 0) → (effect_of s.call (gave (moved_from st.point.world.objects g offset)) st.point ≡ Stuck → ⊥) → Gets mips s whole [] rest st (effect_of s.call (gave (moved_from st.point.world.objects g offset)) st.point) (λ f ws. ws ≡ word_behind g offset ∷ []) kept
+  moved_gets : (g : Option Value) (offset : ℤ) (kept : ℕ → Type 0) → (effect_of s.call (gave (moved_from st.point.world.objects g offset)) st.point ≡ Stuck → ⊥) → Gets machine s whole [] rest st (effect_of s.call (gave (moved_from st.point.world.objects g offset)) st.point) (λ f ws. ws ≡ word_behind g offset ∷ []) kept
   moved_gets None offset kept ns = absurd (ns refl)
   moved_gets (Some v) offset kept ns = unless_gets _ (place_after v offset) kept ns
 
-  name_gets : (x : Sym) (kept : ℕ → Type 0) → (effect_of s.call (gave (named s.environment st.point.world.objects x)) st.point ≡ Stuck → ⊥) → Gets mips s whole [] rest st (effect_of s.call (gave (named s.environment st.point.world.objects x)) st.point) (λ f ws. Stands (means s (name_of x) f) ws) kept
+  name_gets : (x : Sym) (kept : ℕ → Type 0) → (effect_of s.call (gave (named s.environment st.point.world.objects x)) st.point ≡ Stuck → ⊥) → Gets machine s whole [] rest st (effect_of s.call (gave (named s.environment st.point.world.objects x)) st.point) (λ f ws. Stands (means s (name_of x) f) ws) kept
   name_gets symbol.Nothing kept ns = absurd (ns refl)
   name_gets (symbol.Global name offset) kept ns = moved_gets (s.environment.global name) offset kept ns
-  name_gets (symbol.Label l) kept ns = nothing_gets mips s whole rest st (word.Label s.environment.home.function l ∷ []) (λ f ws. ws ≡ word.Label s.environment.home.function l ∷ []) kept refl
+  name_gets (symbol.Label l) kept ns = nothing_gets machine s whole rest st (word.Label s.environment.home.function l ∷ []) (λ f ws. ws ≡ word.Label s.environment.home.function l ∷ []) kept refl
   name_gets (symbol.Block size align) kept ns = absurd (ns refl)
 
   -- what an effect is equal to may stand for it
   abbrev GetsAs : List Instr → ((ℕ → Word) → List Word → Type 0) → ℕ → Effect → Type 0
-  GetsAs code holds to e = Gets mips s whole code rest st e holds (λ q. q ≡ to → ⊥)
+  GetsAs code holds to e = Gets machine s whole code rest st e holds (λ q. q ≡ to → ⊥)
 
-  combine_gets : (o : Arithmetic) (h : Head) (q to : ℕ) (xs ys : List Word) (y : Word) (operand : Source) → operator_for o ≡ number_of h → xs ≡ st.registers q ∷ [] → ys ≡ y ∷ [] → operates (combined o) operand (reads (mips.operands (instr.Binary o to q operand)) st.registers) ≡ gave (of_two true (combined o) (st.registers q) y) → results (source_operands operand) ≡ [] → GetsAs (instr.Binary o to q operand ∷ []) (λ f ws. ws ≡ f to ∷ []) to (does s h (xs ++ ys) st.point)
+  combine_gets : (o : Arithmetic) (h : Head) (q to : ℕ) (xs ys : List Word) (y : Word) (operand : Source) → operator_for o ≡ number_of h → xs ≡ st.registers q ∷ [] → ys ≡ y ∷ [] → operates (combined o) operand (reads (machine.operands (instr.Binary o to q operand)) st.registers) ≡ gave (of_two true (combined o) (st.registers q) y) → results (source_operands operand) ≡ [] → GetsAs (instr.Binary o to q operand ∷ []) (λ f ws. ws ≡ f to ∷ []) to (does s h (xs ++ ys) st.point)
   combine_gets o h q to xs ys y operand e ex ey act none =
       subst (GetsAs (instr.Binary o to q operand ∷ []) (λ f ws. ws ≡ f to ∷ []) to) (sym same) (value_gets (instr.Binary o to q operand) to _ (effect_of s.call (gave combination) st.point) refl refl none (ap (λ a. effect_of s.call a st.point) act) (one_gave s.call combination st.point))
     where
@@ -163,14 +169,14 @@ module _ (s : Setting) (whole rest : List Instr) (st : State) where
 
   hand_gets : (h : Head) (r to : ℕ) (xs : List Word) → argi ≡ number_of h → xs ≡ st.registers r ∷ [] → GetsAs (instr.Argument r ∷ []) (λ f ws. Unit {0}) to (does s h xs st.point)
   hand_gets h r to xs e ex =
-      subst (GetsAs (instr.Argument r ∷ []) (λ f ws. Unit {0}) to) (sym same) (one_gets mips s whole rest st (instr.Argument r) (effect_of s.call (Passed (st.registers r)) st.point) (λ f ws. Unit {0}) (λ q. q ≡ to → ⊥) refl refl (λ q other. refl) tt)
+      subst (GetsAs (instr.Argument r ∷ []) (λ f ws. Unit {0}) to) (sym same) (one_gets machine s whole rest st (instr.Argument r) (effect_of s.call (Passed (st.registers r)) st.point) (λ f ws. Unit {0}) (λ q. q ≡ to → ⊥) refl refl (λ q other. refl) tt)
     where
       same : does s h xs st.point ≡ effect_of s.call (Passed (st.registers r)) st.point
       same = ap (λ l. does s h l st.point) ex ∙ does_as s h op.Arg I (st.registers r ∷ []) st.point (is_argi h e)
 
   return_gets : (h : Head) (r to : ℕ) (xs : List Word) → reti ≡ number_of h → xs ≡ st.registers r ∷ [] → GetsAs (instr.Return r ∷ []) (λ f ws. Unit {0}) to (does s h xs st.point)
   return_gets h r to xs e ex =
-      subst (GetsAs (instr.Return r ∷ []) (λ f ws. Unit {0}) to) (sym same) (one_gets mips s whole rest st (instr.Return r) (Went [] st.point (End (Some (st.registers r)))) (λ f ws. Unit {0}) (λ q. q ≡ to → ⊥) refl refl (λ q other. refl) tt)
+      subst (GetsAs (instr.Return r ∷ []) (λ f ws. Unit {0}) to) (sym same) (one_gets machine s whole rest st (instr.Return r) (Went [] st.point (End (Some (st.registers r)))) (λ f ws. Unit {0}) (λ q. q ≡ to → ⊥) refl refl (λ q other. refl) tt)
     where
       same : does s h xs st.point ≡ Went [] st.point (End (Some (st.registers r)))
       same = ap (λ l. does s h l st.point) ex ∙ does_as s h op.Ret I (st.registers r ∷ []) st.point (is_reti h e)
@@ -201,29 +207,29 @@ module _ (s : Setting) (whole rest : List Instr) (st : State) where
       subst (GetsAs [] (λ f ws. Stands (means s (name_of h.sym) f) ws) to) (sym same) (name_gets h.sym _ (λ stuck. ns (same ∙ stuck)))
 
   -- a rule with one part hands on, or acts on, its value
-  one_value : (A : List (List Word) → Type 0) (p : Part) (vs : List (List Word)) → AllStand mips_rules s (p ∷ []) st.registers vs → ((ws : List Word) → Stands (means s p st.registers) ws → A (ws ∷ [])) → A vs
+  one_value : (A : List (List Word) → Type 0) (p : Part) (vs : List (List Word)) → AllStand rules s (p ∷ []) st.registers vs → ((ws : List Word) → Stands (means s p st.registers) ws → A (ws ∷ [])) → A vs
   one_value A p [] h go = absurd h
   one_value A p (ws ∷ []) h go = go ws h.0
   one_value A p (ws ∷ v ∷ vs) h go = absurd h.1
 
-  two_values : (A : List (List Word) → Type 0) (p q : Part) (vs : List (List Word)) → AllStand mips_rules s (p ∷ q ∷ []) st.registers vs → ((ws us : List Word) → Stands (means s p st.registers) ws → Stands (means s q st.registers) us → A (ws ∷ us ∷ [])) → A vs
+  two_values : (A : List (List Word) → Type 0) (p q : Part) (vs : List (List Word)) → AllStand rules s (p ∷ q ∷ []) st.registers vs → ((ws us : List Word) → Stands (means s p st.registers) ws → Stands (means s q st.registers) us → A (ws ∷ us ∷ [])) → A vs
   two_values A p q [] h go = absurd h
   two_values A p q (ws ∷ []) h go = absurd h.1
   two_values A p q (ws ∷ us ∷ []) h go = go ws us h.0 h.1.0
   two_values A p q (ws ∷ us ∷ v ∷ vs) h go = absurd h.1.1
 
-  no_values : (A : List (List Word) → Type 0) (vs : List (List Word)) → AllStand mips_rules s [] st.registers vs → A [] → A vs
+  no_values : (A : List (List Word) → Type 0) (vs : List (List Word)) → AllStand rules s [] st.registers vs → A [] → A vs
   no_values A [] h go = go
   no_values A (ws ∷ vs) h go = absurd h
 
   abbrev Acts : Action → MPattern → Node → List Part → ℕ → List (List Word) → Type 0
   Acts d pattern t ps to vs = (pattern_effect s pattern t vs st.point ≡ Stuck → ⊥) → GetsAs (code_by d ps to) (λ f ws. Stands (means s (part_by d t ps to) f) ws) to (pattern_effect s pattern t vs st.point)
 
-  pub acts_by : {d : Action} {left : ℕ} {pattern : MPattern} {t : Node} {ps : List Part} {ms : List Meeting} (to : ℕ) (vs : List (List Word)) → Applied d left pattern t ps ms → AllStand mips_rules s ps st.registers vs → Acts d pattern t ps to vs
-  acts_by to vs (Discards t r low) a = one_value (λ us. Acts action.Discard (PHole reg) t (Register r ∷ []) to us) (Register r) vs a (λ ws h ns. nothing_gets mips s whole rest st ws _ _ tt)
+  pub acts_by : {d : Action} {left : ℕ} {pattern : MPattern} {t : Node} {ps : List Part} {ms : List Meeting} (to : ℕ) (vs : List (List Word)) → Applied d left pattern t ps ms → AllStand rules s ps st.registers vs → Acts d pattern t ps to vs
+  acts_by to vs (Discards t r low) a = one_value (λ us. Acts action.Discard (PHole reg) t (Register r ∷ []) to us) (Register r) vs a (λ ws h ns. nothing_gets machine s whole rest st ws _ _ tt)
   acts_by to vs (TakesConstant h e) a = no_values (λ us. Acts action.TakeConstant (PLeaf cnsti) (Leaf h) [] to us) vs a (λ ns. take_constant_gets h to e ns)
-  acts_by to vs (PassesConstant t n) a = one_value (λ us. Acts action.Pass (PHole con) t (Constant n ∷ []) to us) (Constant n) vs a (λ ws h ns. nothing_gets mips s whole rest st ws _ _ h)
-  acts_by to vs (PassesRegister t r low) a = one_value (λ us. Acts action.Pass (PHole reg) t (Register r ∷ []) to us) (Register r) vs a (λ ws h ns. nothing_gets mips s whole rest st ws _ _ h)
+  acts_by to vs (PassesConstant t n) a = one_value (λ us. Acts action.Pass (PHole con) t (Constant n ∷ []) to us) (Constant n) vs a (λ ws h ns. nothing_gets machine s whole rest st ws _ _ h)
+  acts_by to vs (PassesRegister t r low) a = one_value (λ us. Acts action.Pass (PHole reg) t (Register r ∷ []) to us) (Register r) vs a (λ ws h ns. nothing_gets machine s whole rest st ws _ _ h)
   acts_by to vs (LoadsConstant t n e) a = one_value (λ us. Acts action.LoadConstant (PHole con) t (Constant n ∷ []) to us) (Constant n) vs a (λ ws h ns. load_gets n to ws h)
   acts_by to vs (TakesName h e) a = no_values (λ us. Acts action.TakeName (PLeaf addrgp) (Leaf h) [] to us) vs a (λ ns. take_name_gets h to e ns)
   acts_by to vs (CombinesRegisters o h x y q r low_q low_r e) a = two_values (λ us. Acts (action.Combine o) (PTwo (operator_for o) (PHole reg) (PHole rc)) (Two h x y) (Register q ∷ Register r ∷ []) to us) (Register q) (Register r) vs a (λ ws us hw hu ns. combine_gets o h q to ws us (st.registers r) (source.Register r) e hw hu refl refl)

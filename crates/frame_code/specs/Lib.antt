@@ -1,0 +1,4 @@
+pub mod Instructions
+pub mod InstructionLaws
+pub mod FrameMachine
+pub mod OneInstruction
