@@ -1,0 +1,4 @@
+mod WordExamples
+mod PlaceExamples
+mod ByteExamples
+mod StartExamples

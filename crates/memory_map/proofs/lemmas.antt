@@ -1,0 +1,11 @@
+pub mod Overwritten
+pub mod Values
+pub mod Lying
+pub mod New
+pub mod Ended
+pub mod Clear
+pub mod Copying
+pub mod Through
+pub mod Entering
+pub mod Beginning
+pub mod Starting

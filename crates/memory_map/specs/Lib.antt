@@ -1,0 +1,10 @@
+pub mod Maps
+pub mod Lies
+pub mod Memory
+pub mod Frames
+pub mod Reading
+pub mod Writing
+pub mod Lifetimes
+pub mod Starts
+pub mod Privacy
+pub mod Blocks

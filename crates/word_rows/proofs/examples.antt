@@ -1,0 +1,3 @@
+mod RowExamples
+mod TestExamples
+mod DataExamples

@@ -1,0 +1,6 @@
+pub mod Numbers
+pub mod Bits
+pub mod Pointers
+pub mod Comparisons
+pub mod Rows
+pub mod Data
