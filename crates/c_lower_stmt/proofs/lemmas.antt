@@ -1,0 +1,5 @@
+pub mod Rows
+pub mod Listing
+pub mod Choosing
+pub mod Looping
+pub mod Bodying

@@ -1,0 +1,2 @@
+mod ProgressExamples
+mod NumberingExamples

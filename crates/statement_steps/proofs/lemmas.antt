@@ -1,0 +1,13 @@
+pub mod Asking
+pub mod Rooting
+pub mod Going
+pub mod Lists
+pub mod Trees
+pub mod Zeroing
+pub mod Storing
+pub mod Searching
+pub mod Sides
+pub mod Laying
+pub mod Filling
+pub mod Returning
+pub mod Labelling

@@ -1,0 +1,4 @@
+mod Each
+mod Risings
+mod Known
+mod examples
