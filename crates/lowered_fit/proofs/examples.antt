@@ -1,0 +1,2 @@
+mod TreeExamples
+mod CoreExamples

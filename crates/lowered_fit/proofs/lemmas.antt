@@ -1,0 +1,9 @@
+pub mod Finding
+pub mod Grafts
+pub mod RowsFit
+pub mod Operands
+pub mod PlacesFit
+pub mod AccessesFit
+pub mod PartsFit
+pub mod CallsFit
+pub mod ExpressionsFit

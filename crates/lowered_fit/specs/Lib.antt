@@ -1,0 +1,4 @@
+pub mod Fitted
+pub mod States
+pub mod Laws
+pub mod ExpressionLaws
