@@ -1,0 +1,13 @@
+pub mod Priced
+pub mod Spending
+pub mod Blocks
+pub mod Templates
+pub mod Calls
+pub mod Steps
+pub mod Operations
+pub mod Operands
+pub mod Rows
+pub mod CallRows
+pub mod Expressions
+pub mod Growing
+pub mod Small

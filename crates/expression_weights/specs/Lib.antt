@@ -1,0 +1,5 @@
+pub mod Prices
+pub mod Templates
+pub mod Weighs
+pub mod Rises
+pub mod Expressions
