@@ -51,7 +51,7 @@ use Rattle.mips_target.specs.Generated.{temporaries}
 use Rattle.mips_programs.specs.Working.{AreBytes, Working, on, runs, Gets}
 use Rattle.mips_programs.specs.Frames.{Kept, Frame, stack_of, IsSound, stack_word, frame_word}
 use Rattle.mips_programs.specs.Matches.{IsBare, HasPlaces, Handed, Alike, Spent, Comes, passed_word, Entry, Answers, Calling}
-use Rattle.mips_target.specs.CalledNames.{CallsAre}
+use Rattle.frame_code.specs.CalledNames.{CallsAre}
 use Rattle.mips_programs.specs.Programs.{MayRead, IsAddressed}
 use Rattle.mips_programs.proofs.Steps.{with_register, with_stack, with_cpu, index_set, index_other, runs_more, both_gets, gets_bytes, once, linked, stepped, wrote, further}
 use Rattle.mips_programs.proofs.Words.{small_word, small_get, with_stack_word}

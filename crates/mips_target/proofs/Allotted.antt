@@ -18,7 +18,7 @@ use Rattle.vcode.specs.NamesAmong.{NamesAmong}
 use Rattle.mips_target.specs.Sizes.{Fits}
 use Rattle.mips_target.specs.Generated.{temporaries}
 use Rattle.mips_target.proofs.Arguments.{handed_first}
-use Rattle.mips_target.proofs.Added.{IsAdded, AddsNumber, AddsRegisters, AddsWithNumber, AddsNegate, AddsArgument, AddsCall, AddsReturn, AreAdded, hands_over, handed_over}
+use Rattle.frame_rules.proofs.lemmas.Added.{IsAdded, AddsNumber, AddsRegisters, AddsWithNumber, AddsNegate, AddsArgument, AddsCall, AddsReturn, AreAdded, hands_over, handed_over}
 
 -- an instruction whose registers are virtual, with its loads and stores
 abbrev pub put : Instr → List Instr

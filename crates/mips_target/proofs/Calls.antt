@@ -33,10 +33,10 @@ use Rattle.frame_rules.specs.AppliedRules.{Applied, Discards, TakesConstant, Pas
 use Rattle.mips_rules.specs.AppliedRules.{applied}
 use Rattle.unit_text.specs.Callable.{IsCallable, HasCallable}
 use Rattle.mips_target.specs.Generated.{IsSelected, temporaries}
-use Rattle.mips_target.specs.CalledNames.{CallIs, CallsAre}
+use Rattle.frame_code.specs.CalledNames.{CallIs, CallsAre}
 use Rattle.mips_target.proofs.Allotted.{allotted_code}
 use Rattle.mips_target.proofs.CoveredRoots.{each_both, each_root, IsCovered, AreCovered}
-use Rattle.mips_target.proofs.AddedRoots.{roots_front, roots_last}
+use Rattle.frame_rules.proofs.lemmas.AddedRoots.{roots_front, roots_last}
 
 calls_append : (Q : ℕ → Type 0) (xs ys : List Instr) → CallsAre Q xs → CallsAre Q ys → CallsAre Q (xs ++ ys)
 calls_append Q [] ys a b = b

@@ -9,7 +9,7 @@ use Rattle.frame_code.specs.declared.instr.Instr.{Instr}
 use Rattle.mips_rules.specs.Mips.{mips}
 use Rattle.mips_target.specs.declared.layout.Layout.{Layout}
 use Rattle.unit_text.specs.Callable.{IsCallable}
-use Rattle.mips_target.specs.CalledNames.{CallsAre}
+use Rattle.frame_code.specs.CalledNames.{CallsAre}
 use Rattle.mips_target.specs.Frame.{frame_size}
 use Rattle.mips_target.specs.FunctionCode.{argument_words, function_code}
 use Rattle.unit_text.specs.Items.{CodeItem, lines_in}

@@ -26,8 +26,10 @@ use Rattle.vcode.specs.NamesAmong.{NamesAmong}
 use Rattle.mips_target.specs.Sizes.{Fits}
 use Rattle.mips_target.specs.Generated.{temporaries}
 use Rattle.mips_target.proofs.CoveredRoots.{each_both, each_root, IsCovered, AreCovered}
-use Rattle.mips_target.proofs.Added.{AreAdded, handed_over, other_nodes, either_in, NamesOne}
-use Rattle.mips_target.proofs.AddedRoots.{roots_take, roots_added}
+use Rattle.frame_rules.proofs.lemmas.Added.{AreAdded, handed_over, other_nodes, either_in, NamesOne}
+use Rattle.mips_rules.specs.AppliedRules.{all_invert}
+use Rattle.mips_rules.specs.MipsRows.{lines}
+use Rattle.frame_rules.proofs.lemmas.AddedRoots.{roots_take, roots_added}
 use Rattle.mips_target.proofs.Allotted.{put_all, allotted_code, layout_of, allotted_is, names_kept, names_among, slots_few, put_long, hands_few, fits}
 
 -- ---- names
@@ -71,7 +73,7 @@ roots_known u roots ts w k =
 module _ (roots : List Node) (derivations : List MDerivation) (c : MCode Instr) (h : IsLinearised mips mips_rules roots derivations c) where
   -- each register is virtual
   pub code_added : AreAdded AnyName c.code
-  code_added = subst (AreAdded AnyName) (sym h.code) (roots_added AnyName h.emits (any_names roots))
+  code_added = subst (AreAdded AnyName) (sym h.code) (roots_added lines all_invert AnyName h.emits (any_names roots))
 
   pub code_names_kept : NamesKept mips temporaries c.code
   code_names_kept = names_kept AnyName c.code code_added
@@ -87,7 +89,7 @@ module _ (roots : List Node) (derivations : List MDerivation) (c : MCode Instr) 
   code_slots = slots_few h.next (sum_by value_nodes roots) c.code h.few h.names
 
   pub code_length : length c.code ≤ sum_by nodes roots
-  code_length = let a = (roots_take h.emits).count in let b : length c.code ≡ length (joined h.stretches) = ap length h.code in omega (arith, a, b)
+  code_length = let a = (roots_take lines all_invert h.emits).count in let b : length c.code ≡ length (joined h.stretches) = ap length h.code in omega (arith, a, b)
 
   pub allotted_length : length (allotted_code c) ≤ 4 * sum_by nodes roots
   allotted_length =
@@ -99,7 +101,7 @@ module _ (roots : List Node) (derivations : List MDerivation) (c : MCode Instr) 
   -- at most one argument word is handed for each node that gives no value
   pub most_handed_few : most_handed 0 (allotted_code c) ≤ sum_by other_nodes roots
   most_handed_few =
-      let a = (roots_take h.emits).hands in
+      let a = (roots_take lines all_invert h.emits).hands in
       let e : handed_over c.code ≡ handed_over (joined h.stretches) = ap handed_over h.code in
       let b : most_handed 0 (put_all c.code) ≤ 0 + handed_over c.code = hands_few AnyName c.code code_added 0 in
       let d : most_handed 0 (allotted_code c) ≡ most_handed 0 (put_all c.code) = ap (most_handed 0) allotted_put in
@@ -118,7 +120,7 @@ module _ (roots : List Node) (derivations : List MDerivation) (c : MCode Instr) 
 
   -- where its names are those of a unit, its code fits the frame that is laid out for it
   pub code_named : (u : LoweredUnit) → AreCovered roots → All (AtEachNode (λ t. IsKnown u roots (head_of t).sym)) roots → AreAdded (IsIn u) c.code
-  code_named u w k = subst (AreAdded (IsIn u)) (sym h.code) (roots_added (IsIn u) h.emits (roots_known u roots roots w k))
+  code_named u w k = subst (AreAdded (IsIn u)) (sym h.code) (roots_added lines all_invert (IsIn u) h.emits (roots_known u roots roots w k))
 
   pub code_fits : (u : LoweredUnit) → AreCovered roots → All (AtEachNode (λ t. IsKnown u roots (head_of t).sym)) roots → Fits u.names (layout_of c) 0 (allotted_code c)
   code_fits u w k =

@@ -1,8 +1,6 @@
 pub mod Unmarked
 pub mod Arguments
 pub mod Bodies
-pub mod Added
-pub mod AddedRoots
 pub mod Allotted
 pub mod CoveredRoots
 pub mod Emission

@@ -15,7 +15,7 @@ use Rattle.frame_code.specs.declared.instr.Instr.TheVariants as instr
 use Rattle.mips_target.specs.FunctionCode.{unmarked}
 use Rattle.unit_text.specs.UnitLines.{Item, Coded, plain, code_lines, items_of, unit_lines}
 use Rattle.mips_target.specs.Generated.{IsFunction, IsGenerated}
-use Rattle.mips_target.specs.CalledNames.{CallIs, CallsAre}
+use Rattle.frame_code.specs.CalledNames.{CallIs, CallsAre}
 use Rattle.unit_text.specs.Callable.{IsCallable, AreCallable}
 use Rattle.mips_target.proofs.Speaking.{code_speaks}
 use Rattle.unit_text.proofs.lemmas.Speaking.{CodeItemsSpeak, FunctionSpeaks, functions_speak}

@@ -22,7 +22,7 @@ use Rattle.mips_target.specs.Sizes.{Fits}
 use Rattle.unit_text.specs.Items.{CodeItem, Line}
 use Rattle.mips_target.specs.Emits.{keeps_frame, is_frame_word, from_templates}
 use Rattle.mips_target.proofs.Unmarked.{body_instructions, function_instructions}
-use Rattle.mips_target.proofs.Added.{IsAdded, AddsNumber, AddsRegisters, AddsWithNumber, AddsNegate, AddsArgument, AddsCall, AddsReturn, AreAdded}
+use Rattle.frame_rules.proofs.lemmas.Added.{IsAdded, AddsNumber, AddsRegisters, AddsWithNumber, AddsNegate, AddsArgument, AddsCall, AddsReturn, AreAdded}
 use Rattle.mips_target.proofs.Allotted.{put, put_all}
 
 -- the template's instruction for one that a rule adds, over the temporaries

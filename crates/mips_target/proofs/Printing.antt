@@ -14,7 +14,7 @@ use Rattle.mips_target.specs.FunctionCode.{handed_behind}
 use Rattle.mips_target.specs.Sizes.{FitsOne, Fits}
 use Rattle.unit_text.specs.UnitLines.{Coded}
 use Rattle.mips_target.specs.Generated.{IsFunction, IsGenerated}
-use Rattle.mips_target.specs.CalledNames.{CallIs, CallsAre}
+use Rattle.frame_code.specs.CalledNames.{CallIs, CallsAre}
 use Rattle.mips_target.proofs.Speaking.{code_speaks}
 use Rattle.unit_text.proofs.lemmas.Speaking.{CodeItemsSpeak, FunctionSpeaks, functions_speak}
 use Rattle.unit_text.proofs.lemmas.Printing.{unit_printable}

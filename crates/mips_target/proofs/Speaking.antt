@@ -7,7 +7,7 @@ use Rattle.frame_code.specs.declared.instr.Instr.TheVariants as instr
 use Rattle.mips_target.specs.declared.layout.Layout.{Layout}
 use Rattle.mips_target.specs.FunctionCode.{loads_of, instructions_of, handed_behind, epilogue, unmarked, function_code}
 use Rattle.mips_target.proofs.Unmarked.{body_instructions, function_instructions, function_unmarked}
-use Rattle.mips_target.specs.CalledNames.{CallIs, CallsAre}
+use Rattle.frame_code.specs.CalledNames.{CallIs, CallsAre}
 use Rattle.unit_text.proofs.lemmas.Speaking.{EachName, CodeItemsSpeak}
 
 -- P holds of each name that the instructions speak of

@@ -34,15 +34,15 @@ use Rattle.frame_code.specs.declared.instr.Source.TheVariants as source
 use Rattle.frame_rules.specs.declared.part.Part.{Part}
 use Rattle.frame_rules.specs.declared.part.Part.TheVariants as part
 use Rattle.frame_rules.specs.Rows.{stmt, con, rc, reg, addr, cnsti, addrgp}
-use Rattle.mips_rules.specs.MipsRows.{rows}
+use Rattle.mips_rules.specs.MipsRows.{rows, lines as rule_lines}
 use Rattle.frame_rules.specs.FrameRules.{code_by, part_by, name_of, name_in, constant_of}
 use Rattle.mips_rules.specs.MipsRules.{action_at, mips_rules}
 use Rattle.frame_rules.specs.AppliedRules.{Applied, Discards, TakesConstant, PassesConstant, PassesRegister, LoadsConstant, TakesName, CombinesRegisters, CombinesConstant, Negates, HandsOver, Calls, CallsLabel, Returns}
-use Rattle.mips_rules.specs.AppliedRules.{applied}
+use Rattle.mips_rules.specs.AppliedRules.{applied, all_invert}
 use Rattle.vcode.specs.Leaves.{turned}
 use Rattle.mips_target.specs.FunctionCode.{binary_of}
-use Rattle.mips_target.proofs.Added.{EachMet, each_front, each_last, at_root, at_met, applied_at}
-use Rattle.mips_target.proofs.AddedRoots.{joined_more, roots_front, roots_last}
+use Rattle.frame_rules.proofs.lemmas.Added.{EachMet, each_front, each_last, at_root, at_met, applied_at}
+use Rattle.frame_rules.proofs.lemmas.AddedRoots.{joined_more, roots_front, roots_last}
 use Rattle.mips_target.proofs.PlainCode.{plain, plain_all}
 use Rattle.mips_target.proofs.SaidLines.{SaysInstruction, SaysAlone, binary_text, unit_name, number_said, registers_said, with_number_said, negate_said, call_said}
 use Rattle.mips_target.proofs.Deriving.{derived, each_derived, RootsDerive, roots_parted}
@@ -296,7 +296,7 @@ module _ (names : List (List ℕ)) where
               (step e.to number row (x ∷ []) e.code o o by (a.place, a.number_is, a.row_is) a.fits (template_is number row t (e.part ∷ []) e.to a) (at_root HasText t h) (chosen_chain (is_chain row.pattern) o chain) lt
               (one_written x t e o a.meetings row.pattern a.fits chain g.1 (λ j c. written one j c h o lt)))
           written (ByRule {number} {row} {xs} {meetings} {t} {n} {es} all fits chain a) k d h o lt =
-              let by = applied_at number row t es.parts es.next meetings a fits in
+              let by = applied_at rule_lines all_invert number row t es.parts es.next meetings a fits in
               let g = derived rules are number row t es.parts es.next k meetings (parts_of xs) a fits d in
               let w = written_all all g.1 (at_met HasText by h) in
               subst (λ j. Written j t (Apply number (parts_of xs)) (part_by (action_at number) t es.parts es.next) (es.code ++ code_by (action_at number) es.parts es.next) o) g.0

@@ -22,7 +22,7 @@ use Rattle.mips_rules.specs.MipsRules.{mips_rules}
 use Rattle.mips_rules.specs.Shipped.{IsShipped}
 use Rattle.mips_target.specs.declared.layout.Layout.{Layout}
 use Rattle.unit_text.specs.Callable.{IsCallable, HasCallable}
-use Rattle.mips_target.specs.CalledNames.{CallsAre}
+use Rattle.frame_code.specs.CalledNames.{CallsAre}
 use Rattle.mips_target.specs.Frame.{frame_size}
 use Rattle.mips_target.specs.FunctionCode.{function_code}
 use Rattle.unit_text.specs.UnitOf.{AreLinesOf}

@@ -2,7 +2,6 @@ pub mod Frame
 pub mod FunctionCode
 pub mod Sizes
 pub mod Emits
-pub mod CalledNames
 pub mod Generated
 pub mod Allocated
 pub mod Bounds

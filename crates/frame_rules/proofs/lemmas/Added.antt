@@ -1,4 +1,4 @@
--- What the rules of MIPS add: instructions over virtual registers, at each node at most one, and an argument word only
+-- What rules add: instructions over virtual registers, at each node at most one, and an argument word only
 -- where a node gives no value.
 use Rattle.std.proofs.Common.{◌≡◌, ℕ, ◌+◌, ◌≤◌, ◌<◌, List, [], ◌∷◌, ◌++◌, Bool, true, false, Option, Some, None, length, length-append, refl, sym, ap, ◌∙◌, subst, arith}
 use Rattle.std.specs.Prelude.{ℤ, pos, negsuc, ◌^◌, not, if◌then◌else◌, sum_by}
@@ -25,12 +25,11 @@ use Rattle.frame_code.specs.declared.instr.Instr.TheVariants as instr
 use Rattle.frame_code.specs.declared.instr.Source.TheVariants as source
 use Rattle.frame_rules.specs.declared.part.Part.{Part}
 use Rattle.frame_rules.specs.declared.part.Part.TheVariants as part
-use Rattle.frame_rules.specs.Rows.{addrgp, argi}
+use Rattle.std.specs.List.{AllByRecursion}
+use Rattle.frame_rules.specs.Rows.{Line, addrgp, argi}
 use Rattle.frame_rules.specs.OperatorNumbers.{is_argi}
-use Rattle.frame_rules.specs.FrameRules.{code_by, part_by, constant_of, name_of, name_in}
-use Rattle.mips_rules.specs.MipsRules.{action_at, mips_rules}
-use Rattle.frame_rules.specs.AppliedRules.{Applied, Discards, TakesConstant, PassesConstant, PassesRegister, LoadsConstant, TakesName, CombinesRegisters, CombinesConstant, Negates, HandsOver, Calls, CallsLabel, Returns}
-use Rattle.mips_rules.specs.AppliedRules.{applied}
+use Rattle.frame_rules.specs.FrameRules.{action_of, code_by, part_by, constant_of, name_of, name_in, frame_rules}
+use Rattle.frame_rules.specs.AppliedRules.{Applied, Inverts, applied, Discards, TakesConstant, PassesConstant, PassesRegister, LoadsConstant, TakesName, CombinesRegisters, CombinesConstant, Negates, HandsOver, Calls, CallsLabel, Returns}
 
 -- an instruction as a rule adds it: its registers are virtual, a number is a word, and what it calls is named
 pub data IsAdded (named : ℕ → Type 0) : Instr → Type 0 where
@@ -191,11 +190,6 @@ handed_by to (Calls h a name offset e) = omega arith
 handed_by to (CallsLabel h a l e) = omega arith
 handed_by to (Returns h a r low e) = omega arith
 
--- how a rule is applied where its pattern meets these
-pub applied_at : (number : ℕ) (row : Row) (t : Node) (ps : List Part) (to : ℕ) (ms : List Meeting) (a : Applies mips_rules number row t ps to) → leaves_at row.pattern t ≡ Some ms → Applied (action_at number) row.left row.pattern t ps ms
-applied_at number row t ps to ms a fits =
-    subst (λ l. Applied (action_at number) row.left row.pattern t ps l) (same_Some a.meetings ms (sym a.fits ∙ fits)) (applied number row t ps to a)
-
 -- so many instructions are added, and argument words handed over
 pub record Takes (t : Node) (e : Emitted Instr Part) : Type 0 where
   pub count : length e.code + room e.part ≤ nodes t
@@ -205,55 +199,62 @@ pub record TakesAll (ms : List Meeting) (es : EmittedAll Instr Part) : Type 0 wh
   pub count : length es.code + rooms es.parts ≤ met ms
   pub hands : handed_over es.code ≤ met_by other_nodes ms
 
-chain_takes : (t : Node) (e : Emitted Instr Part) (number : ℕ) (row : Row) → Takes t e → is_chain row.pattern ≡ true → Applies mips_rules number row t (e.part ∷ []) e.to → Takes t (with_chain mips_rules number t e)
-chain_takes t e number row k chain a =
-    let by = applied number row t (e.part ∷ []) e.to a in
-    let code : List Instr = code_by (action_at number) (e.part ∷ []) e.to in
-    let c : length code + room (part_by (action_at number) t (e.part ∷ []) e.to) ≤ rooms (e.part ∷ []) + one_unless (is_chain row.pattern) = counted_by e.to by in
-    let o : one_unless (is_chain row.pattern) ≡ 0 = ap one_unless chain in
-    let l = length-append e.code code in
-    let f = k.count in
-    let w : handed_over code ≤ 0 = subst (λ b. handed_over code ≤ (if b then 0 else other_own (head_of t))) chain (handed_by e.to by) in
-    let x = handed_append e.code code in
-    let g = k.hands in
-    record { count = omega (arith, c, o, l, f); hands = omega (arith, w, x, g) }
+-- ---- a table whose lines' rules apply as their actions say
+module _ (lines : List Line) (invert : AllByRecursion (Inverts lines) lines) where
+  -- how a rule is applied where its pattern meets these
+  pub applied_at : (number : ℕ) (row : Row) (t : Node) (ps : List Part) (to : ℕ) (ms : List Meeting) (a : Applies (frame_rules lines) number row t ps to) → leaves_at row.pattern t ≡ Some ms → Applied (action_of lines number) row.left row.pattern t ps ms
+  applied_at number row t ps to ms a fits =
+      subst (λ l. Applied (action_of lines number) row.left row.pattern t ps l) (same_Some a.meetings ms (sym a.fits ∙ fits)) (applied lines invert number row t ps to a)
 
-rule_takes : (t : Node) (ms : List Meeting) (es : EmittedAll Instr Part) (number : ℕ) (row : Row) → TakesAll ms es → leaves_at row.pattern t ≡ Some ms → is_chain row.pattern ≡ false → Applies mips_rules number row t es.parts es.next → Takes t (with_rule mips_rules number t es)
-rule_takes t ms es number row k fits chain a =
-    let by = applied_at number row t es.parts es.next ms a fits in
-    let code : List Instr = code_by (action_at number) es.parts es.next in
-    let c : length code + room (part_by (action_at number) t es.parts es.next) ≤ rooms es.parts + one_unless (is_chain row.pattern) = counted_by es.next by in
-    let o : one_unless (is_chain row.pattern) ≡ 1 = ap one_unless chain in
-    let m : met ms + 1 ≤ nodes t = fewer_met row.pattern t ms chain fits in
-    let n : met_by other_nodes ms + other_own (head_of t) ≤ other_nodes t = fewer_met_by other_nodes other_own others_sum row.pattern t ms chain fits in
-    let l = length-append es.code code in
-    let f = k.count in
-    let w : handed_over code ≤ other_own (head_of t) = subst (λ b. handed_over code ≤ (if b then 0 else other_own (head_of t))) chain (handed_by es.next by) in
-    let x = handed_append es.code code in
-    let g = k.hands in
-    record { count = omega (arith, c, o, l, f, m); hands = omega (arith, w, x, g, n) }
+  chain_takes : (t : Node) (e : Emitted Instr Part) (number : ℕ) (row : Row) → Takes t e → is_chain row.pattern ≡ true → Applies (frame_rules lines) number row t (e.part ∷ []) e.to → Takes t (with_chain (frame_rules lines) number t e)
+  chain_takes t e number row k chain a =
+      let by = applied lines invert number row t (e.part ∷ []) e.to a in
+      let code : List Instr = code_by (action_of lines number) (e.part ∷ []) e.to in
+      let c : length code + room (part_by (action_of lines number) t (e.part ∷ []) e.to) ≤ rooms (e.part ∷ []) + one_unless (is_chain row.pattern) = counted_by e.to by in
+      let o : one_unless (is_chain row.pattern) ≡ 0 = ap one_unless chain in
+      let l = length-append e.code code in
+      let f = k.count in
+      let w : handed_over code ≤ 0 = subst (λ b. handed_over code ≤ (if b then 0 else other_own (head_of t))) chain (handed_by e.to by) in
+      let x = handed_append e.code code in
+      let g = k.hands in
+      record { count = omega (arith, c, o, l, f); hands = omega (arith, w, x, g) }
 
-more_takes : (ms : List Meeting) (meeting : Meeting) (es : EmittedAll Instr Part) (e : Emitted Instr Part) → TakesAll ms es → Takes meeting.1 e → TakesAll (ms ++ meeting ∷ []) (and_one es e)
-more_takes ms meeting es e k l =
-    let s : met (ms ++ meeting ∷ []) ≡ met ms + (nodes meeting.1 + 0) = met_append ms (meeting ∷ []) in
-    let o : met_by other_nodes (ms ++ meeting ∷ []) ≡ met_by other_nodes ms + (other_nodes meeting.1 + 0) = met_by_append other_nodes ms (meeting ∷ []) in
-    let r : rooms (es.parts ++ e.part ∷ []) ≡ rooms es.parts + (room e.part + 0) = rooms_append es.parts (e.part ∷ []) in
-    let x = k.count in
-    let y = l.count in
-    let z = length-append es.code e.code in
-    let u = handed_append es.code e.code in
-    let v = k.hands in
-    let w = l.hands in
-    record { count = omega (arith, s, r, x, y, z); hands = omega (arith, o, u, v, w) }
+  rule_takes : (t : Node) (ms : List Meeting) (es : EmittedAll Instr Part) (number : ℕ) (row : Row) → TakesAll ms es → leaves_at row.pattern t ≡ Some ms → is_chain row.pattern ≡ false → Applies (frame_rules lines) number row t es.parts es.next → Takes t (with_rule (frame_rules lines) number t es)
+  rule_takes t ms es number row k fits chain a =
+      let by = applied_at number row t es.parts es.next ms a fits in
+      let code : List Instr = code_by (action_of lines number) es.parts es.next in
+      let c : length code + room (part_by (action_of lines number) t es.parts es.next) ≤ rooms es.parts + one_unless (is_chain row.pattern) = counted_by es.next by in
+      let o : one_unless (is_chain row.pattern) ≡ 1 = ap one_unless chain in
+      let m : met ms + 1 ≤ nodes t = fewer_met row.pattern t ms chain fits in
+      let n : met_by other_nodes ms + other_own (head_of t) ≤ other_nodes t = fewer_met_by other_nodes other_own others_sum row.pattern t ms chain fits in
+      let l = length-append es.code code in
+      let f = k.count in
+      let w : handed_over code ≤ other_own (head_of t) = subst (λ b. handed_over code ≤ (if b then 0 else other_own (head_of t))) chain (handed_by es.next by) in
+      let x = handed_append es.code code in
+      let g = k.hands in
+      record { count = omega (arith, c, o, l, f, m); hands = omega (arith, w, x, g, n) }
 
-mutual
-  pub takes : {x : MDerivation} {t : Node} {n : ℕ} {e : Emitted Instr Part} → Emits mips_rules x t n e → Takes t e
-  takes (ByChain {number} {row} {x} {t} {n} {e} one chain a) = chain_takes t e number row (takes one) chain a
-  takes (ByRule {number} {row} {xs} {meetings} {t} {n} {es} all fits chain a) = rule_takes t meetings es number row (take_all all) fits chain a
+  more_takes : (ms : List Meeting) (meeting : Meeting) (es : EmittedAll Instr Part) (e : Emitted Instr Part) → TakesAll ms es → Takes meeting.1 e → TakesAll (ms ++ meeting ∷ []) (and_one es e)
+  more_takes ms meeting es e k l =
+      let s : met (ms ++ meeting ∷ []) ≡ met ms + (nodes meeting.1 + 0) = met_append ms (meeting ∷ []) in
+      let o : met_by other_nodes (ms ++ meeting ∷ []) ≡ met_by other_nodes ms + (other_nodes meeting.1 + 0) = met_by_append other_nodes ms (meeting ∷ []) in
+      let r : rooms (es.parts ++ e.part ∷ []) ≡ rooms es.parts + (room e.part + 0) = rooms_append es.parts (e.part ∷ []) in
+      let x = k.count in
+      let y = l.count in
+      let z = length-append es.code e.code in
+      let u = handed_append es.code e.code in
+      let v = k.hands in
+      let w = l.hands in
+      record { count = omega (arith, s, r, x, y, z); hands = omega (arith, o, u, v, w) }
 
-  pub take_all : {xs : List MDerivation} {ms : List Meeting} {n : ℕ} {es : EmittedAll Instr Part} → EmitsAll mips_rules xs ms n es → TakesAll ms es
-  take_all (Nothing {n}) = record { count = omega arith; hands = omega arith }
-  take_all (OneMore {xs} {meetings} {x} meeting {n} {es} {e} all one) = more_takes meetings meeting es e (take_all all) (takes one)
+  mutual
+    pub takes : {x : MDerivation} {t : Node} {n : ℕ} {e : Emitted Instr Part} → Emits (frame_rules lines) x t n e → Takes t e
+    takes (ByChain {number} {row} {x} {t} {n} {e} one chain a) = chain_takes t e number row (takes one) chain a
+    takes (ByRule {number} {row} {xs} {meetings} {t} {n} {es} all fits chain a) = rule_takes t meetings es number row (take_all all) fits chain a
+
+    pub take_all : {xs : List MDerivation} {ms : List Meeting} {n : ℕ} {es : EmittedAll Instr Part} → EmitsAll (frame_rules lines) xs ms n es → TakesAll ms es
+    take_all (Nothing {n}) = record { count = omega arith; hands = omega arith }
+    take_all (OneMore {xs} {meetings} {x} meeting {n} {es} {e} all one) = more_takes meetings meeting es e (take_all all) (takes one)
 
 -- the address at a node is that of a name
 abbrev pub NamesOne : (ℕ → Type 0) → Node → Type 0
@@ -306,21 +307,22 @@ module _ (named : ℕ → Type 0) where
   added_by to (CallsLabel h x l e) b w n = ((AddsCall to (name_in (part.Label l)) b w.0, tt), b)
   added_by to (Returns h x r low e) b w n = ((AddsReturn r w.0, tt), tt)
 
+module _ (lines : List Line) (invert : AllByRecursion (Inverts lines) lines) (named : ℕ → Type 0) where
   mutual
-    pub added : {x : MDerivation} {t : Node} {n : ℕ} {e : Emitted Instr Part} → Emits mips_rules x t n e → AtEachNode (NamesOne named) t → AreAdded named e.code × IsWithin e.part
+    pub added : {x : MDerivation} {t : Node} {n : ℕ} {e : Emitted Instr Part} → Emits (frame_rules lines) x t n e → AtEachNode (NamesOne named) t → AreAdded named e.code × IsWithin named e.part
     added (ByChain {number} {row} {x} {t} {n} {e} one chain a) k =
         let h = added one k in
-        let s = added_by e.to (applied number row t (e.part ∷ []) e.to a) a.to_virtual (h.1, tt) (at_root (NamesOne named) t k) in
-        (added_append named e.code (code_by (action_at number) (e.part ∷ []) e.to) h.0 s.0, s.1)
+        let s = added_by named e.to (applied lines invert number row t (e.part ∷ []) e.to a) a.to_virtual (h.1, tt) (at_root (NamesOne named) t k) in
+        (added_append named e.code (code_by (action_of lines number) (e.part ∷ []) e.to) h.0 s.0, s.1)
     added (ByRule {number} {row} {xs} {meetings} {t} {n} {es} all fits chain a) k =
-        let by = applied_at number row t es.parts es.next meetings a fits in
+        let by = applied_at lines invert number row t es.parts es.next meetings a fits in
         let h = added_all all (at_met (NamesOne named) by k) in
-        let s = added_by es.next by a.to_virtual h.1 (at_root (NamesOne named) t k) in
-        (added_append named es.code (code_by (action_at number) es.parts es.next) h.0 s.0, s.1)
+        let s = added_by named es.next by a.to_virtual h.1 (at_root (NamesOne named) t k) in
+        (added_append named es.code (code_by (action_of lines number) es.parts es.next) h.0 s.0, s.1)
 
-    pub added_all : {xs : List MDerivation} {ms : List Meeting} {n : ℕ} {es : EmittedAll Instr Part} → EmitsAll mips_rules xs ms n es → EachMet (NamesOne named) ms → AreAdded named es.code × AreWithin es.parts
+    pub added_all : {xs : List MDerivation} {ms : List Meeting} {n : ℕ} {es : EmittedAll Instr Part} → EmitsAll (frame_rules lines) xs ms n es → EachMet (NamesOne named) ms → AreAdded named es.code × AreWithin named es.parts
     added_all (Nothing {n}) k = (tt, tt)
     added_all (OneMore {xs} {meetings} {x} meeting {n} {es} {e} all one) k =
         let h = added_all all (each_front (NamesOne named) meetings meeting k) in
         let s = added one (each_last (NamesOne named) meetings meeting k) in
-        (added_append named es.code e.code h.0 s.0, within_more es.parts e.part h.1 s.1)
+        (added_append named es.code e.code h.0 s.0, within_more named es.parts e.part h.1 s.1)
