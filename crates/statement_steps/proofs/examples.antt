@@ -1,2 +1,3 @@
 mod ProgressExamples
 mod NumberingExamples
+mod PlaceExamples

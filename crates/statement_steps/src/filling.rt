@@ -13,7 +13,7 @@ ghost use Rattle.lowering_acts.specs.Sites.{context_of, type_in};
 ghost use Rattle.lowering_steps.specs.Asking.{Acts, Places};
 ghost use Rattle.lowering_steps.specs.Operands.{typed_of};
 ghost use Rattle.statement_steps.specs.Functions.{function_of};
-ghost use Rattle.statement_steps.specs.Places.{filled_otherwise, spot_at, text_of};
+ghost use Rattle.statement_steps.specs.Places.{CopiesString, FillsArray, filled_otherwise, spot_at, text_of};
 ghost use Rattle.statement_steps.specs.Progresses.{Goes};
 
 use crate::numbers::{number, sum};
@@ -67,7 +67,7 @@ fn fill_array(
     count: Option<u32>,
     into: &mut State,
 ) -> Result<(), Memory>
-    ensures { let p = place_seen (type_in f.now.site) (filled_of place.now) in OnOk result ((of : CType) → p.of ≡ Array of count → Goes (λ l. initialisers.text_filled (function_of f.now) (typed_of base) p.offset p.of (what_of p.value) l) into.old into.new) }
+    ensures { OnOk result (FillsArray f.now place.now count (typed_of base) into.old into.new) }
 {
     let Some(room) = count else {
         return Ok(());
@@ -97,7 +97,7 @@ fn fill_text(
     n: u32,
     into: &mut State,
 ) -> Result<(), Memory>
-    ensures { let u = (context_of site.now).unit in OnOk result (Goes (λ l. initialisers.text_copied (typed_of base) (name (contexts.text_name u n) (pos 0)) offset (min room (length (get_or u.texts n []) + 1)) room l) into.old into.new) }
+    ensures { let u = unit_of site.now.program in OnOk result (CopiesString u n offset room (typed_of base) into.old into.new) }
 {
     let name = text_name(&site.program, n)?;
     let bytes = text_bytes(site, n, room);

@@ -6,7 +6,7 @@ ghost use Rattle.lowered_statements.specs.Rows.{chosen_by};
 ghost use Rattle.lowered_statements.specs.Searches as searches;
 ghost use Rattle.statement_steps.specs.Functions.{function_of};
 ghost use Rattle.statement_steps.specs.Progresses.{Does};
-ghost use Rattle.statement_steps.specs.Sides.{choice_of, side_of};
+ghost use Rattle.statement_steps.specs.Sides.{SearchesHalves, TestsNumber, TestsTable, choice_of, side_of};
 ghost use Rattle.switch_tables.specs.Searches.{search_over};
 
 use crate::cases::tables_in;
@@ -65,7 +65,7 @@ fn at_table(
     halves: Halves,
     into: &mut Progress,
 ) -> Result<(), Memory>
-    ensures { let g = function_of f.now in let x = choice_of choice in OnOk result (Does (λ b. searches.at_table halves.entry.table.now.labels g x halves.entry.table.now (side_of g x halves.entry.less.now) (side_of g x halves.entry.greater.now) b) into.old into.new) }
+    ensures { OnOk result (SearchesHalves f.now choice halves.entry into.old into.new) }
 {
     let labels = halves.table.labels.as_slice();
     let count = labels.len();
@@ -85,7 +85,7 @@ fn one_number(
     label: u32,
     into: &mut Progress,
 ) -> Result<(), Memory>
-    ensures { let g = function_of f.now in let x = choice_of choice in OnOk result (Does (λ b. searches.one_number x halves.entry.table.now.low label (side_of g x halves.entry.less.now) (side_of g x halves.entry.greater.now) b) into.old into.new) }
+    ensures { OnOk result (TestsNumber f.now choice halves.entry label into.old into.new) }
 {
     let below = way(halves.less, choice.default, &mut into.state)?;
     let alone = is_alone(halves.less, halves.greater);
@@ -109,7 +109,7 @@ fn one_table(
     halves: Halves,
     into: &mut Progress,
 ) -> Result<(), Memory>
-    ensures { let g = function_of f.now in let x = choice_of choice in OnOk result (Does (λ b. searches.one_table g x halves.entry.table.now (side_of g x halves.entry.less.now) (side_of g x halves.entry.greater.now) b) into.old into.new) }
+    ensures { OnOk result (TestsTable f.now choice halves.entry into.old into.new) }
 {
     let below = way(halves.less, choice.default, &mut into.state)?;
     let above = way(halves.greater, choice.default, &mut into.state)?;

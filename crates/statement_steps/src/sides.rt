@@ -1,8 +1,7 @@
 //! The tables on one side of another one.
 ghost use Rattle.std.specs.Prelude.{◌≡◌, IfOk};
-ghost use Rattle.lowered_forms.specs.Lows.{Low};
 ghost use Rattle.lowered_statements.specs.Searches as searches;
-ghost use Rattle.lowering_steps.specs.States.{Shows};
+ghost use Rattle.statement_steps.specs.Sides.{TakesWay};
 ghost use Rattle.switch_tables.specs.Searches.{search_over};
 
 use lcc_base::Memory;
@@ -12,7 +11,7 @@ use switch_tables::Table;
 /// The label to which a number goes on one side: a new one, or the default's where there is no table. `Memory` comes where no label is
 /// left.
 pub(crate) fn way(tables: &[Table], default: u32, into: &mut State) -> Result<u32, Memory>
-    ensures { IfOk result (λ n. (l : Low) → Shows into.old l → (n ≡ searches.way (search_over tables.now) default l.labels) × Shows into.new (searches.with_way (search_over tables.now) l)) }
+    ensures { IfOk result (λ n. TakesWay tables.now default n into.old into.new) }
 {
     if tables.is_empty() {
         Ok(default)

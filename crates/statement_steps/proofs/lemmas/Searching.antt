@@ -21,7 +21,7 @@ use Rattle.switch_tables.specs.declared.table.Table.{Table}
 use Rattle.switch_tables.specs.Searches.{Search, Nowhere, At, last_in, search_over}
 use Rattle.statement_steps.specs.declared.progress.Progress.{Progress}
 use Rattle.statement_steps.specs.Progresses.{Goes, Does}
-use Rattle.statement_steps.specs.Sides.{side_of}
+use Rattle.statement_steps.specs.Sides.{TakesWay, side_of}
 use Rattle.statement_steps.proofs.lemmas.Going.{body_as, does_then, goes_by, goes_does, goes_ok, goes_then, with_state, state_shows}
 
 -- ---- tests, and a jump by a table
@@ -63,9 +63,6 @@ goes_through f x t p es q name labels k = record {
 }
 
 -- ---- sides
-
-abbrev pub TakesWay : List Table → ℕ → ℕ → State → State → Type 0
-TakesWay tables default n s t = (l : Low) → Shows s l → (n ≡ way (search_over tables) default l.labels) × Shows t (with_way (search_over tables) l)
 
 -- a side has a label of its own where it has a table
 side_way_by : (s : Search) (code : Body → Body) (default n : ℕ) (b : Body) → side_by s code (way s default n) b ≡ side_by s code n b

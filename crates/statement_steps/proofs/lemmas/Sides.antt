@@ -6,7 +6,7 @@ use Rattle.lowered_forms.specs.Lows.{Low, with_label}
 use Rattle.lowering_steps.specs.declared.state.State.{State}
 use Rattle.lowering_steps.specs.States.{Shows}
 use Rattle.switch_tables.specs.declared.table.Table.{Table}
-use Rattle.statement_steps.proofs.lemmas.Searching.{TakesWay}
+use Rattle.statement_steps.specs.Sides.{TakesWay}
 
 pub is_none : {A : Type 0} (xs : List A) → (length xs == 0) ≡ true → xs ≡ []
 is_none [] e = refl
