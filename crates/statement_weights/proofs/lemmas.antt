@@ -1,0 +1,5 @@
+pub mod Stores
+pub mod Filling
+pub mod Searching
+pub mod Looping
+pub mod Statements
